@@ -1,30 +1,30 @@
 -- What is held stays as it is by each step that leaves it alone.
 use Rattle.std.proofs.Common.{◌≡◌, ◌≢◌, inl, inr, ℕ, zero, ◌<◌, ◌≤◌, ◌++◌, ◌&&◌, bytes_eq, get_or, not, suc, ◌+◌, true, false, List, [], ◌∷◌, Option, None, Some, refl, sym, ap, subst, ◌∙◌, arith}
-use Rattle.std.specs.Prelude.{find, is_some, option_and_then, option_map, slice_get}
+use Rattle.std.specs.Prelude.{find, is_some, option_map, slice_get}
 use Rattle.std.specs.List.{All}
 use Rattle.std.specs.Option.{IfSome, option_map_or}
-use Rattle.std.proofs.lemmas.Bool.{and_parts, both_ways, false_from_ne_true, ne_eqb, not-true}
+use Rattle.std.proofs.lemmas.Bool.{and_parts, both_ways, false_from_ne_true, ne_eqb}
 use Rattle.std.proofs.lemmas.List.Elements.{All-append, All-cons, All-head, All-nil}
 use Rattle.std.proofs.lemmas.Slice.Eq.{bytes_eq-Decides}
 use Rattle.nf_base.specs.declared.rows.NodeRow.{NodeRow}
 use Rattle.nf_base.specs.declared.rows.Place.TheVariants.{Inside, Root, Trash}
 use Rattle.nf_defs.proofs.Climbs.{climb_under}
 use Rattle.nf_defs.proofs.Walks.{inside_of}
-use Rattle.nf_defs.specs.Prelude.{child_of, filled, folder_of, is_folder_kind, is_in, is_root_place, is_under, node_row, relinked, Tables, with_node}
+use Rattle.nf_defs.specs.Prelude.{child_of, filled, is_folder_kind, is_in, is_under, node_row, relinked, Tables, with_node}
 use Rattle.nf_defs.specs.Tree.{trashed}
-use Rattle.nf_laws.proofs.Climbs.{climb_passes, climb_same}
 use Rattle.nf_laws.proofs.Crossed.{crossed_under}
 use Rattle.nf_laws.proofs.Copied.{copied_sound, copy_at}
-use Rattle.nf_laws.proofs.Gone.{all_cleared, cleared_leads, folder_left, is_left, left_leads, row_cleared}
+use Rattle.nf_laws.proofs.Gone.{all_cleared, cleared_leads, left_leads, row_cleared}
 use Rattle.nf_laws.proofs.Lists.{nodes_have, with_filled}
 use Rattle.nf_laws.proofs.Mirrored.{mirrored}
-use Rattle.nf_laws.proofs.Moved.{transferred_leads}
+use Rattle.nf_laws.proofs.Moved.{outside_leads, transferred_leads}
 use Rattle.nf_laws.proofs.OneRow.{KeepsId, row_other, with_all}
 use Rattle.nf_laws.proofs.Others.{stamp_sound}
 use Rattle.nf_laws.proofs.Present.{kept_leads}
 use Rattle.nf_laws.proofs.Purged.{item_outside, trash_keeps}
 use Rattle.nf_laws.proofs.Replaced.{kept_replaced}
 use Rattle.nf_laws.proofs.Rows.{each_fails, finds_none, folder_there, kept_joined, no_value, row_is, row_joined, stamp, stamped_has}
+use Rattle.nf_laws.proofs.Upwards.{never_climbs}
 use Rattle.nf_laws.specs.Locks.{IsFree, KeyStays}
 use Rattle.nf_laws.specs.Transfers.{is_replaced, IsPlacedCopy, Mirrors}
 use Rattle.nf_words.proofs.Fits.{KnownFilled}
@@ -241,33 +241,11 @@ module _ (t : Tables) (hold : Hold) (sound : AreSound t) (held : IsHeld t hold.k
   Stands u = Stays u.nodes × LeadsToRoot u.nodes node
 
   -- where the row of a node is changed that it isn't under
-  changed_leads : (top : ℕ) (change : NodeRow → NodeRow) → KeepsId change → SparesUnder t key top → LeadsToRoot t.nodes node
-      → LeadsToRoot (with_node t.nodes top change) node
-  changed_leads top change keeps spares up = record {
-    steps = up.steps;
-    top = up.top;
-    climbs =
-        climb_same t.nodes (with_node t.nodes top change) (λ k other. is_left t.nodes top other ≡ true)
-        (λ k other parent left above. folder_left t top sound other parent above left)
-        (λ k other left. ap (option_and_then (λ row. folder_of row.place)) (beside other left)) up.steps node (ap not spares)
-        ∙ up.climbs;
-    root =
-        ap (λ (o : Option NodeRow). option_map_or (λ row. is_root_place row.place) o false)
-        (beside up.top (climb_passes (is_left t.nodes top) t.nodes (folder_left t top sound) up.steps node up.top up.climbs (ap not spares)))
-        ∙ up.root;
-  }
-    where
-      beside : (other : ℕ) → is_left t.nodes top other ≡ true → node_row (with_node t.nodes top change) other ≡ node_row t.nodes other
-      beside other left =
-          row_other t.nodes top change keeps other (ne_eqb other top (λ same.
-          both_ways (is_under t.nodes other top) (not-true (is_under t.nodes other top) left)
-          (subst (λ (n : ℕ). is_under t.nodes other n ≡ true) same (climb_under 0 t.nodes other other (omega arith) refl))))
-
   changed_stands : (top : ℕ) (change : NodeRow → NodeRow) → KeepsId change → ((old : NodeRow) → Spared key old → Spared key (change old))
       → SparesUnder t key top → LeadsToRoot t.nodes node → Stands (record t { nodes = with_node t.nodes top change })
   changed_stands top change keeps spared spares up = (
     (row_other t.nodes top change keeps node (ne_eqb node top (not_moved top spares)), with_all (Spared key) t.nodes top change spared first.1),
-    changed_leads top change keeps spares up,
+    outside_leads t.nodes top change keeps node (never_climbs t node top sound spares) up,
   )
 
   -- nothing is put in the trash over it, and nothing comes back under a name that is held

@@ -148,7 +148,7 @@ member_found row members =
     (λ x same. row_key x row.group row.user same)
 
 -- what is found among some is found among those that keep all that pass
-pub find_kept : {X : Type 0} (test keep : X → Bool) (xs : List X) → ((x : X) → test x ≡ true → keep x ≡ true) → find test (filter keep xs) ≡ find test xs
+find_kept : {X : Type 0} (test keep : X → Bool) (xs : List X) → ((x : X) → test x ≡ true → keep x ≡ true) → find test (filter keep xs) ≡ find test xs
 find_kept test keep [] kept = refl
 find_kept {X = X} test keep (x ∷ xs) kept =
     elim (cases_Bool (keep x)) [

@@ -1,21 +1,19 @@
 -- What the deeds of the trash and all that goes for good, one after the other, keep.
-use Rattle.std.proofs.Common.{inl, inr, ◌≢◌, ◌⊎◌, ℕ, suc, ◌==◌, ◌≡◌, ◌≤◌, Bool, true, false, not, bytes_eq, List, [], ◌∷◌, get_or, Option, Some, refl, sym, ap, subst, ◌∙◌, arith}
+use Rattle.std.proofs.Common.{inl, inr, ◌≢◌, ◌⊎◌, ℕ, suc, ◌≡◌, ◌≤◌, false, List, [], ◌∷◌, get_or, Some, sym, ap, subst, ◌∙◌, arith}
 use Rattle.std.specs.Prelude.{is_some, slice_get}
 use Rattle.std.specs.List.{All, AllPairs}
 use Rattle.std.specs.Option.{IfSome}
-use Rattle.std.proofs.lemmas.Bool.{eqb-true, false_from_ne_true, ne_eqb, not_from_false}
-use Rattle.std.proofs.lemmas.List.Elements.{All-cons, All-head, All-nil, All-tail}
-use Rattle.std.proofs.lemmas.Slice.Eq.{bytes_eq-Decides}
+use Rattle.std.proofs.lemmas.Bool.{false_from_ne_true}
+use Rattle.std.proofs.lemmas.List.Elements.{All-cons, All-head, All-tail}
 use Rattle.nf_base.specs.declared.rows.ItemRow.{ItemRow}
 use Rattle.nf_defs.proofs.Climbs.{under_climb}
-use Rattle.nf_defs.specs.Prelude.{dropped, is_under, item_key, item_row, put, Tables}
-use Rattle.nf_laws.proofs.Leaning.{find_kept}
-use Rattle.nf_laws.proofs.Others.{stamp_sound}
+use Rattle.nf_defs.specs.Prelude.{is_under, Tables}
+use Rattle.nf_laws.proofs.Others.{item_other, stamp_sound}
 use Rattle.nf_laws.proofs.Present.{never_trash}
+use Rattle.nf_laws.proofs.Puts.{other_number}
 use Rattle.nf_laws.proofs.Rows.{stamp}
 use Rattle.nf_laws.proofs.Trashed.{deed_sound, item_top, purged_sound, purged_stamped}
-use Rattle.nf_words.proofs.Found.{put_leaves}
-use Rattle.nf_words.proofs.Known.{IsItem, KnownDeed, KnownGone, KnownTrash, node_of_deed}
+use Rattle.nf_words.proofs.Known.{IsItem, KnownGone, KnownTrash, node_of_deed}
 use Rattle.nf_words.specs.Prelude.{AreSound, deed_done, LeadsToRoot, purged, purged_all}
 use Rattle.nf_words.specs.declared.answer.Deed.{Deed}
 use Rattle.nf_words.specs.declared.answer.Deed.TheVariants as deed
@@ -27,37 +25,18 @@ purged_keeps P keeps u (node ∷ nodes) h = purged_keeps P keeps (purged u node)
 
 -- ---- items that are left
 
--- another node's item is left where one is dropped
-pub item_left : (items : List ItemRow) (node other : ℕ) → node ≢ other → item_row (dropped item_key (node ∷ []) items) other ≡ item_row items other
-item_left items node other differ =
-    find_kept (λ (row : ItemRow). row.node == other) (λ row. not (bytes_eq (node ∷ []) (item_key row))) items (λ row is.
-    not_from_false (bytes_eq (node ∷ []) (item_key row)) (false_from_ne_true (bytes_eq (node ∷ []) (item_key row)) (λ same.
-    differ (first ((bytes_eq-Decides (node ∷ []) (item_key row)).0 same) ∙ eqb-true row.node other is))))
-  where
-    first : {a b : ℕ} → a ∷ [] ≡ b ∷ [] → a ≡ b
-    first same = cc
-
--- and where one is put
-pub item_beside : (item : ItemRow) (items : List ItemRow) (other : ℕ) → item.node ≢ other → item_row (put item_key item items) other ≡ item_row items other
-item_beside item items other differ =
-    put_leaves item_key (λ (row : ItemRow). row.node == other) item items (ne_eqb item.node other differ)
-    (λ row same. ne_eqb row.node other (λ is. differ (first same ∙ is)))
-  where
-    first : {a b : ℕ} → a ∷ [] ≡ b ∷ [] → a ≡ b
-    first same = cc
-
 -- an item stays one in the tables with the deed done, where it isn't what the deed is about
 pub deed_item : (t : Tables) (did : Deed) (node : ℕ) → node_of_deed did ≢ Some node → IsItem t node → IsItem (deed_done t did) node
 deed_item t deed.Nothing node other is = is
-deed_item t (deed.Discard item) node other is = ap is_some (item_beside item t.items node (λ same. other (ap Some same))) ∙ is
-deed_item t (deed.Restore top folder name) node other is = ap is_some (item_left t.items top node (λ same. other (ap Some same))) ∙ is
+deed_item t (deed.Discard item) node other is = ap is_some (other_number (λ (row : ItemRow). row.node) item t.items node (λ same. other (ap Some (sym same)))) ∙ is
+deed_item t (deed.Restore top folder name) node other is = ap is_some (item_other top node t.items (λ same. other (ap Some (sym same)))) ∙ is
 deed_item t (deed.Requote row) node other is = is
 
 -- and where it isn't what goes
 pub purged_items : (u : Tables) (node : ℕ) (nodes : List ℕ) → AllPairs (λ (a b : ℕ). a ≢ b) (node ∷ nodes) → All (IsItem u) nodes
     → All (IsItem (purged u node)) nodes
 purged_items u node nodes once items k d within =
-    ap is_some (item_left u.items node (get_or nodes k d) (once 0 (suc k) d (omega arith) (omega (arith, within)))) ∙ items k d within
+    ap is_some (item_other node (get_or nodes k d) u.items (λ same. once 0 (suc k) d (omega arith) (omega (arith, within)) (sym same))) ∙ items k d within
 
 -- what is present isn't under one
 pub item_outside : (u : Tables) (item node : ℕ) → AreSound u → IsItem u item → LeadsToRoot u.nodes node → is_under u.nodes node item ≡ false
