@@ -18,12 +18,13 @@ use Rattle.nf_laws.proofs.Entries.{step_changed}
 use Rattle.nf_laws.proofs.Puts.{put_changed, put_new}
 use Rattle.nf_laws.proofs.Reading.{none_refused}
 use Rattle.nf_laws.proofs.Sizes.{weight}
-use Rattle.nf_laws.proofs.Trashing.{trash_after}
+use Rattle.nf_laws.proofs.Trashing.{IsOther, trash_after}
 use Rattle.nf_laws.proofs.Weighing.{row_owned}
 use Rattle.nf_laws.specs.Charges.{bytes_at, bytes_owned, bytes_trashed, IsCharged, owned_bytes, WritesAreCharged}
 use Rattle.nf_words.proofs.Bodies.{content_decides}
 use Rattle.nf_words.proofs.Ends.{goal_held}
 use Rattle.nf_words.proofs.Fits.{newest}
+use Rattle.nf_words.proofs.Passing.{not_refused}
 use Rattle.nf_words.specs.Prelude.{access_of, after, after_mark, altered, answer_at, answered_by, AreSound, blob_for, changed, content_in, decision_of, end_refusal, ends_at, IsHeld, IsStorable, new_node, node_of_key, refilled, stored_at, stores}
 use Rattle.nf_words.specs.declared.answer.Allowed.{Allowed}
 use Rattle.nf_words.specs.declared.answer.Allowed.TheVariants as allowed
@@ -100,6 +101,11 @@ stored_comes t now (Slot folder name) digest size sound held =
     let blob = blob_for t.meta.next_blob size in
     born_comes t now folder size name (content_in blob digest size) blob sound (body_weighs t.meta.next_blob size digest)
 
+-- it is no act of the trash
+pub stores_other : (t : Tables) (now : ℕ) (key : LockKey) (digest : List ℕ) (size : ℕ) → IsOther (stored_at t now key digest size)
+stores_other t now (Node node) digest size = tt
+stores_other t now (Slot folder name) digest size = tt
+
 -- ---- the law
 
 -- the nodes are others whether or not the moment is stamped
@@ -137,7 +143,7 @@ comes_charged t made owner old new trash comes = record {
 
 pub writes_charged : WritesAreCharged
 writes_charged n s e by key digest size sound may goal event ok =
-    comes_charged t (after s e).tables owner old size (λ user. trash_after n s e user sound may) (here e.mark ok)
+    comes_charged t (after s e).tables owner old size (λ user. trash_after n s e user sound may no_trash) (here e.mark ok)
   where
     t : Tables
     t = s.tables
@@ -155,6 +161,11 @@ writes_charged n s e by key digest size sound may goal event ok =
     goes =
         ap (decision_of s e.seat e.moment) event
         ∙ ap (ends_at (access_of s) t e.moment (Body digest size)) goal
+
+    no_trash : (act : Allowed) → decision_of s e.seat e.moment e.event ≡ Ok act → IsOther act
+    no_trash act is =
+        subst IsOther (not_refused (end_refusal (access_of s) t e.moment by key size) (stored_at t e.moment key digest size) act (sym goes ∙ is)).1
+        (stores_other t e.moment key digest size)
 
     here : (m : Mark) → IsOk (answer_at s e m) → Comes t owner old size (after_mark s e m).tables
     here mark.Answered ok =
