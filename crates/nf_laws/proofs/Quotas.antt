@@ -1,9 +1,9 @@
 -- No act takes a charge beyond its quota.
-use Rattle.std.proofs.Common.{ℕ, ◌+◌, ◌-◌, ◌==◌, ◌&&◌, ◌≡◌, ◌≤◌, ◌⊎◌, Bool, true, false, List, [], ◌∷◌, ◌++◌, Option, None, Some, Result, Ok, if◌then◌else◌, inl, inr, refl, ap, subst, ◌∙◌, arith, le_refl}
+use Rattle.std.proofs.Common.{ℕ, ◌+◌, ◌==◌, ◌&&◌, ◌≡◌, ◌≤◌, ◌⊎◌, Bool, true, false, List, [], ◌∷◌, ◌++◌, Option, None, Some, Result, Ok, if◌then◌else◌, inl, inr, refl, ap, subst, ◌∙◌, arith, le_refl}
 use Rattle.std.specs.Prelude.{sum_by}
 use Rattle.std.specs.Option.{IfSome, option_map_or}
-use Rattle.std.proofs.lemmas.Bool.{and_cases, cond_both, eqb-true, ltb-false}
-use Rattle.std.proofs.lemmas.List.Sums.{sum_by-append, sum_by-cons, sum_by_push}
+use Rattle.std.proofs.lemmas.Bool.{cond_both, eqb-true}
+use Rattle.std.proofs.lemmas.List.Sums.{sum_by-append, sum_by_push}
 use Rattle.nf_base.specs.Content.{content_eq}
 use Rattle.nf_base.specs.declared.changes.Change.{Change}
 use Rattle.nf_base.specs.declared.changes.Change.TheVariants.{Put}
@@ -11,7 +11,7 @@ use Rattle.nf_base.specs.declared.content.Piece.{Piece}
 use Rattle.nf_base.specs.declared.rows.MetaRow.{MetaRow}
 use Rattle.nf_base.specs.declared.rows.NodeRow.{NodeRow}
 use Rattle.nf_base.specs.declared.rows.Row.TheVariants as rows
-use Rattle.nf_defs.specs.Prelude.{Access, filled, node_row, owner_of, relinked, Tables, with_node}
+use Rattle.nf_defs.specs.Prelude.{Access, filled, node_row, owner_of, relinked, Tables}
 use Rattle.nf_laws.proofs.Affording.{Affords, call_affords}
 use Rattle.nf_laws.proofs.Charging.{alike, charge_beside}
 use Rattle.nf_laws.proofs.Entries.{entry_has}
@@ -19,7 +19,7 @@ use Rattle.nf_laws.proofs.Lists.{nodes_have}
 use Rattle.nf_laws.proofs.Recharged.{fits, KeepsCharge, sums_with, trash_keeps}
 use Rattle.nf_laws.proofs.Rows.{stamp, stamped_has}
 use Rattle.nf_laws.proofs.Stays.{sound_after}
-use Rattle.nf_laws.proofs.Stored.{Comes, stored_comes, stores_other}
+use Rattle.nf_laws.proofs.Stored.{Comes, end_other, stored_comes}
 use Rattle.nf_laws.proofs.Trashing.{act_kept, all_kept, IsOther, KeepsTrash, trash_same}
 use Rattle.nf_laws.proofs.Weighing.{cleared_fewer, cleared_owned, copies_owned, row_owned, without_fewer}
 use Rattle.nf_laws.specs.Charges.{bytes_at, bytes_owned, bytes_trashed, owned_bytes, QuotasAreKept}
@@ -33,7 +33,6 @@ use Rattle.nf_words.specs.Prelude.{access_of, after, altered, AreSound, blob_for
 use Rattle.nf_words.specs.declared.answer.Allowed.{Allowed}
 use Rattle.nf_words.specs.declared.answer.Allowed.TheVariants as allowed
 use Rattle.nf_words.specs.declared.answer.Denial.{Denial}
-use Rattle.nf_words.specs.declared.answer.Excess.{Excess}
 use Rattle.nf_words.specs.declared.answer.Goal.{Goal}
 use Rattle.nf_words.specs.declared.answer.Goal.TheVariants.{Serve, Store}
 use Rattle.nf_words.specs.declared.answer.LockKey.{LockKey}
@@ -127,23 +126,6 @@ end_keeps : (access : Access) (t : Tables) (now user : ℕ) (outcome : Outcome) 
     → IfSome goal (IsStorable t) → ends_at access t now outcome goal ≡ Ok act → Keeps t user (altered t now act)
 end_keeps access t now user outcome None act sound held is = closed_keeps t now user act is
 end_keeps access t now user outcome (Some goal) act sound held is = goal_keeps access t now user outcome goal act sound held is
-
--- ---- what an End does is no act of the trash
-
-closed_other : (act : Allowed) → ◌≡◌ {A = Result Allowed Denial} (Ok allowed.Close) (Ok act) → IsOther act
-closed_other act is = let same : allowed.Close ≡ act = cc in subst IsOther same tt
-
-goal_other : (access : Access) (t : Tables) (now : ℕ) (outcome : Outcome) (goal : Goal) (act : Allowed) → ends_goal access t now outcome goal ≡ Ok act
-    → IsOther act
-goal_other access t now (Body digest size) (Serve content) act is = closed_other act is
-goal_other access t now (Body digest size) (Store by key wanted) act is =
-    subst IsOther (not_refused (end_refusal access t now by key size) (stored_at t now key digest size) act is).1 (stores_other t now key digest size)
-goal_other access t now outcome goal act is = closed_other act is
-
-end_other : (access : Access) (t : Tables) (now : ℕ) (outcome : Outcome) (goal : Option Goal) (act : Allowed) → ends_at access t now outcome goal ≡ Ok act
-    → IsOther act
-end_other access t now outcome None act is = closed_other act is
-end_other access t now outcome (Some goal) act is = goal_other access t now outcome goal act is
 
 -- ---- rows without bytes
 

@@ -13,10 +13,10 @@ use Rattle.nf_base.specs.declared.rows.NodeRow.{NodeRow}
 use Rattle.nf_base.specs.declared.rows.UserRow.{UserRow}
 use Rattle.nf_defs.proofs.Climbs.{climb_under, under_climb}
 use Rattle.nf_defs.proofs.Puts.{all_put}
-use Rattle.nf_defs.specs.Prelude.{climb, folder_of, is_present, is_under, item_row, node_row, parent_of, put, relinked, Tables, user_key, user_row, with_node, without_under}
+use Rattle.nf_defs.specs.Prelude.{climb, folder_of, is_present, is_under, node_row, parent_of, put, relinked, Tables, user_key, with_node, without_under}
 use Rattle.nf_defs.specs.Tree.{trashed}
 use Rattle.nf_laws.proofs.Affording.{AffordsDeed}
-use Rattle.nf_laws.proofs.Charging.{alike, sums_below, sums_join}
+use Rattle.nf_laws.proofs.Charging.{sums_below, sums_join}
 use Rattle.nf_laws.proofs.OneRow.{row_itself, row_other}
 use Rattle.nf_laws.proofs.Others.{those_were}
 use Rattle.nf_laws.proofs.Rows.{found_is}
@@ -24,7 +24,6 @@ use Rattle.nf_laws.proofs.Sizes.{weight}
 use Rattle.nf_laws.proofs.Upwards.{climbs_is_under}
 use Rattle.nf_laws.proofs.Weighing.{parts_sum, without_owned}
 use Rattle.nf_laws.specs.Charges.{owned_bytes}
-use Rattle.nf_words.proofs.Found.{found_passes}
 use Rattle.nf_words.proofs.Known.{KnownDeed, KnownRestore}
 use Rattle.nf_words.specs.Listing.{size_of}
 use Rattle.nf_words.specs.Others.{IsItemSound}
