@@ -1,11 +1,11 @@
 -- What the acts of the trash make of charges: what comes back is charged anew, and nothing else is.
 use Rattle.std.proofs.Common.{ℕ, zero, suc, ◌+◌, ◌-◌, ◌==◌, ◌&&◌, ◌≡◌, ◌≤◌, ◌⊎◌, Bool, true, false, not, List, [], ◌∷◌, Option, None, Some, option_map, if◌then◌else◌, inl, inr, refl, sym, ap, subst, ◌∙◌, arith}
 use Rattle.std.specs.Prelude.{sum_by}
-use Rattle.std.specs.List.{All, Contains, list_any}
+use Rattle.std.specs.List.{All, list_any}
 use Rattle.std.specs.Option.{option_and_then}
 use Rattle.std.proofs.lemmas.Bool.{and_cases, cases_Bool, cond_both, eqb-true, false≢true, ltb-false}
 use Rattle.std.proofs.lemmas.List.Elements.{All-contains}
-use Rattle.std.proofs.lemmas.List.Folds.{Any-from_list_any, list_any_at}
+use Rattle.std.proofs.lemmas.List.Folds.{Any-from_list_any, list_any-from_Any, list_any_at}
 use Rattle.std.proofs.lemmas.List.Sums.{sum_by-cons}
 use Rattle.std.proofs.lemmas.Option.{none-some, option_and_then_some}
 use Rattle.nf_base.specs.declared.rows.ItemRow.{ItemRow}
@@ -34,11 +34,7 @@ use Rattle.nf_words.specs.declared.answer.Excess.{Excess}
 
 -- ---- what is present
 
--- one that passes, among some
-any_has : {X : Type 0} (passes : X → Bool) (xs : List X) (x : X) → Contains xs x → passes x ≡ true → list_any passes xs ≡ true
-any_has passes xs x has is = list_any_at passes xs has.0 x has.1 (ap passes has.2 ∙ is)
-
--- a folder that a node is in in the other rows it is in in the first, but for some nodes, and all that is under those is among them
+-- a folder that a node is in by the other rows it is in by the first, but for some nodes, and all that is under those is among them
 record Follows (rows others : List NodeRow) (more : ℕ → Bool) : Type 0 where
   pub each : (node parent : ℕ) → parent_of others node ≡ Some parent → (parent_of rows node ≡ Some parent) ⊎ (more node ≡ true)
   pub down : (node parent : ℕ) → parent_of rows node ≡ Some parent → more parent ≡ true → more node ≡ true
@@ -66,7 +62,8 @@ present_back users rows others more follows node is =
     let up = under_climb others node any.1.root any.4 in
     elim (climbs_back rows others more follows up.0 node any.1.root up.2) [
       | inl climbs ↦
-          inl (any_has (λ user. is_under rows node user.root) users any.1 (any.0, any.2, any.3) (climb_under up.0 rows node any.1.root up.1 climbs))
+          inl (list_any-from_Any (λ user. is_under rows node user.root) users
+          (any.0, any.1, any.2, any.3, climb_under up.0 rows node any.1.root up.1 climbs))
       | inr of ↦ inr of
     ]
 
@@ -116,10 +113,10 @@ purged_charge t node user =
     omega (
       arith,
       sums_below (counted_for (purged t node) user) (counted_for t user) left (λ row.
-      omega (
-        arith,
-        counted_more t (purged t node) user row false (present_back t.users t.nodes left (λ node. false) (left_follows t.nodes node) row.id),
-      )),
+          omega (
+            arith,
+            counted_more t (purged t node) user row false (present_back t.users t.nodes left (λ node. false) (left_follows t.nodes node) row.id),
+          )),
       parts_sum (counted_for t user) (λ row. is_under t.nodes row.id node) t.nodes,
     )
   where
@@ -162,10 +159,10 @@ discarded_charge t item user =
       arith,
       sums_with (counted_for made user) t.nodes item.node trashed (λ row. refl),
       sums_below (counted_for made user) (counted_for t user) t.nodes (λ row.
-      omega (
-        arith,
-        counted_more t made user row false (present_back t.users t.nodes made.nodes (λ node. false) (discarded_follows t.nodes item.node) row.id),
-      )),
+          omega (
+            arith,
+            counted_more t made user row false (present_back t.users t.nodes made.nodes (λ node. false) (discarded_follows t.nodes item.node) row.id),
+          )),
     )
   where
     made : Tables
@@ -196,8 +193,8 @@ restored_charge t node folder user name of sound there =
       arith,
       sums_with (counted_for made user) t.nodes node (relinked folder name) (λ row. refl),
       sums_below (counted_for made user) (λ row. counted_for t user row + back row) t.nodes (λ row.
-      counted_more t made user row (is_under t.nodes row.id node)
-      (present_back t.users t.nodes made.nodes (λ other. is_under t.nodes other node) (restored_follows t node folder name sound) row.id)),
+          counted_more t made user row (is_under t.nodes row.id node)
+          (present_back t.users t.nodes made.nodes (λ other. is_under t.nodes other node) (restored_follows t node folder name sound) row.id)),
       sums_join (counted_for t user) back (λ row. counted_for t user row + back row) t.nodes (λ row. refl),
       parts_sum (owned_bytes user) (λ row. is_under t.nodes row.id node) t.nodes,
       without_owned t node user of sound there,
@@ -251,7 +248,7 @@ requoted_charge t row user known =
 abbrev pub KeepsCharge : Tables → ℕ → Tables → Type 0
 KeepsCharge t user made = (charge_of made user ≤ charge_of t user) ⊎ (charge_of made user ≤ quota_of made user)
 
--- what comes back passes no quota
+-- what comes back takes none beyond it
 restored_keeps : (t : Tables) (node folder user : ℕ) (name : List ℕ) → AreSound t → KnownRestore t node folder name
     → AffordsDeed t (deed.Restore node folder name) → KeepsCharge t user (restored t node folder name)
 restored_keeps t node folder user name sound known affords =
@@ -275,18 +272,20 @@ restored_keeps t node folder user name sound known affords =
     here false other less none = let same = rw other at less in inl (omega (arith, same))
     here true own less none =
         let more = rw own at less in
-        elim (fits t user 0 (size_of t.nodes node) (subst (λ (n : ℕ). excess t n 0 (size_of t.nodes node) ≡ None) (eqb-true known.item.owner user own) none)) [
+        let fine = subst (λ (n : ℕ). excess t n 0 (size_of t.nodes node) ≡ None) (eqb-true known.item.owner user own) none in
+        elim (fits t user 0 (size_of t.nodes node) fine) [
           | inl nothing ↦ inl (omega (arith, more, nothing))
           | inr within ↦ inr (omega (arith, more, within))
         ]
 
+-- no more does another deed
 deed_keeps : (t : Tables) (now user : ℕ) (did : Deed) → AreSound t → KnownDeed t now did → AffordsDeed t did → KeepsCharge t user (deed_done t did)
 deed_keeps t now user deed.Nothing sound known affords = inl (omega arith)
 deed_keeps t now user (deed.Discard item) sound known affords = inl (discarded_charge t item user)
 deed_keeps t now user (deed.Restore node folder name) sound known affords = restored_keeps t node folder user name sound known affords
 deed_keeps t now user (deed.Requote row) sound known affords = inl (requoted_charge t row user known)
 
--- nor does what goes for good then
+-- nor does what goes for good with it
 pub trash_keeps : (t : Tables) (now user : ℕ) (did : Deed) (gone : List ℕ) → AreSound t → KnownDeed t now did → AffordsDeed t did
     → KeepsCharge t user (purged_all (deed_done t did) gone)
 trash_keeps t now user did gone sound known affords =
