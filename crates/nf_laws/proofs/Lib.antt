@@ -46,6 +46,7 @@ pub mod Quotas
 pub mod Reached
 pub mod Reaching
 pub mod Reading
+pub mod Recharged
 pub mod Replaced
 pub mod Rows
 pub mod Sharing
