@@ -35,6 +35,7 @@ pub mod OneRow
 pub mod Opening
 pub mod Others
 pub mod Peopled
+pub mod Owed
 pub mod Owned
 pub mod Paths
 pub mod Presence
@@ -45,6 +46,7 @@ pub mod Quotas
 pub mod Reached
 pub mod Reaching
 pub mod Reading
+pub mod Remaining
 pub mod Replaced
 pub mod Rows
 pub mod Sharing
