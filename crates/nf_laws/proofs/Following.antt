@@ -37,7 +37,7 @@ abbrev pub AllFollow : List Need → List NodeRow → List NodeRow → Type 0
 AllFollow needs before after = (node : ℕ) → node_row after node ≢ node_row before node → Follows needs before after node
 
 -- so it is, where it is of one node and of every other
-one_follows : (needs : List Need) (before after : List NodeRow) (one : ℕ) → Follows needs before after one
+pub one_follows : (needs : List Need) (before after : List NodeRow) (one : ℕ) → Follows needs before after one
     → ((node : ℕ) → node ≢ one → node_row after node ≢ node_row before node → Follows needs before after node)
     → AllFollow needs before after
 one_follows needs before after one follows others node differs =

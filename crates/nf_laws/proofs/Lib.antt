@@ -13,6 +13,7 @@ pub mod Copied
 pub mod Counters
 pub mod Crossed
 pub mod Crossing
+pub mod Discarding
 pub mod Ended
 pub mod Entries
 pub mod Exceeding
@@ -49,6 +50,7 @@ pub mod Reading
 pub mod Remaining
 pub mod Replaced
 pub mod Rows
+pub mod Settling
 pub mod Sharing
 pub mod Sizes
 pub mod Sources

@@ -121,7 +121,7 @@ refilled_present t made now node content is other up there = kept_leads t.nodes 
         ]
 
 -- what has to go isn't there
-still_there : (after : List NodeRow) (node : ℕ) → node_row after node ≡ None → is_some (node_row after node) ≡ true → ⊥
+pub still_there : (after : List NodeRow) (node : ℕ) → node_row after node ≡ None → is_some (node_row after node) ≡ true → ⊥
 still_there after node none there = both_ways (is_some (node_row after node)) (ap is_some none) there
 
 pub moved_present : (t : Tables) (transfer : Transfer) (name : List ℕ) → AreSound t → KnownMove t transfer name
