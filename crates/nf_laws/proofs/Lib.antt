@@ -17,6 +17,7 @@ pub mod Discarding
 pub mod Ended
 pub mod Entries
 pub mod Exceeding
+pub mod Fitting
 pub mod Following
 pub mod Free
 pub mod Given

@@ -5,12 +5,12 @@ use Rattle.std.specs.Option.{option_and_then, option_map_or}
 use Rattle.std.proofs.lemmas.Bool.{eq-eqb, eqb-true, false≢true, ne_eqb}
 use Rattle.std.proofs.lemmas.List.{map-id}
 use Rattle.std.proofs.lemmas.List.Elements.{All-cons, All-contains_itself, All-filter, All-map, All-nil, All-weaker, filter_passes}
-use Rattle.std.proofs.lemmas.Option.{none-some, same_Some}
+use Rattle.std.proofs.lemmas.Option.{none-some}
 use Rattle.nf_base.specs.declared.perms.Act.TheVariants.{Delete}
 use Rattle.nf_base.specs.declared.rows.ItemRow.{ItemRow}
 use Rattle.nf_base.specs.declared.rows.NodeRow.{NodeRow}
 use Rattle.nf_defs.proofs.Puts.{below_one, tail_rising}
-use Rattle.nf_defs.specs.Prelude.{IsRising, item_key, item_row, node_row, owner_of, Tables}
+use Rattle.nf_defs.specs.Prelude.{IsRising, item_key, item_row, node_row, Tables}
 use Rattle.nf_defs.specs.declared.Seeker.{Seeker}
 use Rattle.nf_laws.proofs.Climbs.{some_there}
 use Rattle.nf_laws.proofs.Discarding.{discarded_follow, discarded_items, discarded_shares, no_item, purged_follow, purged_items, purged_shares}
@@ -18,7 +18,7 @@ use Rattle.nf_laws.proofs.Following.{AllFollow}
 use Rattle.nf_laws.proofs.Owed.{home_fits, purged_stamped}
 use Rattle.nf_laws.proofs.Remaining.{shares_present}
 use Rattle.nf_laws.proofs.Rows.{found_is, stamp, stamped_has}
-use Rattle.nf_laws.specs.Access.{by_asking, by_delete, ChangesAllowed, IsNeeded, IsRestoring, IsSettled, ItemsFollow, KeepsShares, MayDo, NodesAllowed, needs_of, seeker_at, Settles, shares_without}
+use Rattle.nf_laws.specs.Access.{by_asking, by_delete, ChangesAllowed, IsNeeded, IsSettled, ItemsFollow, MayDo, NodesAllowed, needs_of, seeker_at, Settles, shares_without}
 use Rattle.nf_words.proofs.Known.{IsItem, Known, KnownGone}
 use Rattle.nf_words.proofs.Trashing.{gone_has, own_there}
 use Rattle.nf_words.specs.Prelude.{altered, AreSound, asker_of, Call, call_of, changed, deed_done, discard, gone_beside, gone_of, home_of, IsSound, item_dropped, item_for, item_if_of, item_restored, items_but, items_of, LeadsToRoot, name_back, Need, nothing_done, own_item, purged, purged_all, quota_of, restored, State, told, trash_done}
@@ -129,7 +129,7 @@ module _ (s : State) (e : Entry) (sound : IsSound s) where
   abbrev needs : List Need
   needs = needs_of s e.seat now e.event
 
-  same_nodes : NodesAllowed s e t
+  pub same_nodes : NodesAllowed s e t
   same_nodes = record {
     nodes = λ node differs. absurd (differs refl);
     others = inl (record { shares = same_shares t sound.rows; mounts = refl });
