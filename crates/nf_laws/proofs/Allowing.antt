@@ -112,13 +112,13 @@ goal_fine s e outcome goal act ends sound at held is known =
     let closes : allowed.Close ≡ act = cc in
     subst (λ (a : Allowed). IsFine s e (changed s.tables e.moment a)) closes (λ fine. same_allowed s e sound)
 
-module _ (s : State) (e : Entry) (words : Words) (request : Request) (act : Allowed) (begins : e.event ≡ Begin words request) (sound : IsSound s)
-    (later : s.tables.meta.last ≤ e.moment) (may : MayWant request) (is : call_decision (call_of s e.seat e.moment words request) ≡ Ok act) where
+module _ (s : State) (e : Entry) (words : Words) (request : Request) (decided : Allowed) (begins : e.event ≡ Begin words request) (sound : IsSound s)
+    (later : s.tables.meta.last ≤ e.moment) (may : MayWant request) (is : call_decision (call_of s e.seat e.moment words request) ≡ Ok decided) where
   abbrev call : Call
   call = call_of s e.seat e.moment words request
 
-  abbrev passes : Passes (access_of s) call × (allowed_of (access_of s) call ≡ act)
-  passes = call_passes call act is
+  abbrev passes : Passes (access_of s) call × (allowed_of (access_of s) call ≡ decided)
+  passes = call_passes call decided is
 
   abbrev wants : WantedPasses call request.wanted
   wants = wanted_passes call may passes.0
@@ -127,10 +127,10 @@ module _ (s : State) (e : Entry) (words : Words) (request : Request) (act : Allo
   asking = has_asker call passes.0.token wants.place.linked
 
   -- what isn't asked about users, groups and the trash, and is no DELETE of a node
-  plain_fine : is_apart call request.wanted ≡ false → IsFine s e (changed s.tables e.moment act)
+  plain_fine : is_apart call request.wanted ≡ false → IsFine s e (changed s.tables e.moment decided)
   plain_fine other =
       let fits = begin_fits call sound.rows later asking request.wanted refl other wants in
-      fits_fine s e (Begin words request) (seeker_of call) (OneOther call) (changed s.tables e.moment act) begins sound.rows refl
+      fits_fine s e (Begin words request) (seeker_of call) (OneOther call) (changed s.tables e.moment decided) begins sound.rows refl
       (acts_pass (access_of s) call passes.0.acts)
       (subst (λ (a : Allowed). Fits s.tables (needed call) (OneOther call) (changed s.tables e.moment a)) passes.1 fits)
       (λ made. elim made [
@@ -202,17 +202,17 @@ module _ (s : State) (e : Entry) (words : Words) (request : Request) (act : Allo
       here nowhere leads = same_allowed s e sound
 
   -- what is given to a request that isn't of the plain ones
-  begin_fine : IsFine s e (changed s.tables e.moment act)
+  begin_fine : IsFine s e (changed s.tables e.moment decided)
   begin_fine = here request.wanted refl
     where
-      does : (wanted : Wanted) → request.wanted ≡ wanted → given (access_of s) call (places_of call) wanted ≡ act
+      does : (wanted : Wanted) → request.wanted ≡ wanted → given (access_of s) call (places_of call) wanted ≡ decided
       does wanted e = ap (given (access_of s) call (places_of call)) (sym e) ∙ passes.1
 
-      plain : (wanted : Wanted) → request.wanted ≡ wanted → is_apart call wanted ≡ false → IsFine s e (changed s.tables e.moment act)
+      plain : (wanted : Wanted) → request.wanted ≡ wanted → is_apart call wanted ≡ false → IsFine s e (changed s.tables e.moment decided)
       plain wanted same other = plain_fine (ap (is_apart call) same ∙ other)
 
-      deletes : (spot : Spot) → request.wanted ≡ Delete spot → (b : Bool) → (way_of call spot).itself ≡ b → IsFine s e (changed s.tables e.moment act)
-      deletes spot wanted true itself = plain (Delete spot) wanted (ap not itself)
+      deletes : (spot : Spot) → request.wanted ≡ Delete spot → (b : Bool) → (way_of call spot).itself ≡ b → IsFine s e (changed s.tables e.moment decided)
+      deletes spot wanted true itself fine = plain (Delete spot) wanted (ap not itself) fine
       deletes spot wanted false itself fine =
           subst (λ (a : Allowed). ChangesAllowed s e (changed s.tables e.moment a)) (given_so ∙ does (Delete spot) wanted)
           (deletes_allowed spot wanted itself)
@@ -220,8 +220,8 @@ module _ (s : State) (e : Entry) (words : Words) (request : Request) (act : Allo
           given_so : deleted s.tables e.moment (node_found (found call spot)) ≡ given (access_of s) call (places_of call) (Delete spot)
           given_so = rw (wanted, itself) refl
 
-      here : (wanted : Wanted) → request.wanted ≡ wanted → IsFine s e (changed s.tables e.moment act)
-      here (Delete spot) wanted = deletes spot wanted (way_of call spot).itself refl
+      here : (wanted : Wanted) → request.wanted ≡ wanted → IsFine s e (changed s.tables e.moment decided)
+      here (Delete spot) wanted fine = deletes spot wanted (way_of call spot).itself refl fine
       here (People asked) wanted fine =
           let provided = people_provide s e words request begins sound may passes.0 asked wanted in
           subst (λ (a : Allowed). ChangesAllowed s e (changed s.tables e.moment a)) (does (People asked) wanted)
@@ -236,12 +236,12 @@ module _ (s : State) (e : Entry) (words : Words) (request : Request) (act : Allo
       here (Trash asked) wanted fine =
           subst (λ (a : Allowed). ChangesAllowed s e (changed s.tables e.moment a)) (does (Trash asked) wanted)
           (trash_allowed s e sound words request begins asked wanted)
-      here (Get spot) wanted = plain (Get spot) wanted refl
-      here (Put spot size) wanted = plain (Put spot size) wanted refl
-      here (Mkcol spot) wanted = plain (Mkcol spot) wanted refl
-      here (Move source target overwrite) wanted = plain (Move source target overwrite) wanted refl
-      here (Copy source target overwrite) wanted = plain (Copy source target overwrite) wanted refl
-      here (Share asks) wanted = plain (Share asks) wanted refl
+      here (Get spot) wanted fine = plain (Get spot) wanted refl fine
+      here (Put spot size) wanted fine = plain (Put spot size) wanted refl fine
+      here (Mkcol spot) wanted fine = plain (Mkcol spot) wanted refl fine
+      here (Move source target overwrite) wanted fine = plain (Move source target overwrite) wanted refl fine
+      here (Copy source target overwrite) wanted fine = plain (Copy source target overwrite) wanted refl fine
+      here (Share asks) wanted fine = plain (Share asks) wanted refl fine
 
 act_fine : (s : State) (e : Entry) (event : Event) (act : Allowed) → e.event ≡ event → IsSound s → s.tables.meta.last ≤ e.moment
     → MayAsk s e.seat event → decision_of s e.seat e.moment event ≡ Ok act → IsFine s e (changed s.tables e.moment act)
