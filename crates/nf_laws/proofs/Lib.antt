@@ -59,6 +59,7 @@ pub mod Stays
 pub mod Stored
 pub mod Telling
 pub mod Transferred
+pub mod Trashed
 pub mod Trashing
 pub mod Upwards
 pub mod Walked
