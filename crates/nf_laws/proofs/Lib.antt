@@ -13,9 +13,11 @@ pub mod Copied
 pub mod Counters
 pub mod Crossed
 pub mod Crossing
+pub mod Discarding
 pub mod Ended
 pub mod Entries
 pub mod Exceeding
+pub mod Fitting
 pub mod Following
 pub mod Free
 pub mod Given
@@ -35,6 +37,7 @@ pub mod OneRow
 pub mod Opening
 pub mod Others
 pub mod Peopled
+pub mod Owed
 pub mod Owned
 pub mod Paths
 pub mod Presence
@@ -47,8 +50,10 @@ pub mod Reached
 pub mod Reaching
 pub mod Reading
 pub mod Recharged
+pub mod Remaining
 pub mod Replaced
 pub mod Rows
+pub mod Settling
 pub mod Sharing
 pub mod Sizes
 pub mod Sources

@@ -1,0 +1,164 @@
+-- A node that is put in the trash, or that goes for good though it is present: what becomes of nodes, shares and items.
+use Rattle.std.proofs.Common.{ℕ, zero, suc, ◌==◌, ◌≡◌, ◌≢◌, ◌≤◌, ◌⊎◌, Bool, true, false, not, List, [], ◌∷◌, Option, Some, bytes_eq, option_map, refl, sym, ap, ◌∙◌, inl, inr, arith}
+use Rattle.std.specs.List.{All, Contains}
+use Rattle.std.specs.Option.{option_and_then, option_map_or}
+use Rattle.std.proofs.lemmas.Bool.{both_ways, cases_Bool, eq-eqb, eqb-true, false_from_ne_true, ne_eqb, not-true, not_from_false}
+use Rattle.std.proofs.lemmas.List.Elements.{All-contains, All-contains_itself, All-filter, All-weaker}
+use Rattle.std.proofs.lemmas.Option.{option_and_then_some}
+use Rattle.std.proofs.lemmas.Slice.Eq.{bytes_eq-Decides}
+use Rattle.nf_base.specs.declared.perms.Act.TheVariants.{Delete}
+use Rattle.nf_base.specs.declared.rows.ItemRow.{ItemRow}
+use Rattle.nf_base.specs.declared.rows.NodeRow.{NodeRow}
+use Rattle.nf_defs.proofs.ByName.{Contains-filter}
+use Rattle.nf_defs.proofs.Climbs.{climb_under, under_climb}
+use Rattle.nf_defs.proofs.Puts.{all_put}
+use Rattle.nf_defs.specs.Prelude.{climb, folder_of, is_root_place, is_under, item_key, node_row, parent_of, Tables}
+use Rattle.nf_defs.specs.Tree.{trashed}
+use Rattle.nf_laws.proofs.Climbs.{climb_passes, climb_same}
+use Rattle.nf_laws.proofs.Following.{AllFollow, deleted_follow, one_follows}
+use Rattle.nf_laws.proofs.Given.{put_contains}
+use Rattle.nf_laws.proofs.Gone.{folder_left, is_left, left_leads, row_gone}
+use Rattle.nf_laws.proofs.OneRow.{row_itself, row_other}
+use Rattle.nf_laws.proofs.Others.{stamp_sound}
+use Rattle.nf_laws.proofs.Owed.{deed_sound, purged_sound}
+use Rattle.nf_laws.proofs.Present.{never_trash}
+use Rattle.nf_laws.proofs.Remaining.{leads_there, shares_present, still_there}
+use Rattle.nf_laws.proofs.Rows.{stamp}
+use Rattle.nf_laws.specs.Access.{IsNeeded, is_trashed, ItemsFollow, shares_without}
+use Rattle.nf_words.proofs.Known.{KnownDiscard, KnownGone}
+use Rattle.nf_words.specs.Others.{IsItemSound}
+use Rattle.nf_words.specs.Prelude.{AreSound, discarded, LeadsToRoot, Need, purged}
+use Rattle.nf_words.specs.declared.answer.Deed.TheVariants as deed
+
+-- what is present is no item
+pub no_item : (t : Tables) (node : ℕ) → AreSound t → LeadsToRoot t.nodes node → All (λ (item : ItemRow). item.node ≢ node) t.items
+no_item t node sound up =
+    All-weaker (IsItemSound t) (λ (item : ItemRow). item.node ≢ node)
+    (λ item is same. never_trash 0 t.nodes node item.node is.of up (ap Some (sym same)) is.there is.place) t.items sound.others.items
+
+-- ---- what is put in the trash
+
+module _ (t : Tables) (now : ℕ) (item : ItemRow) (sound : AreSound t) (later : t.meta.last ≤ now) (known : KnownDiscard t now item) where
+  abbrev in_trash : Tables
+  in_trash = stamp (discarded t item) now
+
+  abbrev top : ℕ
+  top = item.node
+
+  -- its row alone is another
+  row_top : node_row in_trash.nodes top ≡ Some (trashed known.row)
+  row_top = row_itself t.nodes top trashed (λ row. refl) ∙ ap (option_map trashed) known.there
+
+  row_apart : (node : ℕ) → node ≢ top → node_row in_trash.nodes node ≡ node_row t.nodes node
+  row_apart node other = row_other t.nodes top trashed (λ row. refl) node (ne_eqb node top other)
+
+  pub discarded_follow : (needs : List Need) → IsNeeded needs Delete top → AllFollow needs t.nodes in_trash.nodes
+  discarded_follow needs needed =
+      one_follows needs t.nodes in_trash.nodes top (is_trashed known.row needed known.there row_top)
+      (λ node other differs. absurd (differs (row_apart node other)))
+
+  -- ---- the shares
+
+  -- what is under it climbs to it
+  below : (k node : ℕ) → climb t.nodes k node ≡ Some top → (j : ℕ) × (climb in_trash.nodes j node ≡ Some top)
+  below zero node is = (0, is)
+  below (suc k) node is =
+      elim (cases_Bool (node == top)) [
+        | inl same ↦ (0, ap Some (eqb-true node top same))
+        | inr other ↦
+            option_and_then_some (climb t.nodes k) (parent_of t.nodes node) top is (λ parent above rest.
+            let at = below k parent rest in
+            let same = row_apart node (λ e. both_ways (node == top) other (eq-eqb node top e)) in
+            let above_so : parent_of in_trash.nodes node ≡ Some parent = ap (option_and_then (λ row. folder_of row.place)) same ∙ above in
+            (suc at.0, ap (option_and_then (climb in_trash.nodes at.0)) above_so ∙ at.1))
+      ]
+
+  -- so it isn't present any more
+  ends : (node : ℕ) → LeadsToRoot t.nodes node → is_under t.nodes node top ≡ true → LeadsToRoot in_trash.nodes node → ⊥
+  ends node up under still =
+      let c = under_climb t.nodes node top under in
+      let at = below c.0 node c.2 in
+      never_trash at.0 in_trash.nodes node top (trashed known.row) still at.1 row_top refl
+
+  row_left : (node : ℕ) → is_left t.nodes top node ≡ true → node_row in_trash.nodes node ≡ node_row t.nodes node
+  row_left node left =
+      row_apart node (λ same.
+      both_ways (is_under t.nodes node top) (not-true (is_under t.nodes node top) left)
+      (climb_under 0 t.nodes node top (omega arith) (ap Some same)))
+
+  -- and what isn't under it leads up as before
+  stays : (node : ℕ) → LeadsToRoot t.nodes node → is_under t.nodes node top ≡ false → LeadsToRoot in_trash.nodes node
+  stays node up outside =
+      let closed = folder_left t top sound in
+      let last = climb_passes (is_left t.nodes top) t.nodes closed up.steps node up.top up.climbs (ap not outside) in
+      record {
+        steps = up.steps;
+        top = up.top;
+        climbs =
+            climb_same t.nodes in_trash.nodes (λ k other. is_left t.nodes top other ≡ true)
+            (λ k other parent left above. closed other parent above left)
+            (λ k other left. ap (option_and_then (λ row. folder_of row.place)) (row_left other left)) up.steps node (ap not outside)
+            ∙ up.climbs;
+        root = ap (λ (o : Option NodeRow). option_map_or (λ row. is_root_place row.place) o false) (row_left up.top last) ∙ up.root;
+      }
+
+  pub discarded_shares : in_trash.shares ≡ shares_without in_trash.nodes t.shares
+  discarded_shares =
+      shares_present t in_trash (λ node. is_under t.nodes node top) sound (deed_sound t now (deed.Discard item) sound later known) ends stays
+
+  -- ---- the items
+
+  -- the others stay, since it wasn't one
+  pub discarded_items : (needs : List Need) → IsNeeded needs Delete top → ItemsFollow needs now t.items in_trash.items
+  discarded_items needs needed = (
+    all_put item_key Of item t.items (inr (needed, ap (λ (i : ItemRow). i.at) known.is)) (λ k d within. inl (All-contains_itself t.items k d within)),
+    λ other is. put_contains item_key item other t.items (apart other is) is,
+  )
+    where
+      Of : ItemRow → Type 0
+      Of other = Contains t.items other ⊎ (IsNeeded needs Delete other.node × (other.at ≡ now))
+
+      one : {a b : ℕ} → a ∷ [] ≡ b ∷ [] → a ≡ b
+      one e = cc
+
+      apart : (other : ItemRow) → Contains t.items other → item_key item ≢ item_key other
+      apart other is same =
+          All-contains (λ (i : ItemRow). i.node ≢ top) t.items other (no_item t top sound known.present) is (sym (one same))
+
+-- ---- what goes for good though it is present
+
+module _ (t : Tables) (now top : ℕ) (sound : AreSound t) (later : t.meta.last ≤ now) (known : KnownGone t top) where
+  abbrev without_it : Tables
+  without_it = stamp (purged t top) now
+
+  pub purged_follow : (needs : List Need) → IsNeeded needs Delete top → AllFollow needs t.nodes without_it.nodes
+  purged_follow = deleted_follow t top
+
+  pub purged_shares : without_it.shares ≡ shares_without without_it.nodes t.shares
+  purged_shares =
+      shares_present t without_it (λ node. is_under t.nodes node top) sound
+      (stamp_sound (purged t top) now (purged_sound t top sound (inr known)) later)
+      (λ node up goes still. still_there without_it.nodes node (row_gone t.nodes (Some top) node goes) (leads_there without_it.nodes node still))
+      (λ node up stays. left_leads t top node sound stays up)
+
+  -- no item is dropped, since it is none
+  pub purged_items : (needs : List Need) → ItemsFollow needs now t.items without_it.items
+  purged_items needs = (
+    All-filter kept Of t.items (λ k d within. inl (All-contains_itself t.items k d within)),
+    λ item is. Contains-filter kept t.items item is (stays_item item is),
+  )
+    where
+      kept : ItemRow → Bool
+      kept item = not (bytes_eq (top ∷ []) (item_key item))
+
+      Of : ItemRow → Type 0
+      Of other = Contains t.items other ⊎ (IsNeeded needs Delete other.node × (other.at ≡ now))
+
+      one : {a b : ℕ} → a ∷ [] ≡ b ∷ [] → a ≡ b
+      one e = cc
+
+      stays_item : (item : ItemRow) → Contains t.items item → kept item ≡ true
+      stays_item item is =
+          not_from_false (bytes_eq (top ∷ []) (item_key item)) (false_from_ne_true (bytes_eq (top ∷ []) (item_key item)) (λ same.
+          All-contains (λ (i : ItemRow). i.node ≢ top) t.items item (no_item t top sound known.present) is
+          (sym (one ((bytes_eq-Decides (top ∷ []) (item_key item)).0 same)))))
