@@ -2,6 +2,7 @@ pub mod After
 pub mod Among
 pub mod Apart
 pub mod Firsts
+pub mod Items
 pub mod Later
 pub mod Leading
 pub mod OneShare

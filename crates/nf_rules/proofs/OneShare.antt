@@ -19,14 +19,15 @@ use Rattle.nf_base.specs.declared.rows.ShareKind.TheVariants as to
 use Rattle.nf_base.specs.declared.rows.ShareRow.{ShareRow}
 use Rattle.nf_base.specs.declared.rows.UserRow.{UserRow}
 use Rattle.nf_defs.proofs.Puts.{all_put}
-use Rattle.nf_defs.specs.Prelude.{node_row, share_key, Tables, user_row}
+use Rattle.nf_defs.specs.Prelude.{share_key, Tables, user_row}
 use Rattle.nf_laws.proofs.Rows.{each_fails, found_is}
 use Rattle.nf_laws.specs.Access.{IsSharing, IsSteered, is_ended, is_made, is_set, SharesOne}
 use Rattle.nf_laws.specs.Numbers.{AreHigher}
 use Rattle.nf_words.proofs.Asks.{share_found}
 use Rattle.nf_words.proofs.Found.{found_has}
+use Rattle.nf_words.proofs.Ways.{present_row}
 use Rattle.nf_words.specs.History.{end_in, IsEnd, IsInBounds}
-use Rattle.nf_words.specs.Prelude.{AreSound, Call, call_of, ended_row, is_end_moment, IsKindSound, IsNodeSound, IsShareSound, perms_after, set_row, State, until_after}
+use Rattle.nf_words.specs.Prelude.{AreSound, Call, call_of, ended_row, is_end_moment, IsKindSound, IsNodeSound, IsShareSound, LeadsToRoot, perms_after, set_row, State, until_after}
 use Rattle.nf_words.specs.declared.history.Entry.{Entry}
 use Rattle.nf_words.specs.declared.request.ShareAsk.TheVariants as ask
 use Rattle.nf_words.specs.declared.request.Sharee.{Sharee}
@@ -88,15 +89,12 @@ module _ (t : Tables) (users : All (λ (user : UserRow). IsGiven t.meta.next_use
   recipient_is (to.Group group) is = group_given group is
   recipient_is (to.Link token) is = refl
 
-  node_there : is_some (node_row t.nodes row.node) ≡ true → is_given t.meta.next_node row.node ≡ true
-  node_there is = here (node_row t.nodes row.node) refl is
-    where
-      here : (o : Option NodeRow) → node_row t.nodes row.node ≡ o → is_some o ≡ true → is_given t.meta.next_node row.node ≡ true
-      here None e is = absurd (cc)
-      here (Some found) e is =
-          let h = found_is (IsNodeSound t) (λ (node : NodeRow). node.id == row.node) t.nodes found sound.nodes e in
-          is_given_from t.meta.next_node row.node
-          (subst (IsGiven t.meta.next_node) (eqb-true found.id row.node h.0) (record { first = h.1.some; below = h.1.given }))
+  node_there : LeadsToRoot t.nodes row.node → is_given t.meta.next_node row.node ≡ true
+  node_there up =
+      let of = present_row t.nodes row.node up in
+      let h = found_is (IsNodeSound t) (λ (node : NodeRow). node.id == row.node) t.nodes of.0 sound.nodes of.1 in
+      is_given_from t.meta.next_node row.node
+      (subst (IsGiven t.meta.next_node) (eqb-true of.0.id row.node h.0) (record { first = h.1.some; below = h.1.given }))
 
   parent_given : (parent : Option ℕ) → IsAbove t.shares row parent → option_map_or (is_given t.meta.next_share) parent true ≡ true
   parent_given None above = refl

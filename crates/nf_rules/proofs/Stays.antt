@@ -22,9 +22,10 @@ use Rattle.nf_words.specs.declared.history.Event.TheVariants.{Begin}
 use Rattle.nf_words.specs.declared.request.Request.{Request}
 use Rattle.nf_words.specs.declared.request.Words.{Words}
 use Rattle.nf_rules.specs.Laws.{StaysRuled}
-use Rattle.nf_rules.specs.Ruled.{AreRuled, AreTokensApart, IsGiven, IsGroupRuled, IsMemberRuled, IsMountRuled, IsShareRuled, IsTokenRuled, IsUserRuled}
+use Rattle.nf_rules.specs.Ruled.{AreRuled, AreTokensApart, IsGiven, IsGroupRuled, IsItemRuled, IsMemberRuled, IsMountRuled, IsShareRuled, IsTokenRuled, IsUserRuled}
 use Rattle.nf_rules.specs.Rules.{are_share_numbers}
 use Rattle.nf_rules.proofs.After.{share_ruled, still_given}
+use Rattle.nf_rules.proofs.Items.{from_still, items_ruled}
 use Rattle.nf_rules.proofs.OneShare.{mounts_ruled, one_apart, one_ruled}
 use Rattle.nf_rules.proofs.Peopled.{people_ruled}
 use Rattle.nf_rules.proofs.Rising.{nodes_rise}
@@ -121,8 +122,9 @@ with_four t made = record t { meta = made.meta; nodes = made.nodes; shares = mad
 
 -- where these keep the rules of their kinds
 others_ruled : (t other : Tables) → let made = with_four t other in AreRuled t → AreSound made → AreHigher t.meta made.meta
-    → All (IsShareRuled made) made.shares → AllPairs AreTokensApart made.shares → All (IsMountRuled made) made.mounts → AreRuled made
-others_ruled t other h sound up shares apart mounts =
+    → All (IsShareRuled made) made.shares → AllPairs AreTokensApart made.shares → All (IsMountRuled made) made.mounts
+    → All (IsItemRuled made) made.items → AreRuled made
+others_ruled t other h sound up shares apart mounts items =
     let made : Tables = with_four t other in
     record {
       sound = sound;
@@ -149,6 +151,7 @@ others_ruled t other h sound up shares apart mounts =
           }) t.members h.members;
       shares = shares;
       mounts = mounts;
+      items = items;
       user_names = h.user_names;
       group_names = h.group_names;
       tokens_apart = apart;
@@ -213,10 +216,12 @@ nodes_ruled n s e ruled sound may changes =
     let rows : AreSound made = (sound_after n s e sound may).rows in
     let up = after_up s e e.mark in
     let kept = others_kept s e made ruled rows up (ap (λ (t : Tables). t.users) changes.rest) (ap (λ (t : Tables). t.groups) changes.rest) changes.others bounds in
+    let items = items_ruled s.tables made ruled up (ap (λ (t : Tables). t.items) changes.rest) (from_still n s e sound may changes) in
     subst AreRuled (sym changes.rest)
     (others_ruled s.tables made ruled (subst AreSound changes.rest rows) up
     (subst (λ (u : Tables). All (IsShareRuled u) u.shares) changes.rest kept.shares) kept.apart
-    (subst (λ (u : Tables). All (IsMountRuled u) u.mounts) changes.rest kept.mounts))
+    (subst (λ (u : Tables). All (IsMountRuled u) u.mounts) changes.rest kept.mounts)
+    (subst (λ (u : Tables). All (IsItemRuled u) u.items) changes.rest items))
   where
     bounds : (words : Words) (request : Request) → e.event ≡ Begin words request → IsInBounds request.wanted
     bounds words request begins = (subst (MayAsk s e.seat) begins may.asked).1.bounds
