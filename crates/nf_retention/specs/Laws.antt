@@ -1,5 +1,5 @@
 -- That the walks give what is said without them, and that nothing else is meant by it.
-use Rattle.std.specs.Prelude.{◌≡◌, ℕ, List, [], ◌∷◌}
+use Rattle.std.specs.Prelude.{◌≡◌, ℕ, List}
 use Rattle.nf_retention.specs.Budget.{IsLongestWithin, fitting}
 use Rattle.nf_retention.specs.Thinning.{AreFalling, AreKept, AreParted, kept, thinned}
 
@@ -14,11 +14,6 @@ KeptIsOnly = (now : ℕ) (versions those : List ℕ) → AreFalling versions →
 -- what goes is the rest
 abbrev pub ThinnedIsRest : Type 0
 ThinnedIsRest = (now : ℕ) (versions : List ℕ) → AreFalling versions → AreParted versions (kept now versions) (thinned now versions)
-
--- an example: each gap is measured from the last version that was kept
-abbrev pub IsThinnedSo : Type 0
-IsThinnedSo =
-    kept 1000000 (999999 ∷ 999998 ∷ 999996 ∷ 999989 ∷ 999985 ∷ 999979 ∷ []) ≡ 999999 ∷ 999996 ∷ 999989 ∷ 999979 ∷ []
 
 -- for every list there is a longest front within the bound: the walk's
 abbrev pub FittingIsRight : Type 0

@@ -12,4 +12,6 @@ mod opening;
 #[cfg(test)]
 mod people;
 #[cfg(test)]
+mod retention;
+#[cfg(test)]
 mod rows;
