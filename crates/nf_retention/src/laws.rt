@@ -1,6 +1,6 @@
 //! The walks give what the rules say without a walk, and the rules mean nothing else.
 
-ghost use Rattle.nf_retention.specs.Laws.{FittingIsOnly, FittingIsRight, KeptIsOnly, KeptIsRight, ThinnedIsRest};
+ghost use Rattle.nf_retention.specs.Laws.{FittingIsOnly, FittingIsRight, GoingIsRest, KeptIsOnly, KeptIsRight, NewestIsRight, ThinnedIsRest};
 
 /// What the walk keeps has the newest version, versions alone, neighbours a step apart, and leaves out none that is a step away.
 pub fn kept_is_right()
@@ -24,4 +24,15 @@ pub fn thinned_is_rest()
 pub fn fitting_is_only()
     ensures there { FittingIsRight }
     ensures only { FittingIsOnly }
+{}
+
+/// What is newest first are the same items in order.
+pub fn newest_is_right()
+    ensures { NewestIsRight }
+{}
+
+/// Of items newest first those go that are there for 30 days, and of the others those behind the longest front within the bound.
+#[tactic(auto, using(crate::proofs::Gone::going_rest))]
+pub fn going_is_rest()
+    ensures { GoingIsRest }
 {}

@@ -12,6 +12,8 @@
 mod budget;
 pub mod laws;
 mod thinning;
+mod trash;
 
 pub use budget::{fitting, has_expired, trash_bound, versions_bound};
 pub use thinning::{step, thinned};
+pub use trash::{Trashed, going, newest_first};
