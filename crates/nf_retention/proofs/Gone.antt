@@ -1,14 +1,14 @@
 -- Those of the items of a trash that go for good.
-use Rattle.std.proofs.Common.{◌≡◌, ◌<◌, ◌≤◌, ◌+◌, ◌∙◌, ◌⊎◌, ℕ, zero, suc, cond, Bool, true, false, List, [], ◌∷◌, ◌++◌, length, get_or, map, drop, refl, sym, ap, subst, inl, inr, arith}
-use Rattle.std.specs.List.{All, AllPairs, filter}
+use Rattle.std.proofs.Common.{◌≡◌, ◌<◌, ◌≤◌, ◌+◌, ◌∙◌, ◌⊎◌, ℕ, zero, suc, cond, Bool, true, false, List, [], ◌∷◌, ◌++◌, length, get_or, map, drop, refl, ap, subst, inl, inr, arith}
+use Rattle.std.specs.List.{All, filter}
 use Rattle.std.specs.Prelude.{nat_lt, not}
 use Rattle.std.proofs.lemmas.Bool.{le-ltb, ltb-false}
 use Rattle.std.proofs.lemmas.List.{drop-map, length-map}
 use Rattle.std.proofs.lemmas.List.Elements.{All-head, All-tail}
 use Rattle.nf_base.specs.declared.rows.ItemRow.{ItemRow}
-use Rattle.nf_retention.specs.Budget.{IsLongestWithin, fitting}
+use Rattle.nf_retention.specs.Budget.{IsLongestWithin}
 use Rattle.nf_retention.specs.Laws.{GoingIsRest}
-use Rattle.nf_retention.specs.Trash.{AreGoing, AreNewestFirst, going, is_young, staying, trashed, young_sizes}
+use Rattle.nf_retention.specs.Trash.{AreGoing, AreNewestFirst, is_young, trashed, young_sizes}
 use Rattle.nf_retention.specs.declared.trash.Trashed.{Trashed}
 use Rattle.nf_retention.proofs.Fronts.{fitting_only, fitting_right}
 
@@ -83,3 +83,16 @@ carried_going now bound count carried nodes longest gone size items is =
     ∙ ap (map (λ (one : Trashed). one.node)) (drop-map (trashed size) count items)
     ∙ nodes_of size (drop count items)
     ∙ ap (λ n. map (λ (item : ItemRow). item.node) (drop n items)) same
+
+-- no more are young than are there
+pub fewer_young : (now : ℕ) (carried : List Trashed) → length (young_sizes now carried) ≤ length carried
+fewer_young now [] = omega arith
+fewer_young now (first ∷ carried) = here (nat_lt now (first.at + 2592000)) (fewer_young now carried)
+  where
+    young : List Trashed
+    young = filter (λ (one : Trashed). nat_lt now (one.at + 2592000)) carried
+
+    here : (b : Bool) → length (young_sizes now carried) ≤ length carried
+        → length (map (λ (one : Trashed). one.size) (cond b (first ∷ young) young)) ≤ suc (length carried)
+    here true rest = omega (arith, rest)
+    here false rest = omega (arith, rest)

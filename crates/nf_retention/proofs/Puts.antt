@@ -1,5 +1,5 @@
 -- What a stable sort makes of a list is what its elements make, put one after the other at their places.
-use Rattle.std.proofs.Common.{ℕ, suc, cond, sym, ◌≡◌, Bool, true, false, List, [], ◌∷◌, get_or, map, refl, ap, ◌∙◌, arith}
+use Rattle.std.proofs.Common.{suc, cond, sym, ◌≡◌, Bool, true, false, List, [], ◌∷◌, get_or, map, refl, ap, ◌∙◌, arith}
 use Rattle.std.specs.Cmp.{IsStrictWeakOrder}
 use Rattle.std.specs.List.{All, AllPairs, Contains, filter}
 use Rattle.std.specs.List.Sorted.{IsPermutation, IsSortedBy, IsStableBy, ties}

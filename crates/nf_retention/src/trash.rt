@@ -33,6 +33,7 @@ pub fn newest_first(mut trashed: Vec<Trashed>) -> Result<Vec<Trashed>, AllocErro
 }
 
 /// Those of a user's items, newest first, that go for good.
+#[tactic(auto, using(crate::proofs::Gone::fewer_young))]
 pub fn going(
     alloc: Global,
     trashed: &[Trashed],
@@ -43,9 +44,8 @@ pub fn going(
 {
     let sizes = young_sizes(alloc, trashed, now)?;
     let staying = fitting(bound, &sizes);
-    trashed
+    trashed[staying..]
         .iter()
-        .skip(staying)
         .map(|item| item.node)
         .collect(alloc)
 }
