@@ -1,29 +1,27 @@
 -- A node that is put in the trash, or that goes for good though it is present: what becomes of nodes, shares and items.
-use Rattle.std.proofs.Common.{ℕ, zero, suc, ◌==◌, ◌≡◌, ◌≢◌, ◌≤◌, ◌⊎◌, Bool, true, false, not, List, [], ◌∷◌, Option, Some, bytes_eq, option_map, refl, sym, ap, ◌∙◌, inl, inr, arith}
+use Rattle.std.proofs.Common.{ℕ, ◌≡◌, ◌≢◌, ◌≤◌, ◌⊎◌, Bool, true, false, not, List, [], ◌∷◌, Some, bytes_eq, option_map, refl, sym, ap, ◌∙◌, inl, inr}
 use Rattle.std.specs.List.{All, Contains}
-use Rattle.std.specs.Option.{option_and_then, option_map_or}
-use Rattle.std.proofs.lemmas.Bool.{both_ways, cases_Bool, eq-eqb, eqb-true, false_from_ne_true, ne_eqb, not-true, not_from_false}
+use Rattle.std.proofs.lemmas.Bool.{false_from_ne_true, ne_eqb, not_from_false}
 use Rattle.std.proofs.lemmas.List.Elements.{All-contains, All-contains_itself, All-filter, All-weaker}
-use Rattle.std.proofs.lemmas.Option.{option_and_then_some}
 use Rattle.std.proofs.lemmas.Slice.Eq.{bytes_eq-Decides}
 use Rattle.nf_base.specs.declared.perms.Act.TheVariants.{Delete}
 use Rattle.nf_base.specs.declared.rows.ItemRow.{ItemRow}
-use Rattle.nf_base.specs.declared.rows.NodeRow.{NodeRow}
 use Rattle.nf_defs.proofs.ByName.{Contains-filter}
-use Rattle.nf_defs.proofs.Climbs.{climb_under, under_climb}
+use Rattle.nf_defs.proofs.Climbs.{under_climb}
 use Rattle.nf_defs.proofs.Puts.{all_put}
-use Rattle.nf_defs.specs.Prelude.{climb, folder_of, is_root_place, is_under, item_key, node_row, parent_of, Tables}
+use Rattle.nf_defs.specs.Prelude.{is_under, item_key, node_row, Tables}
 use Rattle.nf_defs.specs.Tree.{trashed}
-use Rattle.nf_laws.proofs.Climbs.{climb_passes, climb_same}
 use Rattle.nf_laws.proofs.Following.{AllFollow, deleted_follow, one_follows}
 use Rattle.nf_laws.proofs.Given.{put_contains}
-use Rattle.nf_laws.proofs.Gone.{folder_left, is_left, left_leads, row_gone}
+use Rattle.nf_laws.proofs.Gone.{left_leads, row_gone}
+use Rattle.nf_laws.proofs.Moved.{climb_below, outside_leads}
 use Rattle.nf_laws.proofs.OneRow.{row_itself, row_other}
 use Rattle.nf_laws.proofs.Others.{stamp_sound}
-use Rattle.nf_laws.proofs.Owed.{deed_sound, purged_sound}
 use Rattle.nf_laws.proofs.Present.{never_trash}
 use Rattle.nf_laws.proofs.Remaining.{leads_there, shares_present, still_there}
 use Rattle.nf_laws.proofs.Rows.{stamp}
+use Rattle.nf_laws.proofs.Trashed.{deed_sound, purged_sound}
+use Rattle.nf_laws.proofs.Upwards.{never_climbs}
 use Rattle.nf_laws.specs.Access.{IsNeeded, is_trashed, ItemsFollow, shares_without}
 use Rattle.nf_words.proofs.Known.{KnownDiscard, KnownGone}
 use Rattle.nf_words.specs.Others.{IsItemSound}
@@ -59,48 +57,16 @@ module _ (t : Tables) (now : ℕ) (item : ItemRow) (sound : AreSound t) (later :
 
   -- ---- the shares
 
-  -- what is under it climbs to it
-  below : (k node : ℕ) → climb t.nodes k node ≡ Some top → (j : ℕ) × (climb in_trash.nodes j node ≡ Some top)
-  below zero node is = (0, is)
-  below (suc k) node is =
-      elim (cases_Bool (node == top)) [
-        | inl same ↦ (0, ap Some (eqb-true node top same))
-        | inr other ↦
-            option_and_then_some (climb t.nodes k) (parent_of t.nodes node) top is (λ parent above rest.
-            let at = below k parent rest in
-            let same = row_apart node (λ e. both_ways (node == top) other (eq-eqb node top e)) in
-            let above_so : parent_of in_trash.nodes node ≡ Some parent = ap (option_and_then (λ row. folder_of row.place)) same ∙ above in
-            (suc at.0, ap (option_and_then (climb in_trash.nodes at.0)) above_so ∙ at.1))
-      ]
-
-  -- so it isn't present any more
+  -- what is under it isn't present any more
   ends : (node : ℕ) → LeadsToRoot t.nodes node → is_under t.nodes node top ≡ true → LeadsToRoot in_trash.nodes node → ⊥
   ends node up under still =
       let c = under_climb t.nodes node top under in
-      let at = below c.0 node c.2 in
-      never_trash at.0 in_trash.nodes node top (trashed known.row) still at.1 row_top refl
+      never_trash c.0 in_trash.nodes node top (trashed known.row) still (climb_below t.nodes top trashed (λ row. refl) t refl sound c.0 node c.2) row_top
+      refl
 
-  row_left : (node : ℕ) → is_left t.nodes top node ≡ true → node_row in_trash.nodes node ≡ node_row t.nodes node
-  row_left node left =
-      row_apart node (λ same.
-      both_ways (is_under t.nodes node top) (not-true (is_under t.nodes node top) left)
-      (climb_under 0 t.nodes node top (omega arith) (ap Some same)))
-
-  -- and what isn't under it leads up as before
+  -- and what isn't under it is present as before
   stays : (node : ℕ) → LeadsToRoot t.nodes node → is_under t.nodes node top ≡ false → LeadsToRoot in_trash.nodes node
-  stays node up outside =
-      let closed = folder_left t top sound in
-      let last = climb_passes (is_left t.nodes top) t.nodes closed up.steps node up.top up.climbs (ap not outside) in
-      record {
-        steps = up.steps;
-        top = up.top;
-        climbs =
-            climb_same t.nodes in_trash.nodes (λ k other. is_left t.nodes top other ≡ true)
-            (λ k other parent left above. closed other parent above left)
-            (λ k other left. ap (option_and_then (λ row. folder_of row.place)) (row_left other left)) up.steps node (ap not outside)
-            ∙ up.climbs;
-        root = ap (λ (o : Option NodeRow). option_map_or (λ row. is_root_place row.place) o false) (row_left up.top last) ∙ up.root;
-      }
+  stays node up outside = outside_leads t.nodes top trashed (λ row. refl) node (never_climbs t node top sound outside) up
 
   pub discarded_shares : in_trash.shares ≡ shares_without in_trash.nodes t.shares
   discarded_shares =

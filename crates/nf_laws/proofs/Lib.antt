@@ -37,7 +37,6 @@ pub mod OneRow
 pub mod Opening
 pub mod Others
 pub mod Peopled
-pub mod Owed
 pub mod Owned
 pub mod Paths
 pub mod Presence

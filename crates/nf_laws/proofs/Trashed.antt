@@ -187,10 +187,10 @@ module _ (t : Tables) (item : ItemRow) (row : NodeRow) (folder : ℕ) (sound : A
 -- ---- what comes back
 
 -- where it comes back to: a folder of its owner's that is present
-record IsHome (t : Tables) (owner folder : ℕ) : Type 0 where
-  in_folder : is_folder t.nodes folder ≡ true
-  present : LeadsToRoot t.nodes folder
-  owned : owner_of t.nodes folder ≡ owner
+pub record IsHome (t : Tables) (owner folder : ℕ) : Type 0 where
+  pub in_folder : is_folder t.nodes folder ≡ true
+  pub present : LeadsToRoot t.nodes folder
+  pub owned : owner_of t.nodes folder ≡ owner
 
 -- the root of a user who is there is one
 root_home : (t : Tables) (user : UserRow) → HasRoot t user → IsHome t user.id user.root
@@ -214,7 +214,7 @@ under_home t user folder sound root is under =
     }
 
 -- of an item, whose owner is there
-home_there : (t : Tables) (item : ItemRow) (user : UserRow) → AreSound t → user_row t.users item.owner ≡ Some user → IsHome t item.owner (home_of t item)
+pub home_there : (t : Tables) (item : ItemRow) (user : UserRow) → AreSound t → user_row t.users item.owner ≡ Some user → IsHome t item.owner (home_of t item)
 home_there t item user sound there =
     subst (λ (n : ℕ). IsHome t n (home_of t item)) (eqb-true user.id item.owner found.0)
     (here (is_folder t.nodes item.from) (is_under t.nodes item.from root) refl refl)
@@ -255,7 +255,7 @@ none_there None is = refl
 none_there (Some x) is = absurd (cc)
 
 -- the name under which it does is free there, also of mounts
-name_free : (t : Tables) (user folder : ℕ) (name : List ℕ) → AreSound t → owner_of t.nodes folder ≡ user
+pub name_free : (t : Tables) (user folder : ℕ) (name : List ℕ) → AreSound t → owner_of t.nodes folder ≡ user
     → let free = free_name_of name (names_taken_in t user folder) in (child_of t.nodes folder free ≡ None) × IsUnmounted t folder free
 name_free t user folder name sound owner = here (folder == root_folder t.users user) refl
   where
