@@ -13,7 +13,6 @@ pub mod Copied
 pub mod Counters
 pub mod Crossed
 pub mod Crossing
-pub mod Discarding
 pub mod Ended
 pub mod Entries
 pub mod Exceeding
@@ -26,6 +25,7 @@ pub mod Held
 pub mod Lines
 pub mod Links
 pub mod Leaning
+pub mod Leaving
 pub mod Lists
 pub mod Locking
 pub mod May

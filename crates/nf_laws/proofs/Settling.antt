@@ -5,7 +5,7 @@ use Rattle.std.specs.List.{All, list_any}
 use Rattle.std.specs.Option.{option_and_then, option_map_or}
 use Rattle.std.proofs.lemmas.Bool.{eq-eqb, eqb-true, false≢true, ne_eqb}
 use Rattle.std.proofs.lemmas.List.{map-id}
-use Rattle.std.proofs.lemmas.List.Elements.{All-cons, All-contains_itself, All-filter, All-map, All-nil, All-weaker, filter_passes}
+use Rattle.std.proofs.lemmas.List.Elements.{All-cons, All-filter, All-map, All-nil, All-weaker, filter_passes}
 use Rattle.std.proofs.lemmas.Option.{none-some}
 use Rattle.nf_base.specs.declared.perms.Act.TheVariants.{Delete}
 use Rattle.nf_base.specs.declared.rows.ItemRow.{ItemRow}
@@ -14,13 +14,13 @@ use Rattle.nf_defs.proofs.Puts.{below_one, tail_rising}
 use Rattle.nf_defs.specs.Prelude.{IsRising, item_key, item_row, node_row, Tables, user_row}
 use Rattle.nf_defs.specs.declared.Seeker.{Seeker}
 use Rattle.nf_laws.proofs.Climbs.{some_there}
-use Rattle.nf_laws.proofs.Discarding.{discarded_follow, discarded_items, discarded_shares, no_item, purged_follow, purged_items, purged_shares}
 use Rattle.nf_laws.proofs.Following.{AllFollow}
+use Rattle.nf_laws.proofs.Leaving.{discarded_follow, discarded_items, discarded_shares, present_no_item, purged_follow, purged_items, purged_shares, same_items}
 use Rattle.nf_laws.proofs.Remaining.{shares_present}
 use Rattle.nf_laws.proofs.Rows.{found_is, stamp, stamped_has}
 use Rattle.nf_laws.proofs.Trashed.{home_there, IsHome, name_free, purged_stamped}
 use Rattle.nf_laws.proofs.Upwards.{owners_there}
-use Rattle.nf_laws.specs.Access.{by_asking, by_delete, ChangesAllowed, IsNeeded, IsSettled, ItemsFollow, MayDo, NodesAllowed, needs_of, seeker_at, Settles, shares_without}
+use Rattle.nf_laws.specs.Access.{by_asking, by_delete, ChangesAllowed, IsNeeded, IsSettled, ItemsFollow, MayDo, needs_of, NodesAllowed, seeker_at, Settles, shares_without}
 use Rattle.nf_words.proofs.Known.{IsItem, Known, KnownGone}
 use Rattle.nf_words.proofs.Trashing.{gone_has, own_there}
 use Rattle.nf_words.specs.Others.{IsItemSound}
@@ -93,15 +93,9 @@ module _ (t : Tables) (sound : AreSound t) where
       (found_is (λ (r : NodeRow). is_some (user_row t.users r.owner) ≡ true) (λ (r : NodeRow). r.id == item.node) t.nodes is.of (owners_there t sound) is.there).1 in
       home_there t item user.0 sound (ap (user_row t.users) (sym is.owner) ∙ user.1)
 
-  -- what is present is no item
-  present_no_item : (node : ℕ) → LeadsToRoot t.nodes node → IsItem t node → ⊥
-  present_no_item node up is =
-      let item = some_there (item_row t.items node) is in
-      let found = found_is (λ (item : ItemRow). item.node ≢ node) (λ (item : ItemRow). item.node == node) t.items item.0 (no_item t node sound up) item.1 in
-      found.1 (eqb-true item.0.node node found.0)
-
+  -- what is present goes as no item
   present_goes : (node : ℕ) → LeadsToRoot t.nodes node → IsItem t node ⊎ KnownGone t node → KnownGone t node
-  present_goes node up (inl item) = absurd (present_no_item node up item)
+  present_goes node up (inl item) = absurd (present_no_item t node sound up item)
   present_goes node up (inr goes) = goes
 
 -- ---- what goes then
@@ -118,9 +112,6 @@ some_settled s e made user tops items settles =
     record { user = user; tops = tops; items = items; settles = λ some. settles; gone = sym (purged_stamped made e.moment tops) }
 
 -- ---- where nothing else is done
-
-pub same_items : (needs : List Need) (now : ℕ) (items : List ItemRow) → ItemsFollow needs now items items
-same_items needs now items = (λ k d within. inl (All-contains_itself items k d within), λ item is. is)
 
 pub same_shares : (t : Tables) → AreSound t → t.shares ≡ shares_without t.nodes t.shares
 same_shares t sound =
@@ -192,7 +183,7 @@ module _ (s : State) (e : Entry) (sound : IsSound s) where
     items_gone : (nodes : List ℕ) → All EitherOf nodes → All (IsItem t) nodes → All (IsOf t row.owner) nodes
     items_gone nodes either items k d within =
         elim (either k d within) [
-          | inl same ↦ absurd (present_no_item t sound.rows row.id present (subst (IsItem t) same (items k d within)))
+          | inl same ↦ absurd (present_no_item t row.id sound.rows present (subst (IsItem t) same (items k d within)))
           | inr of ↦ of
         ]
 

@@ -1,29 +1,30 @@
 -- A node that is put in the trash, or that goes for good though it is present: what becomes of nodes, shares and items.
-use Rattle.std.proofs.Common.{ℕ, ◌≡◌, ◌≢◌, ◌≤◌, ◌⊎◌, Bool, true, false, not, List, [], ◌∷◌, Some, bytes_eq, option_map, refl, sym, ap, ◌∙◌, inl, inr}
+use Rattle.std.proofs.Common.{◌==◌, Option, None, subst, ℕ, ◌≡◌, ◌≢◌, ◌≤◌, ◌⊎◌, true, false, List, [], ◌∷◌, Some, option_map, refl, sym, ap, ◌∙◌, inl, inr}
+use Rattle.std.specs.Prelude.{is_some}
 use Rattle.std.specs.List.{All, Contains}
-use Rattle.std.proofs.lemmas.Bool.{false_from_ne_true, ne_eqb, not_from_false}
-use Rattle.std.proofs.lemmas.List.Elements.{All-contains, All-contains_itself, All-filter, All-weaker}
-use Rattle.std.proofs.lemmas.Slice.Eq.{bytes_eq-Decides}
+use Rattle.std.proofs.lemmas.Bool.{eqb-true, ne_eqb}
+use Rattle.std.proofs.lemmas.List.Elements.{All-contains, All-contains_itself, All-weaker}
 use Rattle.nf_base.specs.declared.perms.Act.TheVariants.{Delete}
 use Rattle.nf_base.specs.declared.rows.ItemRow.{ItemRow}
-use Rattle.nf_defs.proofs.ByName.{Contains-filter}
 use Rattle.nf_defs.proofs.Climbs.{under_climb}
 use Rattle.nf_defs.proofs.Puts.{all_put}
-use Rattle.nf_defs.specs.Prelude.{is_under, item_key, node_row, Tables}
+use Rattle.nf_defs.specs.Prelude.{is_under, item_key, item_row, node_row, Tables}
 use Rattle.nf_defs.specs.Tree.{trashed}
+use Rattle.nf_laws.proofs.Climbs.{some_there}
 use Rattle.nf_laws.proofs.Following.{AllFollow, deleted_follow, one_follows}
 use Rattle.nf_laws.proofs.Given.{put_contains}
 use Rattle.nf_laws.proofs.Gone.{left_leads, row_gone}
 use Rattle.nf_laws.proofs.Moved.{climb_below, outside_leads}
 use Rattle.nf_laws.proofs.OneRow.{row_itself, row_other}
-use Rattle.nf_laws.proofs.Others.{stamp_sound}
+use Rattle.nf_laws.proofs.Others.{item_none, stamp_sound}
+use Rattle.nf_laws.proofs.Presence.{climbs_there}
 use Rattle.nf_laws.proofs.Present.{never_trash}
-use Rattle.nf_laws.proofs.Remaining.{leads_there, shares_present, still_there}
-use Rattle.nf_laws.proofs.Rows.{stamp}
+use Rattle.nf_laws.proofs.Remaining.{shares_present, still_there}
+use Rattle.nf_laws.proofs.Rows.{found_is, stamp}
 use Rattle.nf_laws.proofs.Trashed.{deed_sound, purged_sound}
 use Rattle.nf_laws.proofs.Upwards.{never_climbs}
 use Rattle.nf_laws.specs.Access.{IsNeeded, is_trashed, ItemsFollow, shares_without}
-use Rattle.nf_words.proofs.Known.{KnownDiscard, KnownGone}
+use Rattle.nf_words.proofs.Known.{IsItem, KnownDiscard, KnownGone}
 use Rattle.nf_words.specs.Others.{IsItemSound}
 use Rattle.nf_words.specs.Prelude.{AreSound, discarded, LeadsToRoot, Need, purged}
 use Rattle.nf_words.specs.declared.answer.Deed.TheVariants as deed
@@ -33,6 +34,16 @@ pub no_item : (t : Tables) (node : ℕ) → AreSound t → LeadsToRoot t.nodes n
 no_item t node sound up =
     All-weaker (IsItemSound t) (λ (item : ItemRow). item.node ≢ node)
     (λ item is same. never_trash 0 t.nodes node item.node is.of up (ap Some (sym same)) is.there is.place) t.items sound.others.items
+
+pub present_no_item : (t : Tables) (node : ℕ) → AreSound t → LeadsToRoot t.nodes node → IsItem t node → ⊥
+present_no_item t node sound up is =
+    let item = some_there (item_row t.items node) is in
+    let found = found_is (λ (item : ItemRow). item.node ≢ node) (λ (item : ItemRow). item.node == node) t.items item.0 (no_item t node sound up) item.1 in
+    found.1 (eqb-true item.0.node node found.0)
+
+-- the items as they were
+pub same_items : (needs : List Need) (now : ℕ) (items : List ItemRow) → ItemsFollow needs now items items
+same_items needs now items = (λ k d within. inl (All-contains_itself items k d within), λ item is. is)
 
 -- ---- what is put in the trash
 
@@ -104,27 +115,13 @@ module _ (t : Tables) (now top : ℕ) (sound : AreSound t) (later : t.meta.last 
   purged_shares =
       shares_present t without_it (λ node. is_under t.nodes node top) sound
       (stamp_sound (purged t top) now (purged_sound t top sound (inr known)) later)
-      (λ node up goes still. still_there without_it.nodes node (row_gone t.nodes (Some top) node goes) (leads_there without_it.nodes node still))
+      (λ node up goes still. still_there without_it.nodes node (row_gone t.nodes (Some top) node goes) (climbs_there without_it.nodes node still))
       (λ node up stays. left_leads t top node sound stays up)
 
   -- no item is dropped, since it is none
   pub purged_items : (needs : List Need) → ItemsFollow needs now t.items without_it.items
-  purged_items needs = (
-    All-filter kept Of t.items (λ k d within. inl (All-contains_itself t.items k d within)),
-    λ item is. Contains-filter kept t.items item is (stays_item item is),
-  )
+  purged_items needs = here (item_row t.items top) refl
     where
-      kept : ItemRow → Bool
-      kept item = not (bytes_eq (top ∷ []) (item_key item))
-
-      Of : ItemRow → Type 0
-      Of other = Contains t.items other ⊎ (IsNeeded needs Delete other.node × (other.at ≡ now))
-
-      one : {a b : ℕ} → a ∷ [] ≡ b ∷ [] → a ≡ b
-      one e = cc
-
-      stays_item : (item : ItemRow) → Contains t.items item → kept item ≡ true
-      stays_item item is =
-          not_from_false (bytes_eq (top ∷ []) (item_key item)) (false_from_ne_true (bytes_eq (top ∷ []) (item_key item)) (λ same.
-          All-contains (λ (i : ItemRow). i.node ≢ top) t.items item (no_item t top sound known.present) is
-          (sym (one ((bytes_eq-Decides (top ∷ []) (item_key item)).0 same)))))
+      here : (o : Option ItemRow) → item_row t.items top ≡ o → ItemsFollow needs now t.items without_it.items
+      here None e = subst (ItemsFollow needs now t.items) (sym (item_none top t.items e)) (same_items needs now t.items)
+      here (Some item) e = absurd (present_no_item t top sound known.present (ap is_some e))
