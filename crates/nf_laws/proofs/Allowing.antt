@@ -175,7 +175,7 @@ module _ (s : State) (e : Entry) (words : Words) (request : Request) (decided : 
       asked : needed call ≡ needs_at act.Delete (way_of call spot) ++ []
       asked =
           ap (λ (w : Wanted). needs_between t.nodes (root_of call) (asked_of w) (option_map (way_of call) (asked_of w).source)
-              (option_map (way_of call) (asked_of w).target)) wanted
+          (option_map (way_of call) (asked_of w).target)) wanted
           ∙ rw itself refl
 
       here : (place : Found) → found call spot ≡ place → ChangesAllowed s e (changed t e.moment (deleted t e.moment (node_found place)))
