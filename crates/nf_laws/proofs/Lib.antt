@@ -42,6 +42,7 @@ pub mod Paths
 pub mod Presence
 pub mod Present
 pub mod Providing
+pub mod Purged
 pub mod Puts
 pub mod Quotas
 pub mod Reached

@@ -25,9 +25,9 @@ use Rattle.nf_base.specs.declared.rows.UserRow.{UserRow}
 use Rattle.nf_defs.proofs.Puts.{dropped_rising}
 use Rattle.nf_defs.specs.Prelude.{child_of, dropped, is_in, is_place_in, is_root, is_root_place, IsRising, item_key, item_row, key_cmp, mount_key, node_row, owner_of, share_key, Tables, user_row, with_node}
 use Rattle.nf_laws.proofs.Chained.{AreLinked, still_chained}
-use Rattle.nf_laws.proofs.Climbs.{IsClosed, map_some, row_of_those, some_there, those}
+use Rattle.nf_laws.proofs.Climbs.{map_some, row_of_those, some_there, those}
 use Rattle.nf_laws.proofs.OneRow.{KeepsId, row_with, with_each}
-use Rattle.nf_laws.proofs.Present.{kept_leads, those_leads}
+use Rattle.nf_laws.proofs.Present.{kept_leads}
 use Rattle.nf_laws.proofs.Rows.{AreKept, counters_up, each_fails, finds_none, found_is, Kept, kept_joined, kept_row, no_value, node_kept, none_higher, root_kept, row_is, row_joined, stamp, with_nodes}
 use Rattle.nf_laws.specs.Numbers.{AreHigher}
 use Rattle.nf_words.specs.Others.{AreMountsApart, AreOthersSound, IsChunkSound, IsItemSound, IsKindSound, IsMountSound, IsOfNode, IsShareSound, IsUploadSound, IsVersionSound}
@@ -163,10 +163,12 @@ items_dropped t gone node sound goes stays = record {
   fine = λ k d within.
       let item = get_or (dropped item_key (node ∷ []) t.items) k d in
       let is = All-filter passes (IsItemSound t) t.items sound.others.items k d within in
-      let off = filter_passes passes t.items k d within in
-      (is, stays item.node is.of is.there is.place (λ same.
-      both_ways (bytes_eq (node ∷ []) (item_key item)) (not-true (bytes_eq (node ∷ []) (item_key item)) off)
-      ((bytes_eq-Decides (node ∷ []) (item_key item)).1 (ap (λ (n : ℕ). n ∷ []) (sym same)))));
+      let off = filter_passes passes t.items k d within in (
+        is,
+        stays item.node is.of is.there is.place (λ same.
+            both_ways (bytes_eq (node ∷ []) (item_key item)) (not-true (bytes_eq (node ∷ []) (item_key item)) off)
+            ((bytes_eq-Decides (node ∷ []) (item_key item)).1 (ap (λ (n : ℕ). n ∷ []) (sym same)))),
+      );
   rise = dropped_rising item_key (node ∷ []) t.items sound.others.items_rise;
   there = λ other row there place left.
       ap is_some (item_other node other t.items (λ same.

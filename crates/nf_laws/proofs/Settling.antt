@@ -1,6 +1,5 @@
 -- A DELETE, and what is asked about the trash: what goes for good is of the trash of one user.
 use Rattle.std.proofs.Common.{ℕ, zero, suc, ◌==◌, ◌≡◌, ◌≢◌, ◌⊎◌, ◌≤◌, Bool, true, false, not, List, [], ◌∷◌, Option, None, Some, filter, map, get_or, if◌then◌else◌, refl, sym, ap, subst, ◌∙◌, inl, inr, arith}
-use Rattle.std.specs.Prelude.{is_some}
 use Rattle.std.specs.List.{All, list_any}
 use Rattle.std.specs.Option.{option_and_then, option_map_or}
 use Rattle.std.proofs.lemmas.Bool.{eq-eqb, eqb-true, false≢true, ne_eqb}
@@ -11,19 +10,16 @@ use Rattle.nf_base.specs.declared.perms.Act.TheVariants.{Delete}
 use Rattle.nf_base.specs.declared.rows.ItemRow.{ItemRow}
 use Rattle.nf_base.specs.declared.rows.NodeRow.{NodeRow}
 use Rattle.nf_defs.proofs.Puts.{below_one, tail_rising}
-use Rattle.nf_defs.specs.Prelude.{IsRising, item_key, item_row, node_row, Tables, user_row}
+use Rattle.nf_defs.specs.Prelude.{IsRising, item_key, item_row, node_row, Tables}
 use Rattle.nf_defs.specs.declared.Seeker.{Seeker}
-use Rattle.nf_laws.proofs.Climbs.{some_there}
 use Rattle.nf_laws.proofs.Following.{AllFollow}
 use Rattle.nf_laws.proofs.Leaving.{discarded_follow, discarded_items, discarded_shares, present_no_item, purged_follow, purged_items, purged_shares, same_items}
 use Rattle.nf_laws.proofs.Remaining.{shares_present}
 use Rattle.nf_laws.proofs.Rows.{found_is, stamp, stamped_has}
-use Rattle.nf_laws.proofs.Trashed.{home_there, IsHome, name_free, purged_stamped}
-use Rattle.nf_laws.proofs.Upwards.{owners_there}
+use Rattle.nf_laws.proofs.Trashed.{home_fits, purged_stamped}
 use Rattle.nf_laws.specs.Access.{by_asking, by_delete, ChangesAllowed, IsNeeded, IsSettled, ItemsFollow, MayDo, needs_of, NodesAllowed, seeker_at, Settles, shares_without}
 use Rattle.nf_words.proofs.Known.{IsItem, Known, KnownGone}
 use Rattle.nf_words.proofs.Trashing.{gone_has, own_there}
-use Rattle.nf_words.specs.Others.{IsItemSound}
 use Rattle.nf_words.specs.Prelude.{altered, AreSound, asker_of, Call, call_of, changed, deed_done, discard, gone_beside, gone_of, home_of, IsSound, item_dropped, item_for, item_if_of, item_restored, items_but, items_of, LeadsToRoot, name_back, Need, nothing_done, own_item, purged, purged_all, quota_of, restored, State, told, trash_done}
 use Rattle.nf_words.specs.declared.answer.Allowed.{Allowed}
 use Rattle.nf_words.specs.declared.answer.Allowed.TheVariants as allowed
@@ -84,14 +80,6 @@ module _ (t : Tables) (sound : AreSound t) where
       owned : (b : Bool) → (item.owner == user) ≡ b → (if b then Some item else None) ≡ Some item → item.owner ≡ user
       owned true e is = eqb-true item.owner user e
       owned false e is = absurd (none-some item is)
-
-  -- where an item comes back to is a folder of its owner's
-  item_home : (item : ItemRow) → item_row t.items item.node ≡ Some item → IsHome t item.owner (home_of t item)
-  item_home item there =
-      let is = (found_is (IsItemSound t) (λ (other : ItemRow). other.node == item.node) t.items item sound.others.items there).1 in
-      let user = some_there (user_row t.users is.of.owner)
-      (found_is (λ (r : NodeRow). is_some (user_row t.users r.owner) ≡ true) (λ (r : NodeRow). r.id == item.node) t.nodes is.of (owners_there t sound) is.there).1 in
-      home_there t item user.0 sound (ap (user_row t.users) (sym is.owner) ∙ user.1)
 
   -- what is present goes as no item
   present_goes : (node : ℕ) → LeadsToRoot t.nodes node → IsItem t node ⊎ KnownGone t node → KnownGone t node
@@ -269,7 +257,7 @@ module _ (s : State) (e : Entry) (sound : IsSound s) where
         let own = own_of t sound.rows asker node item is in
         let home = home_of t item in
         let name = name_back t item in
-        let at = item_home t sound.rows item (ap (item_row t.items) own.1 ∙ own.0) in
+        let at = home_fits t item sound.rows (ap (item_row t.items) own.1 ∙ own.0) in
         let made = restored t item.node home name in
         by_stamp (item_restored t now item)
         (record {
@@ -283,9 +271,9 @@ module _ (s : State) (e : Entry) (sound : IsSound s) where
             wanted = wanted;
             item = item;
             own = is;
-            folds = at.in_folder;
-            owner = at.owned;
-            free = (name_free t item.owner home item.name sound.rows at.owned).0;
+            folds = at.0;
+            owner = at.1;
+            free = at.2;
             rows = ap (λ (n : ℕ). stamp (restored t n home name) now) own.1;
           }));
           settled = some_settled s e made asker (gone_beside t now item)

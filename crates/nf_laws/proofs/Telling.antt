@@ -510,8 +510,7 @@ module _ (t : Tables) (now : ℕ) (sound : AreSound t) where
       let row = known.row in
       let other = trashed_other row item.from known.inside in
       let closed = closed_under t.nodes t.shares item.node in
-      subst (λ (o : Option NodeRow). TellsDeed (deed.Discard item) (told_node o trashed ++ Put (rows.Item item) ∷ closed)) (sym known.there)
-      (
+      subst (λ (o : Option NodeRow). TellsDeed (deed.Discard item) (told_node o trashed ++ Put (rows.Item item) ∷ closed)) (sym known.there) (
         λ rest.
             ap (λ (all : List NodeRow). put_all (record t { nodes = all; items = put item_key item t.items }) (closed ++ rest))
             (put_changed t.nodes item.node trashed row refl sound.rising known.there)
@@ -533,8 +532,7 @@ module _ (t : Tables) (now : ℕ) (sound : AreSound t) where
       let row = top.0 in
       let change = relinked folder name in
       let other = back_other row folder name top.2 in
-      subst (λ (o : Option NodeRow). TellsDeed (deed.Restore node folder name) (Drop (keys.Item node) ∷ told_node o change)) (sym top.1)
-      (
+      subst (λ (o : Option NodeRow). TellsDeed (deed.Restore node folder name) (Drop (keys.Item node) ∷ told_node o change)) (sym top.1) (
         λ rest.
             ap (λ (all : List NodeRow). put_all (record t { nodes = all; items = dropped item_key (node ∷ []) t.items }) rest)
             (put_changed t.nodes node change row refl sound.rising top.1),

@@ -1,13 +1,12 @@
 -- The tables with what is put in the trash, comes back or goes for good are sound.
-use Rattle.std.proofs.Common.{inl, inr, ℕ, ◌==◌, ◌≡◌, ◌≢◌, ◌⊎◌, ◌&&◌, ◌≤◌, suc, Bool, true, false, not, List, [], ◌∷◌, Option, None, Some, bytes_eq, length, map, get_or, if◌then◌else◌, refl, sym, ap, subst, ◌∙◌, arith, le_refl, filter, option_map}
+use Rattle.std.proofs.Common.{inl, inr, ℕ, ◌==◌, ◌≡◌, ◌≢◌, ◌⊎◌, ◌&&◌, ◌≤◌, suc, Bool, true, false, not, List, [], ◌∷◌, Option, None, Some, length, get_or, if◌then◌else◌, refl, sym, ap, subst, ◌∙◌, arith, le_refl, filter, option_map}
 use Rattle.std.specs.Prelude.{is_some}
 use Rattle.std.specs.List.{All, AllPairs}
 use Rattle.std.specs.Option.{option_map_or}
-use Rattle.std.proofs.lemmas.Bool.{and_parts, both_ways, cases_Bool, cond_both, eq-eqb, eqb-true, false_from_ne_true, ne_eqb, not_from_false}
+use Rattle.std.proofs.lemmas.Bool.{both_ways, cases_Bool, eq-eqb, eqb-true, false_from_ne_true, ne_eqb, not_from_false}
 use Rattle.std.proofs.lemmas.List.{length-map}
-use Rattle.std.proofs.lemmas.List.Elements.{All-head, All-nil, All-tail, All-weaker}
+use Rattle.std.proofs.lemmas.List.Elements.{All-head, All-tail, All-weaker}
 use Rattle.std.proofs.lemmas.List.Filters.{length-filter_both}
-use Rattle.std.proofs.lemmas.Option.{none-some, same_Some}
 use Rattle.nf_access.proofs.Naming.{free_is_free, taken_child}
 use Rattle.nf_access.specs.Mounts.{free_name_of, mount_at, names_in_root, root_folder}
 use Rattle.nf_base.specs.declared.changes.Change.TheVariants.{Put}
@@ -19,21 +18,21 @@ use Rattle.nf_base.specs.declared.rows.Row.TheVariants as rows
 use Rattle.nf_base.specs.declared.rows.UserRow.{UserRow}
 use Rattle.nf_defs.proofs.Climbs.{climb_under, under_climb}
 use Rattle.nf_defs.proofs.Puts.{all_put, put_rising}
-use Rattle.nf_defs.specs.Prelude.{child_of, dropped, is_folder, is_folder_kind, is_in, is_root, is_root_place, is_under, item_key, item_row, made, node_row, owner_of, put, Tables, taken_names, user_row, with_node}
+use Rattle.nf_defs.specs.Prelude.{child_of, dropped, is_folder, is_folder_kind, is_in, is_root, is_root_place, is_under, item_key, item_row, made, node_row, owner_of, put, Tables, taken_names, user_row}
 use Rattle.nf_defs.specs.Tree.{trashed}
 use Rattle.nf_laws.proofs.Climbs.{node_row_each, some_there}
 use Rattle.nf_laws.proofs.Gone.{folder_left, root_left, those_sound}
-use Rattle.nf_laws.proofs.Moved.{climb_below, deep_below, Fits, names_turned, no_root_row, others_same, outside_leads, outside_rooted, relinked_sound, root_turned}
+use Rattle.nf_laws.proofs.Moved.{below_leads, climb_below, deep_below, Fits, moved_leads, names_turned, no_root_row, others_same, outside_leads, outside_rooted, relinked_sound, root_turned}
 use Rattle.nf_laws.proofs.OneRow.{KeepsId, length_with, pieces_with, rising_with, row_itself, value_with, with_each}
-use Rattle.nf_laws.proofs.Others.{item_other, items_all, items_dropped, items_left, ItemsLeft, IsSeenSo, off_with, others_ended, stamp_sound, was_with}
-use Rattle.nf_laws.proofs.Paths.{climb_own, IsOf}
+use Rattle.nf_laws.proofs.Others.{item_other, items_all, items_dropped, items_left, IsSeenSo, off_with, others_ended, stamp_sound, was_with}
+use Rattle.nf_laws.proofs.Paths.{climb_own}
 use Rattle.nf_laws.proofs.Peopled.{people_sound}
 use Rattle.nf_laws.proofs.Present.{below_present, never_trash, root_leads, trash_alone}
 use Rattle.nf_laws.proofs.Puts.{number_found, other_number}
 use Rattle.nf_laws.proofs.Rows.{folder_there, found_is, IsRooted, node_still, row_is, stamp}
 use Rattle.nf_laws.proofs.Upwards.{climb_short, never_climbs, owners_there}
 use Rattle.nf_words.proofs.Ensured.{free_in_root}
-use Rattle.nf_words.proofs.Known.{IsItem, KnownDeed, KnownDiscard, KnownGoes, KnownGone, KnownRestore, KnownTrash}
+use Rattle.nf_words.proofs.Known.{IsItem, KnownDeed, KnownGoes, KnownGone, KnownRestore, KnownTrash}
 use Rattle.nf_words.specs.Others.{IsItemSound}
 use Rattle.nf_words.specs.Prelude.{AreSound, deed_done, discarded, HasRoot, home_of, IsNodeSound, IsPlaceSound, IsUnmounted, LeadsToRoot, name_back, names_taken_in, purged, purged_all, restored, root_of_user}
 use Rattle.nf_words.specs.declared.answer.Deed.{Deed}
@@ -75,10 +74,12 @@ trash_other rows node other row there place differs =
     not_from_false (is_under rows other node) (false_from_ne_true (is_under rows other node) (λ under.
     let c = under_climb rows other node under in differs (trash_alone c.0 rows other node row there place c.2)))
 
+-- what goes is no root
 goes_no_root : (t : Tables) (node : ℕ) → AreSound t → IsItem t node ⊎ KnownGone t node → is_root t.nodes node ≡ false
 goes_no_root t node sound (inl is) = let top = item_top t node sound is in trash_no_root t.nodes node top.0 top.1 top.2
 goes_no_root t node sound (inr known) = known.no_root
 
+-- without what goes for good the tables are sound
 pub purged_sound : (t : Tables) (node : ℕ) → AreSound t → IsItem t node ⊎ KnownGone t node → AreSound (purged t node)
 purged_sound t node sound goes =
     let gone : ℕ → Bool = λ other. is_under t.nodes other node in
@@ -87,6 +88,12 @@ purged_sound t node sound goes =
     (root_left t node (goes_no_root t node sound goes))
 
 -- ---- what is put in the trash
+
+-- what is present and isn't under what is put in the trash is present then
+pub discarded_leads : (t : Tables) (item : ItemRow) (other : ℕ) → AreSound t → is_under t.nodes other item.node ≡ false → LeadsToRoot t.nodes other
+    → LeadsToRoot (discarded t item).nodes other
+discarded_leads t item other sound outside up =
+    outside_leads t.nodes item.node trashed (λ row. refl) other (never_climbs t other item.node sound outside) up
 
 module _ (t : Tables) (item : ItemRow) (row : NodeRow) (folder : ℕ) (sound : AreSound t) (at : item.at ≤ t.meta.last)
     (there : node_row t.nodes item.node ≡ Some row) (inside : row.place ≡ Inside folder) (present : LeadsToRoot t.nodes item.node)
@@ -138,11 +145,10 @@ module _ (t : Tables) (item : ItemRow) (row : NodeRow) (folder : ℕ) (sound : A
   trash_itself : (other : NodeRow) → node_row t.nodes top ≡ Some other → node_row t.nodes other.id ≡ Some other → IsNodeSound t other
       → IsNodeSound binned (trashed other)
   trash_itself other is of h =
-      node_still t binned other Trash other.name (le_refl _) (le_refl _) (le_refl _) h
-      (
+      node_still t binned other Trash other.name (le_refl _) (le_refl _) (le_refl _) h (
         (found_is (λ (r : NodeRow). is_some (user_row t.users r.owner) ≡ true) (λ (r : NodeRow). r.id == other.id) t.nodes other (owners_there t sound) of).1,
         ap (λ (n : ℕ). is_some (item_row binned.items n)) (row_is t top other sound is).0
-        ∙ ap is_some (number_found (λ (i : ItemRow). i.node) item t.items),
+            ∙ ap is_some (number_found (λ (i : ItemRow). i.node) item t.items),
       ) (trash_rooted other of)
 
   seen_trashed : IsSeenSo t top trashed
@@ -162,6 +168,7 @@ module _ (t : Tables) (item : ItemRow) (row : NodeRow) (folder : ℕ) (sound : A
       (items_all t (λ other. other == top) sound (λ other old of place.
       ap not (ne_eqb other top (λ same. never_trash 0 t.nodes top other old present (ap Some (sym same)) of place)))))
 
+  -- with it in the trash the tables are sound
   pub discarded_sound : AreSound binned
   discarded_sound =
       let counts = length_with t.nodes top trashed in
@@ -180,7 +187,7 @@ module _ (t : Tables) (item : ItemRow) (row : NodeRow) (folder : ℕ) (sound : A
         few_pieces = omega (arith, sound.few_pieces, pieces_with t.nodes top trashed 0 (λ row is. omega arith));
         later = sound.later;
         others = others_ended t (λ n. is_under t.nodes n top) binned.nodes binned.items sound (was_with t top trashed seen_trashed)
-            (λ n stays up. outside_leads t.nodes top trashed keeps n (never_climbs t n top sound stays) up)
+            (λ n stays up. discarded_leads t item n sound stays up)
             (off_with t top trashed sound seen_trashed) items_trashed (put_rising item_key item t.items sound.others.items_rise);
       }
 
@@ -213,8 +220,8 @@ under_home t user folder sound root is under =
           ∙ climb_own c.0 t user.id folder user.root row.0 sound c.2 (record { row = root.row; there = root.there; owner = root.owner }) row.1;
     }
 
--- of an item, whose owner is there
-pub home_there : (t : Tables) (item : ItemRow) (user : UserRow) → AreSound t → user_row t.users item.owner ≡ Some user → IsHome t item.owner (home_of t item)
+-- so is the home of an item, whose owner is there
+home_there : (t : Tables) (item : ItemRow) (user : UserRow) → AreSound t → user_row t.users item.owner ≡ Some user → IsHome t item.owner (home_of t item)
 home_there t item user sound there =
     subst (λ (n : ℕ). IsHome t n (home_of t item)) (eqb-true user.id item.owner found.0)
     (here (is_folder t.nodes item.from) (is_under t.nodes item.from root) refl refl)
@@ -236,6 +243,13 @@ home_there t item user sound there =
     here true false e f = top
     here false b e f = top
 
+pub item_home : (t : Tables) (node : ℕ) (item : ItemRow) → AreSound t → item_row t.items node ≡ Some item → IsHome t item.owner (home_of t item)
+item_home t node item sound there =
+    let is = (found_is (IsItemSound t) (λ (item : ItemRow). item.node == node) t.items item sound.others.items there).1 in
+    let user = some_there (user_row t.users is.of.owner)
+    (found_is (λ (r : NodeRow). is_some (user_row t.users r.owner) ≡ true) (λ (r : NodeRow). r.id == item.node) t.nodes is.of (owners_there t sound) is.there).1 in
+    home_there t item user.0 sound (ap (user_row t.users) (sym is.owner) ∙ user.1)
+
 -- a root of a user's is that of the user
 owner_root : (t : Tables) (folder : ℕ) → AreSound t → is_root t.nodes folder ≡ true → folder ≡ root_folder t.users (owner_of t.nodes folder)
 owner_root t folder sound is = here (node_row t.nodes folder) refl is
@@ -250,6 +264,7 @@ owner_root t folder sound is = here (node_row t.nodes folder) refl is
     here None e root = absurd (cc)
     here (Some row) e root = let fine = row_is t folder row sound e in sym fine.0 ∙ placed row row.place root fine.1.place
 
+-- what isn't there is none
 none_there : {X : Type 0} (o : Option X) → is_some o ≡ false → o ≡ None
 none_there None is = refl
 none_there (Some x) is = absurd (cc)
@@ -285,37 +300,65 @@ name_free t user folder name sound owner = here (folder == root_folder t.users u
               (eq-eqb folder (root_folder t.users user) (owner_root t folder sound root ∙ ap (root_folder t.users) owner))),
         )
 
-restored_sound : (t : Tables) (node folder : ℕ) (name : List ℕ) → AreSound t → KnownRestore t node folder name → AreSound (restored t node folder name)
-restored_sound t node folder name sound known =
+-- so the folder of an item is its owner's, and its name is free there
+pub home_fits : (t : Tables) (item : ItemRow) → AreSound t → item_row t.items item.node ≡ Some item
+    → (is_folder t.nodes (home_of t item) ≡ true) × (owner_of t.nodes (home_of t item) ≡ item.owner)
+    × (child_of t.nodes (home_of t item) (name_back t item) ≡ None)
+home_fits t item sound there =
+    let home = item_home t item.node item sound there in
+    (home.in_folder, home.owned, (name_free t item.owner (home_of t item) item.name sound home.owned).0)
+
+-- what comes back fits there
+pub restored_fits : (t : Tables) (node folder : ℕ) (name : List ℕ) → AreSound t → KnownRestore t node folder name
+    → (row : NodeRow) × Fits t (dropped item_key (node ∷ []) t.items) node folder name row
+restored_fits t node folder name sound known =
     let item = known.item in
     let found = found_is (IsItemSound t) (λ (item : ItemRow). item.node == node) t.items item sound.others.items known.there in
     let row = found.1.of in
     let there : node_row t.nodes node ≡ Some row =
     subst (λ (n : ℕ). node_row t.nodes n ≡ Some row) (eqb-true item.node node found.0) found.1.there in
     let place = found.1.place in
-    let user = some_there (user_row t.users row.owner)
-    (found_is (λ (r : NodeRow). is_some (user_row t.users r.owner) ≡ true) (λ (r : NodeRow). r.id == node) t.nodes row (owners_there t sound) there).1 in
-    let home = subst (IsHome t item.owner) (sym known.home)
-    (home_there t item user.0 sound (ap (user_row t.users) (sym found.1.owner) ∙ user.1)) in
+    let home = subst (IsHome t item.owner) (sym known.home) (item_home t node item sound known.there) in
     let free : (child_of t.nodes folder name ≡ None) × IsUnmounted t folder name =
     subst (λ (n : List ℕ). (child_of t.nodes folder n ≡ None) × IsUnmounted t folder n)
     (ap (λ (n : ℕ). free_name_of item.name (names_taken_in t item.owner n)) known.home ∙ sym known.named)
-    (name_free t item.owner folder item.name sound home.owned) in
-    relinked_sound t (dropped item_key (node ∷ []) t.items) node folder name row sound
-    (record {
-      there = there;
-      no_root = trash_no_root t.nodes node row there place;
-      left = items_dropped t (λ other. other == node) node sound (eq-eqb node node refl)
-          (λ other old of trash differs. ap not (ne_eqb other node differs));
-      in_folder = home.in_folder;
-      folder_present = home.present;
-      owner = home.owned ∙ sym found.1.owner;
-      free = free.0;
-      unmounted = free.1;
-      outside = false_from_ne_true (is_under t.nodes folder node) (λ under.
-          let c = under_climb t.nodes folder node under in never_trash c.0 t.nodes folder node row home.present c.2 there place);
-      shallow = λ j below other of climbs. deep_below t node folder j below sound climbs known.deep;
-    })
+    (name_free t item.owner folder item.name sound home.owned) in (
+      row,
+      record {
+        there = there;
+        no_root = trash_no_root t.nodes node row there place;
+        left = items_dropped t (λ other. other == node) node sound (eq-eqb node node refl)
+            (λ other old of trash differs. ap not (ne_eqb other node differs));
+        in_folder = home.in_folder;
+        folder_present = home.present;
+        owner = home.owned ∙ sym found.1.owner;
+        free = free.0;
+        unmounted = free.1;
+        outside = false_from_ne_true (is_under t.nodes folder node) (λ under.
+            let c = under_climb t.nodes folder node under in never_trash c.0 t.nodes folder node row home.present c.2 there place);
+        shallow = λ j below other of climbs. deep_below t node folder j below sound climbs known.deep;
+      },
+    )
+
+-- with what comes back the tables are sound
+pub restored_sound : (t : Tables) (node folder : ℕ) (name : List ℕ) → AreSound t → KnownRestore t node folder name → AreSound (restored t node folder name)
+restored_sound t node folder name sound known =
+    let fits = restored_fits t node folder name sound known in
+    relinked_sound t (dropped item_key (node ∷ []) t.items) node folder name fits.0 sound fits.1
+
+-- what was present is so
+pub restored_leads : (t : Tables) (node folder : ℕ) (name : List ℕ) (other : ℕ) → AreSound t → KnownRestore t node folder name
+    → LeadsToRoot t.nodes other → LeadsToRoot (restored t node folder name).nodes other
+restored_leads t node folder name other sound known =
+    let fits = restored_fits t node folder name sound known in
+    moved_leads t (dropped item_key (node ∷ []) t.items) node folder name fits.0 sound fits.1 other
+
+-- and so is what is under what comes back
+pub restored_below : (t : Tables) (node folder : ℕ) (name : List ℕ) (other : ℕ) → AreSound t → KnownRestore t node folder name
+    → is_under t.nodes other node ≡ true → LeadsToRoot (restored t node folder name).nodes other
+restored_below t node folder name other sound known =
+    let fits = restored_fits t node folder name sound known in
+    below_leads t (dropped item_key (node ∷ []) t.items) node folder name fits.0 sound fits.1 other
 
 -- ---- deeds
 
@@ -342,6 +385,7 @@ deed_sound_at t now moment (deed.Restore node folder name) sound later after kno
 deed_sound_at t now moment (deed.Requote row) sound later after known =
     stamp_sound (made t (Put (rows.User row))) moment (people_sound t (Put (rows.User row)) sound known) later
 
+-- and so at the moment of the deed
 pub deed_sound : (t : Tables) (now : ℕ) (did : Deed) → AreSound t → t.meta.last ≤ now → KnownDeed t now did → AreSound (stamp (deed_done t did) now)
 deed_sound t now did sound later known = deed_sound_at t now now did sound later (le_refl _) known
 
@@ -371,6 +415,7 @@ goes_done t now (deed.Restore node folder name) gone sound known =
 goes_done t now (deed.Requote row) gone sound known =
     goes_all (stamp (deed_done t (deed.Requote row)) now) gone (known.items (λ same. absurd (cc)))
 
+-- those behind the first go on
 pub goes_on : (t : Tables) (node : ℕ) (nodes : List ℕ) → AreSound t → KnownGoes t (node ∷ nodes) → AllPairs (λ (a b : ℕ). a ≢ b) (node ∷ nodes)
     → KnownGoes (purged t node) nodes
 goes_on t node nodes sound goes once =
@@ -394,6 +439,7 @@ trash_has P t now did gone sound later known has keeps =
     subst P (purged_stamped (deed_done t did) now gone)
     (goes_has P (stamp (deed_done t did) now) gone (deed_sound t now did sound later known.known) (goes_done t now did gone sound known) known.once has keeps)
 
+-- so the tables with a deed done and without what goes are sound
 pub trash_sound : (t : Tables) (now : ℕ) (did : Deed) (gone : List ℕ) → AreSound t → t.meta.last ≤ now → KnownTrash t now did gone
     → AreSound (stamp (purged_all (deed_done t did) gone) now)
 trash_sound t now did gone sound later known =
