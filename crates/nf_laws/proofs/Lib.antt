@@ -13,6 +13,7 @@ pub mod Copied
 pub mod Counters
 pub mod Crossed
 pub mod Crossing
+pub mod Discarding
 pub mod Ended
 pub mod Entries
 pub mod Exceeding
@@ -40,12 +41,14 @@ pub mod Paths
 pub mod Presence
 pub mod Present
 pub mod Providing
+pub mod Purged
 pub mod Puts
 pub mod Quotas
 pub mod Reached
 pub mod Reaching
 pub mod Reading
 pub mod Replaced
+pub mod Restoring
 pub mod Rows
 pub mod Sharing
 pub mod Sizes

@@ -90,7 +90,7 @@ nodes_two (item ∷ items) pairs =
     (nodes_two items (tails AreTwo item items pairs))
 
 -- what the nodes of some items have, those of them that go have
-gone_has : (P : ℕ → Type 0) (t : Tables) (now quota : ℕ) (items : List ItemRow) → All (λ (item : ItemRow). P item.node) items
+pub gone_has : (P : ℕ → Type 0) (t : Tables) (now quota : ℕ) (items : List ItemRow) → All (λ (item : ItemRow). P item.node) items
     → All P (gone_of t now quota items)
 gone_has P t now quota items all =
     All-map P (λ (item : ItemRow). item.node) _
@@ -123,7 +123,7 @@ module _ (t : Tables) (sound : AreSound t) where
       items (item_there items))
 
   -- each is an item, and they are of different nodes
-  of_user : (user : ℕ) → All (λ (item : ItemRow). IsItem t item.node) (items_of t user)
+  pub of_user : (user : ℕ) → All (λ (item : ItemRow). IsItem t item.node) (items_of t user)
   of_user user = All-filter (λ (item : ItemRow). item.owner == user) (λ (item : ItemRow). IsItem t item.node) t.items (item_there t.items)
 
   all_two : AllPairs AreTwo t.items
