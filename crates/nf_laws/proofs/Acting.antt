@@ -1,5 +1,5 @@
 -- What a DELETE, a MKCOL and a PUT change, and a MOVE of a mount.
-use Rattle.std.proofs.Common.{max, ℕ, ◌+◌, ◌-◌, option_map, ◌==◌, ◌&&◌, ◌≡◌, ◌<◌, ◌≤◌, Bool, true, false, not, List, [], ◌∷◌, ◌++◌, Option, None, Some, Result, Ok, if◌then◌else◌, length, get_or, map, slice_get, unwrap_or, inl, inr, refl, sym, ap, subst, ◌∙◌, arith, length-append}
+use Rattle.std.proofs.Common.{max, ℕ, ◌+◌, ◌-◌, option_map, ◌==◌, ◌&&◌, ◌≡◌, ◌<◌, Bool, true, false, not, List, [], ◌∷◌, ◌++◌, Option, None, Some, Result, Ok, if◌then◌else◌, length, get_or, map, slice_get, unwrap_or, inl, inr, refl, sym, ap, subst, ◌∙◌, arith, length-append}
 use Rattle.std.specs.Prelude.{IsOk}
 use Rattle.std.specs.List.{All}
 use Rattle.std.specs.Option.{IfSome, option_map_or}
@@ -47,7 +47,7 @@ use Rattle.nf_words.proofs.Mounting.{IsOwnMount, mount_found, mount_left_so, not
 use Rattle.nf_words.proofs.Passing.{call_passes, Passes, place_passes, PlacePasses}
 use Rattle.nf_words.proofs.Starts.{has_asker, itself_asker, row_of_caller}
 use Rattle.nf_words.proofs.Ways.{node_present, way_there}
-use Rattle.nf_words.specs.Prelude.{access_of, allowed_of, answered_by, AreSound, asked_of, asker_of, behind, blob_after, blob_for, by_of, Call, call_decision, call_of, changed, content_in, decision_of, deleted, discard, end_refusal, ends_at, exists_rule, found, given, gone_beside, IsHeld, item_dropped, item_restored, items_of, IsStorable, last_name, LeadsToRoot, left_row, made_folder, makes, named_rule, MayAsk, MayEnd, mount_left, mount_of, mount_renamed, moved, named_row, new_node, node_at, nothing_done, own_mount, refilled, refusal_of, root_of, seeker_of, source_lost, step, stored, stored_at, stores, taken, target_lost, transfer_of, unnamed_by, untrashed, user_of, way_by, way_of, with_mount_row}
+use Rattle.nf_words.specs.Prelude.{access_of, allowed_of, answered_by, AreSound, asked_of, asker_of, behind, blob_after, blob_for, by_of, Call, call_decision, call_of, changed, content_in, decision_of, deleted, discard, end_refusal, ends_at, exists_rule, found, given, gone_beside, IsHeld, item_dropped, item_restored, items_of, IsStorable, last_name, LeadsToRoot, left_row, made_folder, makes, named_rule, MayAsk, MayEnd, mount_left, mount_of, mount_renamed, moved, named_row, new_node, node_at, nothing_done, own_mount, refilled, refusal_of, root_of, seeker_of, source_lost, stored, stored_at, stores, taken, target_lost, transfer_of, unnamed_by, untrashed, user_of, way_by, way_of, with_mount_row}
 use Rattle.nf_words.specs.declared.answer.Allowed.{Allowed}
 use Rattle.nf_words.specs.declared.answer.Allowed.TheVariants as allowed
 use Rattle.nf_words.specs.declared.answer.Deed.TheVariants as deed

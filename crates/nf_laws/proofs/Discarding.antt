@@ -1,16 +1,12 @@
 -- What a DELETE puts in the trash and what comes back from there, row by row, and what of a user's trash goes for good beside that.
-use Rattle.std.proofs.Common.{ℕ, zero, suc, ◌+◌, ◌==◌, ◌&&◌, ◌≡◌, ◌≢◌, ◌≤◌, ◌<◌, ◌^◌, ◌⊎◌, Bool, true, false, not, List, [], ◌∷◌, ◌++◌, Option, None, Some, filter, get_or, if◌then◌else◌, length, length-append, map, option_map, inl, inr, refl, sym, ap, subst, ◌∙◌, arith}
+use Rattle.std.proofs.Common.{ℕ, zero, suc, ◌+◌, ◌==◌, ◌≡◌, ◌≢◌, ◌≤◌, ◌⊎◌, Bool, true, false, not, List, ◌∷◌, ◌++◌, Option, None, Some, filter, get_or, if◌then◌else◌, length, length-append, map, option_map, inl, inr, refl, sym, ap, subst, ◌∙◌, arith}
 use Rattle.std.specs.Prelude.{is_some}
 use Rattle.std.specs.List.{All, Contains, list_any}
 use Rattle.std.specs.Option.{option_and_then, option_map_or}
-use Rattle.std.proofs.lemmas.Bool.{and_parts, both_ways, cases_Bool, cond_both, eq-eqb, eqb-true, ne_eqb}
+use Rattle.std.proofs.lemmas.Bool.{both_ways, cases_Bool, eq-eqb, eqb-true, ne_eqb}
 use Rattle.std.proofs.lemmas.List.{length-map}
 use Rattle.std.proofs.lemmas.List.Elements.{All-contains, All-filter, All-head, All-map, All-tail, filter_passes}
-use Rattle.std.proofs.lemmas.List.Filters.{length-filter_both}
-use Rattle.std.proofs.lemmas.Option.{none-some, option_and_then_some, same_Some}
-use Rattle.nf_access.proofs.Naming.{free_is_free, taken_child}
-use Rattle.nf_access.specs.Mounts.{free_name_of, names_in_root, root_folder}
-use Rattle.nf_base.specs.declared.changes.Change.{Change}
+use Rattle.std.proofs.lemmas.Option.{none-some, same_Some}
 use Rattle.nf_base.specs.declared.changes.Change.TheVariants.{Drop, Put}
 use Rattle.nf_base.specs.declared.changes.RowKey.TheVariants as keys
 use Rattle.nf_base.specs.declared.rows.ItemRow.{ItemRow}
@@ -18,29 +14,24 @@ use Rattle.nf_base.specs.declared.rows.NodeRow.{NodeRow}
 use Rattle.nf_base.specs.declared.rows.Place.TheVariants.{Trash}
 use Rattle.nf_base.specs.declared.rows.Row.TheVariants as rows
 use Rattle.nf_base.specs.declared.rows.ShareRow.{ShareRow}
-use Rattle.nf_base.specs.declared.rows.UserRow.{UserRow}
 use Rattle.nf_defs.proofs.Walks.{climbs_walk}
-use Rattle.nf_defs.specs.Prelude.{child_of, folder_of, is_folder, is_folder_kind, is_in, is_present, is_root, is_root_place, is_under, item_row, node_row, owner_of, parent_of, relinked, Tables, taken_names, user_row, with_node, without_under}
+use Rattle.nf_defs.specs.Prelude.{folder_of, is_under, item_row, node_row, parent_of, Tables, walk_of}
 use Rattle.nf_defs.specs.Tree.{trashed}
-use Rattle.nf_laws.proofs.Climbs.{parent_at, some_there}
+use Rattle.nf_laws.proofs.Climbs.{some_there}
 use Rattle.nf_laws.proofs.Ended.{are_ended}
 use Rattle.nf_laws.proofs.OneRow.{row_itself, row_other}
-use Rattle.nf_laws.proofs.Paths.{climb_own, IsOf}
-use Rattle.nf_laws.proofs.Presence.{leads_present}
-use Rattle.nf_laws.proofs.Present.{below_present, never_trash, root_leads, trash_alone}
-use Rattle.nf_laws.proofs.Purged.{ArePurged, AreTwo, climb_beside, climb_more, HasTops, IsShort, item_is, item_none, item_other, still_items, items_purged, outside_is, purged_before, purged_rest, purged_tops, shares_purged, sound_tops, those_items, under_beside, under_is}
+use Rattle.nf_laws.proofs.Present.{below_present, never_trash, trash_alone}
+use Rattle.nf_laws.proofs.Purged.{ArePurged, AreTwo, climb_more, first_two, HasTops, IsShort, item_is, items_purged, outside_is, purged_before, purged_rest, purged_tops, rest_two, shares_purged, sound_tops, still_items, under_beside, under_is}
 use Rattle.nf_laws.proofs.Puts.{number_found, other_number}
-use Rattle.nf_laws.proofs.Rows.{folder_there, found_is, row_is, stamp, stamped_some}
+use Rattle.nf_laws.proofs.Rows.{stamp, stamped_some}
 use Rattle.nf_laws.proofs.Upwards.{climb_short, climbed, derived}
 use Rattle.nf_laws.specs.Access.{LeadsBy}
-use Rattle.nf_laws.specs.Acts.{AreEmptied, AreEnded, IsDeleted, IsEmptied, IsGoneWith, IsInTrash, IsItemOf, IsRestored, IsUnderOne}
+use Rattle.nf_laws.specs.Acts.{AreEmptied, AreEnded, IsDeleted, IsGoneWith, IsInTrash, IsItemOf, IsUnderOne}
 use Rattle.nf_laws.specs.Tree.{Under}
-use Rattle.nf_words.proofs.Ensured.{free_in_root}
 use Rattle.nf_words.proofs.Known.{IsItem, Known, KnownDiscard}
 use Rattle.nf_words.proofs.Trashing.{gone_has, of_user}
-use Rattle.nf_words.proofs.Ways.{inside_present}
 use Rattle.nf_words.specs.Others.{IsItemSound}
-use Rattle.nf_words.specs.Prelude.{AreSound, asker_of, Call, changed, closed_under, deed_done, discarded, ended_row, ended_under, gone_beside, gone_of, HasRoot, home_of, IsPlaceSound, item_for, items_but, items_of, LeadsToRoot, mount_of, name_back, names_taken_in, purged, purged_all, quota_of, restored, told, told_node, told_purges}
+use Rattle.nf_words.specs.Prelude.{AreSound, Call, changed, closed_under, discard, discarded, dropped_under, ended_row, ended_under, gone_beside, gone_of, gone_under, item_for, items_but, items_of, LeadsToRoot, mount_of, purged, purged_all, quota_of, told, told_item, told_node, told_purges}
 use Rattle.nf_words.specs.declared.answer.Allowed.TheVariants as allowed
 use Rattle.nf_words.specs.declared.answer.Deed.TheVariants as deed
 use Rattle.nf_words.specs.declared.answer.Report.{Report}
@@ -49,16 +40,24 @@ use Rattle.nf_words.specs.declared.request.Spot.{Spot}
 
 -- ---- what is told
 
+-- of what is removed
+pub some_told : (t : Tables) (top : ℕ) → 1 ≤ length (gone_under t.nodes t.shares top)
+some_told t top =
+    omega (
+      arith,
+      length-append (dropped_under t.nodes top) (closed_under t.nodes t.shares top),
+      length-map (walk_of t.nodes top) (λ node. Drop (keys.Node node)),
+      (climbs_walk 0 t.nodes top top (omega arith) refl).1,
+    )
+
 -- of what goes
 pub goes_told : (t : Tables) (top : ℕ) (rest : List ℕ) → 1 ≤ length (told_purges t (top ∷ rest))
 goes_told t top rest =
     omega (
       arith,
-      length-append (told_purge t top) (told_purges (purged t top) rest),
+      length-append (gone_under t.nodes t.shares top ++ told_item t top) (told_purges (purged t top) rest),
       length-append (gone_under t.nodes t.shares top) (told_item t top),
-      length-append (dropped_under t.nodes top) (closed_under t.nodes t.shares top),
-      length-map (walk_of t.nodes top) (λ node. Drop (keys.Node node)),
-      (climbs_walk 0 t.nodes top top (omega arith) refl).1,
+      some_told t top,
     )
 
 -- of what is put in the trash

@@ -1,11 +1,10 @@
 -- What goes for good, row by row: the nodes under each that goes, and its item; all else stays.
-use Rattle.std.proofs.Common.{ℕ, zero, suc, ◌==◌, ◌≡◌, ◌≢◌, ◌≤◌, ◌<◌, ◌⊎◌, Bool, true, false, not, List, [], ◌∷◌, Option, None, Some, get_or, if◌then◌else◌, inl, inr, refl, sym, ap, subst, ◌∙◌, arith}
+use Rattle.std.proofs.Common.{ℕ, zero, suc, ◌==◌, ◌≡◌, ◌≢◌, ◌≤◌, Bool, true, false, not, List, [], ◌∷◌, Option, None, Some, get_or, if◌then◌else◌, inl, inr, refl, sym, ap, subst, ◌∙◌, arith}
 use Rattle.std.specs.Prelude.{is_some}
 use Rattle.std.specs.List.{All, AllPairs, Contains}
-use Rattle.std.specs.Option.{option_and_then}
 use Rattle.std.proofs.lemmas.Bool.{both_ways, cases_Bool, eq-eqb, eqb-true, false_from_ne_true, ne_eqb, not-true, not_from_false}
-use Rattle.std.proofs.lemmas.List.Elements.{All-cons, All-head, All-map, All-nil, All-tail, All-weaker}
-use Rattle.std.proofs.lemmas.Option.{none-some, option_and_then_some, same_Some}
+use Rattle.std.proofs.lemmas.List.Elements.{All-cons, All-head, All-map, All-nil, All-tail}
+use Rattle.std.proofs.lemmas.Option.{option_and_then_some, same_Some}
 use Rattle.nf_base.specs.declared.limits.TheConstants.{MAX_DEPTH}
 use Rattle.nf_base.specs.declared.rows.ItemRow.{ItemRow}
 use Rattle.nf_base.specs.declared.rows.NodeRow.{NodeRow}
@@ -21,7 +20,7 @@ use Rattle.nf_laws.proofs.Upwards.{climb_short, climbed, derived}
 use Rattle.nf_laws.specs.Acts.{IsGoneWith, IsUnderOne}
 use Rattle.nf_laws.specs.Tree.{Under}
 use Rattle.nf_words.proofs.Known.{IsItem}
-use Rattle.nf_words.specs.Others.{IsItemSound, IsShareSound}
+use Rattle.nf_words.specs.Others.{IsItemSound}
 use Rattle.nf_words.specs.Prelude.{AreSound, ended_row, ended_under, purged, purged_all}
 
 -- ---- items that are dropped

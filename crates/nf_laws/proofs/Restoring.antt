@@ -1,11 +1,10 @@
 -- What comes back from the trash, row by row, and what of a user's trash is dropped.
-use Rattle.std.proofs.Common.{ℕ, zero, suc, ◌+◌, ◌==◌, ◌&&◌, ◌≡◌, ◌≢◌, ◌≤◌, ◌<◌, ◌^◌, Bool, true, false, not, List, [], ◌∷◌, Option, None, Some, filter, get_or, if◌then◌else◌, length, map, option_map, inl, inr, refl, sym, ap, subst, ◌∙◌, arith}
+use Rattle.std.proofs.Common.{ℕ, zero, suc, ◌==◌, ◌&&◌, ◌≡◌, ◌≢◌, ◌<◌, ◌^◌, true, false, not, List, [], ◌∷◌, Option, None, Some, filter, get_or, if◌then◌else◌, length, map, option_map, inl, inr, refl, sym, ap, subst, ◌∙◌, arith}
 use Rattle.std.specs.Prelude.{is_some}
 use Rattle.std.specs.List.{All, Contains}
 use Rattle.std.specs.Option.{option_and_then, option_map_or}
 use Rattle.std.proofs.lemmas.Bool.{and_parts, cases_Bool, cond_both, eq-eqb, eqb-true, ne_eqb}
 use Rattle.std.proofs.lemmas.List.{length-map}
-use Rattle.std.proofs.lemmas.List.Elements.{All-contains}
 use Rattle.std.proofs.lemmas.List.Filters.{length-filter_both}
 use Rattle.std.proofs.lemmas.Option.{none-some, option_and_then_some, same_Some}
 use Rattle.nf_access.proofs.Naming.{free_is_free, taken_child}
@@ -15,7 +14,7 @@ use Rattle.nf_base.specs.declared.rows.NodeRow.{NodeRow}
 use Rattle.nf_base.specs.declared.rows.Place.TheVariants.{Trash}
 use Rattle.nf_base.specs.declared.rows.UserRow.{UserRow}
 use Rattle.nf_defs.proofs.Climbs.{under_climb}
-use Rattle.nf_defs.specs.Prelude.{child_of, folder_of, is_folder, is_folder_kind, is_in, is_present, is_root, is_root_place, is_under, item_row, node_row, owner_of, parent_of, relinked, Tables, taken_names, user_row}
+use Rattle.nf_defs.specs.Prelude.{child_of, folder_of, is_folder, is_folder_kind, is_in, is_root, is_root_place, is_under, item_row, node_row, owner_of, parent_of, relinked, Tables, taken_names, user_row}
 use Rattle.nf_laws.proofs.Climbs.{parent_at, some_there}
 use Rattle.nf_laws.proofs.Discarding.{AreGoneBeside, goes_beside, goes_told, items_are}
 use Rattle.nf_laws.proofs.OneRow.{row_itself, row_other}
@@ -31,7 +30,7 @@ use Rattle.nf_words.proofs.Ensured.{free_in_root}
 use Rattle.nf_words.proofs.Known.{IsItem}
 use Rattle.nf_words.proofs.Ways.{inside_present}
 use Rattle.nf_words.specs.Others.{IsItemSound}
-use Rattle.nf_words.specs.Prelude.{AreSound, asker_of, Call, changed, HasRoot, home_of, IsPlaceSound, item_if_of, items_of, lacks_item, LeadsToRoot, name_back, names_taken_in, own_item, purged, purged_all, restored, told, told_purges}
+use Rattle.nf_words.specs.Prelude.{AreSound, asker_of, Call, changed, HasRoot, home_of, IsPlaceSound, item_if_of, lacks_item, LeadsToRoot, name_back, own_item, purged_all, restored, told}
 use Rattle.nf_words.specs.declared.answer.Allowed.TheVariants as allowed
 use Rattle.nf_words.specs.declared.answer.Deed.TheVariants as deed
 use Rattle.nf_words.specs.declared.answer.Report.{Report}
@@ -95,7 +94,8 @@ own_named call node named = here (own_item call node) refl named
         → (item : ItemRow) × (own_item call node ≡ Some item) × (item_row call.state.tables.items node ≡ Some item) × (item.owner ≡ asker_of call)
     here None e none = absurd (cc)
     here (Some item) e none =
-        let of = option_and_then_some (item_if_of (asker_of call)) (item_row call.state.tables.items node) item e
+        let of = option_and_then_some {P = (item_row call.state.tables.items node ≡ Some item) × (item.owner ≡ asker_of call)} (item_if_of (asker_of call))
+        (item_row call.state.tables.items node) item e
         (λ it found given. elim (cases_Bool (it.owner == asker_of call)) [
           | inl own ↦
               (let same : it ≡ item = same_Some it item (simp own at given) in

@@ -5,7 +5,7 @@ ghost use Rattle.nf_laws.specs.Acts.{CrossesMove, CutBodiesKeep, DeletesKeep, Dr
 /// A DELETE puts the node to which its path leads into its owner's trash with all under it, or takes it out for good where the trash
 /// can't hold it, as it does items that the trash can't hold any more. It ends the shares of what is under the node, and touches no
 /// other node, item or share. Of a mount's own path it leaves the mount, and touches no other row.
-#[tactic(auto, using(crate::proofs::Acting::deletes_keep, crate::proofs::Acting::mounts_left))]
+#[tactic(auto, using(crate::proofs::Acting::mounts_left))]
 pub fn deletes_keep()
     ensures nodes { DeletesKeep }
     ensures mounts { MountsAreLeft }
@@ -13,7 +13,6 @@ pub fn deletes_keep()
 
 /// What is dropped from the trash is gone for good with all under it: an item that is asked for, or all the caller's where the trash
 /// is emptied. Nothing else is touched but items of the caller's that the trash can't hold any more.
-#[tactic(auto, using(crate::proofs::Acting::drops_keep, crate::proofs::Acting::emptying_keeps))]
 pub fn drops_keep()
     ensures one { DropsKeep }
     ensures all { EmptyingKeeps }
@@ -21,7 +20,6 @@ pub fn drops_keep()
 
 /// An item that comes back is in the folder that it came from, or else in its owner's root, under a name that was free there, with all
 /// under it as it was. Nothing else is touched but items of the caller's that the trash can't hold any more.
-#[tactic(auto, using(crate::proofs::Acting::items_come_back))]
 pub fn items_come_back()
     ensures { ItemsComeBack }
 {}
