@@ -27,7 +27,7 @@ use Rattle.nf_defs.specs.declared.Seeker.{Seeker}
 use Rattle.nf_defs.specs.declared.Seeker.TheVariants.{Link, User}
 use Rattle.nf_laws.proofs.Discarding.{beside_own, discard_rows, emptied_own}
 use Rattle.nf_laws.proofs.Entries.{step_changed}
-use Rattle.nf_laws.proofs.Purged.{item_is}
+use Rattle.nf_laws.proofs.Going.{item_is}
 use Rattle.nf_laws.proofs.Puts.{put_other}
 use Rattle.nf_laws.proofs.Paths.{found_free, found_leads}
 use Rattle.nf_laws.proofs.Reading.{none_refused}
@@ -47,7 +47,7 @@ use Rattle.nf_words.proofs.Mounting.{IsOwnMount, mount_found, mount_left_so, not
 use Rattle.nf_words.proofs.Passing.{call_passes, Passes, place_passes, PlacePasses}
 use Rattle.nf_words.proofs.Starts.{has_asker, itself_asker, row_of_caller}
 use Rattle.nf_words.proofs.Ways.{node_present, way_there}
-use Rattle.nf_words.specs.Prelude.{access_of, allowed_of, answered_by, AreSound, asked_of, asker_of, behind, blob_after, blob_for, by_of, Call, call_decision, call_of, changed, content_in, decision_of, deleted, discard, end_refusal, ends_at, exists_rule, found, given, gone_beside, IsHeld, item_dropped, item_restored, items_of, IsStorable, last_name, LeadsToRoot, left_row, made_folder, makes, named_rule, MayAsk, MayEnd, mount_left, mount_of, mount_renamed, moved, named_row, new_node, node_at, nothing_done, own_mount, refilled, refusal_of, root_of, seeker_of, source_lost, stored, stored_at, stores, taken, target_lost, transfer_of, unnamed_by, untrashed, user_of, way_by, way_of, with_mount_row}
+use Rattle.nf_words.specs.Prelude.{access_of, allowed_of, answered_by, AreSound, asked_of, asker_of, behind, blob_after, blob_for, by_of, Call, call_decision, call_of, changed, content_in, decision_of, deleted, discard, end_refusal, ends_at, exists_rule, found, given, gone_beside, IsHeld, IsStorable, item_dropped, item_restored, items_of, last_name, LeadsToRoot, left_row, made_folder, makes, MayAsk, MayEnd, mount_left, mount_of, mount_renamed, moved, named_row, named_rule, new_node, node_at, nothing_done, own_mount, refilled, refusal_of, root_of, seeker_of, source_lost, stored, stored_at, stores, taken, target_lost, transfer_of, unnamed_by, untrashed, user_of, way_by, way_of, with_mount_row}
 use Rattle.nf_words.specs.declared.answer.Allowed.{Allowed}
 use Rattle.nf_words.specs.declared.answer.Allowed.TheVariants as allowed
 use Rattle.nf_words.specs.declared.answer.Deed.TheVariants as deed
@@ -252,7 +252,7 @@ items_come_back s seat now words request user node sound may asked ok =
     let id = (item_is t node sound.rows item own.2).0 in
     subst (λ (made : Tables). IsRestored call node made) (sym (step_changed s seat now (Begin words request) act decides))
     (subst (λ (n : ℕ). IsRestored call n (changed t now act)) id
-    (restored_rows call item gone sound.rows (ap (item_row t.items) id ∙ own.2) own.3
+    (restored_rows call item gone sound.rows (ap (item_row t.items) id ∙ own.2) known.known own.3
     (subst (λ (user : ℕ). All (IsItemOf t user) gone) own.3 (beside_own t now item sound.rows))
     (λ k d within same. known.stays k d within (ap Some same)) known.once))
 

@@ -1,12 +1,12 @@
 -- What a DELETE puts in the trash and what comes back from there, row by row, and what of a user's trash goes for good beside that.
-use Rattle.std.proofs.Common.{ℕ, zero, suc, ◌+◌, ◌==◌, ◌≡◌, ◌≢◌, ◌≤◌, ◌⊎◌, Bool, true, false, not, List, ◌∷◌, ◌++◌, Option, None, Some, filter, get_or, if◌then◌else◌, length, length-append, map, option_map, inl, inr, refl, sym, ap, subst, ◌∙◌, arith}
+use Rattle.std.proofs.Common.{ℕ, zero, suc, ◌+◌, ◌==◌, ◌≡◌, ◌≢◌, ◌≤◌, ◌⊎◌, Bool, true, false, not, List, ◌∷◌, ◌++◌, Option, None, Some, filter, get_or, if◌then◌else◌, length, length-append, map, max, option_map, inl, inr, refl, sym, ap, subst, ◌∙◌, arith}
 use Rattle.std.specs.Prelude.{is_some}
 use Rattle.std.specs.List.{All, Contains, list_any}
 use Rattle.std.specs.Option.{option_and_then, option_map_or}
-use Rattle.std.proofs.lemmas.Bool.{both_ways, cases_Bool, eq-eqb, eqb-true, ne_eqb}
+use Rattle.std.proofs.lemmas.Bool.{eqb-true, ne_eqb}
 use Rattle.std.proofs.lemmas.List.{length-map}
 use Rattle.std.proofs.lemmas.List.Elements.{All-contains, All-filter, All-head, All-map, All-tail, filter_passes}
-use Rattle.std.proofs.lemmas.Option.{none-some, same_Some}
+use Rattle.std.proofs.lemmas.Option.{same_Some}
 use Rattle.nf_base.specs.declared.changes.Change.TheVariants.{Drop, Put}
 use Rattle.nf_base.specs.declared.changes.RowKey.TheVariants as keys
 use Rattle.nf_base.specs.declared.rows.ItemRow.{ItemRow}
@@ -20,18 +20,20 @@ use Rattle.nf_defs.specs.Tree.{trashed}
 use Rattle.nf_laws.proofs.Climbs.{some_there}
 use Rattle.nf_laws.proofs.Ended.{are_ended}
 use Rattle.nf_laws.proofs.OneRow.{row_itself, row_other}
-use Rattle.nf_laws.proofs.Present.{below_present, never_trash, trash_alone}
-use Rattle.nf_laws.proofs.Purged.{ArePurged, AreTwo, climb_more, first_two, HasTops, IsShort, item_is, items_purged, outside_is, purged_before, purged_rest, purged_tops, rest_two, shares_purged, sound_tops, still_items, under_beside, under_is}
+use Rattle.nf_laws.proofs.Present.{below_present, trash_alone}
+use Rattle.nf_laws.proofs.Going.{ArePurged, AreTwo, first_two, item_is, items_purged, outside_is, present_off, purged_before, purged_rest, rest_two, shares_purged, under_beside, under_is}
+use Rattle.nf_laws.proofs.Purged.{purged_items}
 use Rattle.nf_laws.proofs.Puts.{number_found, other_number}
 use Rattle.nf_laws.proofs.Rows.{stamp, stamped_some}
-use Rattle.nf_laws.proofs.Upwards.{climb_short, climbed, derived}
+use Rattle.nf_laws.proofs.Trashed.{deed_sound_at, purged_sound, purged_stamped}
+use Rattle.nf_laws.proofs.Upwards.{climbed, derived}
 use Rattle.nf_laws.specs.Access.{LeadsBy}
 use Rattle.nf_laws.specs.Acts.{AreEmptied, AreEnded, IsDeleted, IsGoneWith, IsInTrash, IsItemOf, IsUnderOne}
 use Rattle.nf_laws.specs.Tree.{Under}
-use Rattle.nf_words.proofs.Known.{IsItem, Known, KnownDiscard}
+use Rattle.nf_words.proofs.Known.{IsItem, Known, KnownDiscard, KnownGone}
 use Rattle.nf_words.proofs.Trashing.{gone_has, of_user}
 use Rattle.nf_words.specs.Others.{IsItemSound}
-use Rattle.nf_words.specs.Prelude.{AreSound, Call, changed, closed_under, discard, discarded, dropped_under, ended_row, ended_under, gone_beside, gone_of, gone_under, item_for, items_but, items_of, LeadsToRoot, mount_of, purged, purged_all, quota_of, told, told_item, told_node, told_purges}
+use Rattle.nf_words.specs.Prelude.{AreSound, Call, changed, closed_under, discard, discarded, dropped_under, ended_under, gone_beside, gone_of, gone_under, item_for, items_but, items_of, LeadsToRoot, mount_of, purged, purged_all, quota_of, told, told_item, told_node, told_purges}
 use Rattle.nf_words.specs.declared.answer.Allowed.TheVariants as allowed
 use Rattle.nf_words.specs.declared.answer.Deed.TheVariants as deed
 use Rattle.nf_words.specs.declared.answer.Report.{Report}
@@ -141,27 +143,25 @@ goes_beside t u after changed tops same apart h = record {
     off : (top : ℕ) → Contains tops top → Apart top
     off top among = All-contains Apart tops top apart among
 
--- what is present is under no item
-pub present_off : (t : Tables) (node top : ℕ) → HasTops t → LeadsToRoot t.nodes node → IsItem t top → Under t.nodes top node → ⊥
-present_off t node top h present is below =
-    let row = h.tops top is in
-    let c = climbed t.nodes top node below in never_trash c.0 t.nodes node top row.0 present c.1 row.1 row.2
-
--- nor is what is under what is present
-below_off : (t : Tables) (node mid top : ℕ) → HasTops t → LeadsToRoot t.nodes mid → Under t.nodes mid node → IsItem t top → Under t.nodes top node → ⊥
-below_off t node mid top h present under is below =
-    let c = climbed t.nodes mid node under in present_off t node top h (below_present c.0 t.nodes node mid c.1 present) is below
+-- nor is what is under what is present under an item
+below_off : (t : Tables) (node mid top : ℕ) → AreSound t → LeadsToRoot t.nodes mid → Under t.nodes mid node → IsItem t top → Under t.nodes top node → ⊥
+below_off t node mid top sound present under is below =
+    let c = climbed t.nodes mid node under in present_off t top node sound is (below_present c.0 t.nodes node mid c.1 present) below
 
 -- the shares of what is under a node are ended
-shares_under : (t : Tables) (top : ℕ) → IsShort t.nodes top → AreEnded t.shares (ended_under t.nodes top t.shares) (Under t.nodes top)
-shares_under t top short =
-    are_ended (λ node. is_under t.nodes node top) (Under t.nodes top) t.shares (under_is t.nodes top short) (outside_is t.nodes top)
+shares_under : (t : Tables) (top : ℕ) → AreSound t → AreEnded t.shares (ended_under t.nodes top t.shares) (Under t.nodes top)
+shares_under t top sound =
+    are_ended (λ node. is_under t.nodes node top) (Under t.nodes top) t.shares (λ node under. under_is t top node sound under) (outside_is t.nodes top)
 
 -- ---- what is put in the trash
 
 module _ (t : Tables) (now : ℕ) (item : ItemRow) (sound : AreSound t) (known : KnownDiscard t now item) where
+  -- the tables with it there, at a moment that is late enough for all their rows
   abbrev put_in : Tables
-  put_in = discarded t item
+  put_in = stamp (discarded t item) (max t.meta.last now)
+
+  put_sound : AreSound put_in
+  put_sound = deed_sound_at t now (max t.meta.last now) (deed.Discard item) sound (omega arith) (omega arith) known
 
   row_in : node_row put_in.nodes item.node ≡ Some (trashed known.row)
   row_in = row_itself t.nodes item.node trashed (λ r. refl) ∙ ap (option_map trashed) known.there
@@ -175,53 +175,6 @@ module _ (t : Tables) (now : ℕ) (item : ItemRow) (sound : AreSound t) (known :
   item_off : (node : ℕ) → node ≢ item.node → item_row put_in.items node ≡ item_row t.items node
   item_off node differs = other_number (λ (i : ItemRow). i.node) item t.items node differs
 
-  was_item : (node : ℕ) → node ≢ item.node → IsItem put_in node → IsItem t node
-  was_item node differs is = ap is_some (sym (item_off node differs)) ∙ is
-
-  -- what is in a folder was in it
-  parent_in : (node parent : ℕ) → parent_of put_in.nodes node ≡ Some parent → parent_of t.nodes node ≡ Some parent
-  parent_in node parent above =
-      elim (cases_Bool (node == item.node)) [
-        | inl e ↦
-            (let none : parent_of put_in.nodes node ≡ None =
-            ap (parent_of put_in.nodes) (eqb-true node item.node e) ∙ ap (option_and_then (λ (row : NodeRow). folder_of row.place)) row_in in
-            absurd (none-some parent (sym none ∙ above)))
-        | inr e ↦
-            (let differs : node ≢ item.node = λ same. both_ways (node == item.node) e (eq-eqb node item.node same) in
-            sym (ap (option_and_then (λ (row : NodeRow). folder_of row.place)) (row_off node differs)) ∙ above)
-      ]
-
-  under_in : (top node : ℕ) → Under put_in.nodes top node → Under t.nodes top node
-  under_in top node below =
-      let c = climbed put_in.nodes top node below in derived c.0 t.nodes top node (climb_more put_in.nodes t.nodes parent_in c.0 node top c.1)
-
-  -- it is a top in the trash, as are the others there
-  in_tops : HasTops put_in
-  in_tops = record {
-    tops = λ node is. elim (cases_Bool (node == item.node)) [
-      | inl e ↦ (trashed known.row, ap (node_row put_in.nodes) (eqb-true node item.node e) ∙ row_in, refl)
-      | inr e ↦
-          (let differs : node ≢ item.node = λ same. both_ways (node == item.node) e (eq-eqb node item.node same) in
-          let row = (sound_tops t sound).tops node (was_item node differs is) in (row.0, row_off node differs ∙ row.1, row.2))
-    ];
-    short = λ top is j node up. climb_short j t node top sound (climb_more put_in.nodes t.nodes parent_in j node top up);
-    shares = All-map (λ (share : ShareRow). (top : ℕ) → IsItem put_in top → Under put_in.nodes top share.node → share.ended ≡ true)
-        (λ share. if is_under t.nodes share.node item.node then ended_row share else share) t.shares
-        (λ k d within. ended (get_or t.shares k d) (is_under t.nodes (get_or t.shares k d).node item.node) refl ((sound_tops t sound).shares k d within));
-  }
-    where
-      ended : (share : ShareRow) (b : Bool) → is_under t.nodes share.node item.node ≡ b
-          → ((top : ℕ) → IsItem t top → Under t.nodes top share.node → share.ended ≡ true)
-          → (top : ℕ) → IsItem put_in top → Under put_in.nodes top (if b then ended_row share else share).node
-          → (if b then ended_row share else share).ended ≡ true
-      ended share true e was top is below = refl
-      ended share false e was top is below =
-          let differs : top ≢ item.node =
-          λ same. both_ways (is_under t.nodes share.node item.node) e
-          (under_is t.nodes item.node (λ j node up. climb_short j t node item.node sound up) share.node
-          (subst (λ (n : ℕ). Under t.nodes n share.node) same (under_in top share.node below))) in
-          was top (was_item top differs is) (under_in top share.node below)
-
   -- items that go meanwhile
   module _ (gone : List ℕ) (items : All (IsItem t) gone) (others : All (λ (node : ℕ). node ≢ item.node) gone) (once : AreTwo gone) where
     abbrev left : Tables
@@ -230,17 +183,17 @@ module _ (t : Tables) (now : ℕ) (item : ItemRow) (sound : AreSound t) (known :
     still : All (IsItem put_in) gone
     still k d within = ap is_some (item_off (get_or gone k d) (others k d within)) ∙ items k d within
 
-    pub in_purged : ArePurged put_in left gone
-    in_purged = items_purged put_in gone in_tops still once
+    in_purged : ArePurged put_in left gone
+    in_purged = items_purged put_in gone put_sound still once
 
     in_shares : left.shares ≡ ended_under t.nodes item.node t.shares
-    in_shares = shares_purged put_in gone in_tops still once
+    in_shares = shares_purged put_in gone put_sound still once
 
     in_beside : AreGoneBeside t put_in left item.node gone
     in_beside =
         goes_beside t put_in left item.node gone row_off
         (λ k d within. (
-          present_off t item.node (get_or gone k d) (sound_tops t sound) known.present (items k d within),
+          present_off t (get_or gone k d) item.node sound (items k d within) known.present,
           λ below.
               let c = climbed put_in.nodes (get_or gone k d) item.node below in
               others k d within (sym (trash_alone c.0 put_in.nodes item.node (get_or gone k d) (trashed known.row) row_in refl c.1)),
@@ -263,7 +216,7 @@ module _ (t : Tables) (now : ℕ) (item : ItemRow) (sound : AreSound t) (known :
           });
       below = λ node under differs.
           in_beside.others node differs (λ one.
-          below_off t node item.node one.0 (sound_tops t sound) known.present under (All-contains (IsItem t) gone one.0 items one.1) one.2);
+          below_off t node item.node one.0 sound known.present under (All-contains (IsItem t) gone one.0 items one.1) one.2);
     }
 
 -- so a node that is put there is, and items of its owner's that go are gone
@@ -272,21 +225,23 @@ discarded_rows : (call : Call) (spot : Spot) (row : NodeRow) (gone : List ℕ) �
     → All (IsItemOf call.state.tables row.owner) gone → All (λ (node : ℕ). node ≢ row.id) gone → AreTwo gone
     → LeadsBy call spot (mount_of call spot) row.id
     → IsDeleted call spot (stamp (purged_all (discarded call.state.tables (item_for call.now row)) gone) call.now)
-discarded_rows call spot row gone sound there known own others once led = record {
-  top = row.id;
-  led = led;
-  itself = inl (in_trash t call.now item sound known gone items others once);
-  tops = gone;
-  emptied = subst (λ (user : ℕ). AreEmptied t (stamp made call.now) user gone)
-      (sym (ap (λ (o : Option NodeRow). option_map_or (λ row. row.owner) o 0) there))
-      (record { items = own; gone = beside.gone; none = purge.none });
-  others = λ node outside off. beside.others node (λ same. outside (subst (Under t.nodes row.id) (sym same) (derived 0 t.nodes row.id row.id refl))) off;
-  items = λ node differs off. purge.items node off ∙ item_off t call.now item sound known node differs;
-  shares = subst (λ (shares : List ShareRow). AreEnded t.shares shares (Under t.nodes row.id))
-      (sym (in_shares t call.now item sound known gone items others once))
-      (shares_under t row.id (λ j node up. climb_short j t node row.id sound up));
-  rest = ap (λ (u : Tables). stamp u call.now) (purged_rest (discarded t item) gone);
-}
+discarded_rows call spot row gone sound there known own others once led =
+    subst (λ (u : Tables). IsDeleted call spot (stamp u call.now)) (purged_stamped (discarded t item) (max t.meta.last call.now) gone)
+    (record {
+      top = row.id;
+      led = led;
+      itself = inl (in_trash t call.now item sound known gone items others once);
+      tops = gone;
+      emptied = subst (λ (user : ℕ). AreEmptied t (stamp (purged_all u gone) call.now) user gone)
+          (sym (ap (λ (o : Option NodeRow). option_map_or (λ row. row.owner) o 0) there))
+          (record { items = own; gone = beside.gone; none = purge.none });
+      others = λ node outside off.
+          beside.others node (λ same. outside (subst (Under t.nodes row.id) (sym same) (derived 0 t.nodes row.id row.id refl))) off;
+      items = λ node differs off. purge.items node off ∙ item_off t call.now item sound known node differs;
+      shares = subst (λ (shares : List ShareRow). AreEnded t.shares shares (Under t.nodes row.id))
+          (sym (in_shares t call.now item sound known gone items others once)) (shares_under t row.id sound);
+      rest = ap (λ (made : Tables). stamp made call.now) (purged_rest u gone);
+    })
   where
     t : Tables
     t = call.state.tables
@@ -294,16 +249,16 @@ discarded_rows call spot row gone sound there known own others once led = record
     item : ItemRow
     item = item_for call.now row
 
-    made : Tables
-    made = purged_all (discarded t item) gone
+    u : Tables
+    u = put_in t call.now item sound known
 
     items : All (IsItem t) gone
     items = items_are t row.owner gone own
 
-    purge : ArePurged (discarded t item) made gone
+    purge : ArePurged u (purged_all u gone) gone
     purge = in_purged t call.now item sound known gone items others once
 
-    beside : AreGoneBeside t (discarded t item) made row.id gone
+    beside : AreGoneBeside t u (purged_all u gone) row.id gone
     beside = in_beside t call.now item sound known gone items others once
 
 -- ---- a present node that goes for good
@@ -313,11 +268,11 @@ among_cases top tops node (zero, within, is) = inl (sym is)
 among_cases top tops node (suc k, within, is) = inr (k, omega (arith, within), is)
 
 gone_rows : (call : Call) (spot : Spot) (row : NodeRow) (rest : List ℕ) → AreSound call.state.tables
-    → node_row call.state.tables.nodes row.id ≡ Some row → LeadsToRoot call.state.tables.nodes row.id
-    → All (IsItemOf call.state.tables row.owner) rest → All (λ (node : ℕ). row.id ≢ node) rest → AreTwo rest
+    → node_row call.state.tables.nodes row.id ≡ Some row → KnownGone call.state.tables row.id
+    → All (IsItemOf call.state.tables row.owner) rest → AreTwo (row.id ∷ rest)
     → LeadsBy call spot (mount_of call spot) row.id
     → IsDeleted call spot (stamp (purged_all call.state.tables (row.id ∷ rest)) call.now)
-gone_rows call spot row rest sound there present own others once led = record {
+gone_rows call spot row rest sound there known own once led = record {
   top = row.id;
   led = led;
   itself = inr (All-head Gone row.id rest purge.gone);
@@ -333,7 +288,7 @@ gone_rows call spot row rest sound there present own others once led = record {
   items = λ node differs off. purge.items node (λ among.
       elim (among_cases row.id rest node among) [ inl same ↦ differs same | inr more ↦ off more ]);
   shares = subst (λ (shares : List ShareRow). AreEnded t.shares shares (Under t.nodes row.id))
-      (sym (shares_purged (purged t row.id) rest left_tops items once)) (shares_under t row.id short);
+      (sym (shares_purged (purged t row.id) rest left_sound items (rest_two row.id rest once))) (shares_under t row.id sound);
   rest = ap (λ (u : Tables). stamp u call.now) (purged_rest t (row.id ∷ rest));
 }
   where
@@ -349,22 +304,19 @@ gone_rows call spot row rest sound there present own others once led = record {
     NoItem : ℕ → Type 0
     NoItem top = item_row made.items top ≡ None
 
-    short : IsShort t.nodes row.id
-    short j node up = climb_short j t node row.id sound up
-
-    left_tops : HasTops (purged t row.id)
-    left_tops = purged_tops t row.id (sound_tops t sound)
+    left_sound : AreSound (purged t row.id)
+    left_sound = purged_sound t row.id sound (inr known)
 
     items : All (IsItem (purged t row.id)) rest
-    items = still_items t row.id rest (items_are t row.owner rest own) others
+    items = purged_items t row.id rest once (items_are t row.owner rest own)
 
     purge : ArePurged t made (row.id ∷ rest)
     purge =
-        purged_before t made row.id rest short
+        purged_before t made row.id rest sound
         (λ k d within node below.
         outside_is t.nodes row.id node (λ too.
-        below_off t node row.id (get_or rest k d) (sound_tops t sound) present too (items_are t row.owner rest own k d within) below))
-        (items_purged (purged t row.id) rest left_tops items once)
+        below_off t node row.id (get_or rest k d) sound known.present too (items_are t row.owner rest own k d within) below))
+        (items_purged (purged t row.id) rest left_sound items (rest_two row.id rest once))
 
 -- ---- a DELETE
 
@@ -393,6 +345,11 @@ discard_rows call spot row sound there present led = here (list_any (λ node. no
     own : (nodes : List ℕ) → All Either nodes → All (λ (node : ℕ). node ≢ row.id) nodes → All (IsItemOf t row.owner) nodes
     own nodes either others k d within = elim (either k d within) [ inl same ↦ absurd (others k d within same) | inr is ↦ is ]
 
+    -- what is present is no item
+    goes : IsItem t row.id ⊎ KnownGone t row.id → KnownGone t row.id
+    goes (inl is) = absurd (present_off t row.id row.id sound is present (derived 0 t.nodes row.id row.id refl))
+    goes (inr known) = known
+
     here : (b : Bool)
         → Known t call.now
         (if b then allowed.Trash deed.Nothing (row.id ∷ rest) report.Done else allowed.Trash (deed.Discard (item_for call.now row)) gone report.Done)
@@ -402,9 +359,8 @@ discard_rows call spot row sound there present led = here (list_any (λ node. no
         let others = first_two row.id rest known.once in
         subst (λ (made : Tables). IsDeleted call spot made)
         (sym (stamped_some t (purged_all t (row.id ∷ rest)) call.now (told t (allowed.Trash deed.Nothing (row.id ∷ rest) report.Done)) (goes_told t row.id rest)))
-        (gone_rows call spot row rest sound there present
-        (own rest (All-filter off Either gone (discard_own t call.now row sound)) (λ k d within same. others k d within (sym same))) others
-        (rest_two row.id rest known.once) led)
+        (gone_rows call spot row rest sound there (goes known.goes.0)
+        (own rest (All-filter off Either gone (discard_own t call.now row sound)) (λ k d within same. others k d within (sym same))) known.once led)
     here false known =
         let others : All (λ (node : ℕ). node ≢ row.id) gone = λ k d within same. known.stays k d within (ap Some (sym same)) in
         subst (λ (made : Tables). IsDeleted call spot made)

@@ -7,6 +7,7 @@ use Rattle.std.proofs.lemmas.List.Elements.{All-filter, All-weaker, filter_passe
 use Rattle.std.proofs.lemmas.List.Filters.{length-filter_both, sum_by-filter_both}
 use Rattle.std.proofs.lemmas.List.Kept.{AllPairs-filter}
 use Rattle.std.proofs.lemmas.Option.{none-some, same_Some}
+use Rattle.nf_base.specs.declared.rows.ItemRow.{ItemRow}
 use Rattle.nf_base.specs.declared.rows.NodeRow.{NodeRow}
 use Rattle.nf_base.specs.declared.rows.Place.{Place}
 use Rattle.nf_base.specs.declared.rows.Place.TheVariants.{Inside, Root, Trash}
@@ -14,7 +15,7 @@ use Rattle.nf_base.specs.declared.rows.UserRow.{UserRow}
 use Rattle.nf_defs.proofs.Climbs.{climb_under, under_climb}
 use Rattle.nf_defs.specs.Prelude.{child_of, climb, folder_of, is_root, is_root_place, is_under, node_row, parent_of, piece_count, Tables}
 use Rattle.nf_laws.proofs.Climbs.{climb_passes, climb_those, climbs_no_further, IsClosed, node_row_each, parent_at, row_of_those, those}
-use Rattle.nf_laws.proofs.Others.{others_ended, without}
+use Rattle.nf_laws.proofs.Others.{all_off, IsOff, items_all, items_left, ItemsLeft, others_ended, those_were, was_same, without}
 use Rattle.nf_laws.proofs.Paths.{child_is, child_there}
 use Rattle.nf_laws.proofs.Present.{those_leads, trash_outside}
 use Rattle.nf_laws.proofs.Rows.{finds_none, kept_row, node_still, root_still}
@@ -31,64 +32,68 @@ use Rattle.nf_words.specs.declared.request.Transfer.{Transfer}
 abbrev pub stays : (ℕ → Bool) → ℕ → Bool
 stays gone node = not (gone node)
 
--- what passes has its place, its climb and its root as before
-place_left : (t : Tables) (gone : ℕ → Bool) (row : NodeRow) → IsClosed t.nodes (stays gone) → node_row t.nodes row.id ≡ Some row → stays gone row.id ≡ true
-    → (place : Place) → row.place ≡ place → IsPlaceSound t row place → IsPlaceSound (without t gone) row place
-place_left t gone row closed there passes Root is h = h
-place_left t gone row closed there passes (Inside folder) is h =
-    let above = parent_at t.nodes row.id folder row there is in
-    let e = row_of_those (stays gone) t.nodes folder (closed row.id folder above passes) in
-    (rw e h.0, rw e h.1)
-place_left t gone row closed there passes Trash is h = h
+module _ (t : Tables) (gone : ℕ → Bool) (items : List ItemRow) (sound : AreSound t) (closed : IsClosed t.nodes (stays gone))
+    (left : ItemsLeft t gone items) where
+  -- what passes has its place, its climb and its root as before
+  place_left : (row : NodeRow) → node_row t.nodes row.id ≡ Some row → stays gone row.id ≡ true → (place : Place) → row.place ≡ place
+      → IsPlaceSound t row place → IsPlaceSound (without t gone items) row place
+  place_left row there passes Root is h = h
+  place_left row there passes (Inside folder) is h =
+      let above = parent_at t.nodes row.id folder row there is in
+      let e = row_of_those (stays gone) t.nodes folder (closed row.id folder above passes) in
+      (rw e h.0, rw e h.1)
+  place_left row there passes Trash is h = (h.0, left.there row.id row there is passes)
 
-node_left : (t : Tables) (gone : ℕ → Bool) (row : NodeRow) → IsClosed t.nodes (stays gone) → node_row t.nodes row.id ≡ Some row → stays gone row.id ≡ true
-    → IsNodeSound t row → IsNodeSound (without t gone) row
-node_left t gone row closed there passes h =
-    node_still t (without t gone) row row.place row.name (le_refl _) (le_refl _) (le_refl _) h
-    (place_left t gone row closed there passes row.place refl h.place)
-    (record {
-      steps = h.steps;
-      shallow = h.shallow;
-      top = h.top;
-      climbs = climb_those (stays gone) t.nodes closed h.steps row.id passes ∙ h.climbs;
-      ends = record {
-        row = h.ends.row;
-        there = row_of_those (stays gone) t.nodes h.top (climb_passes (stays gone) t.nodes closed h.steps row.id h.top h.climbs passes) ∙ h.ends.there;
-        ends = h.ends.ends;
-      };
-    })
+  node_left : (row : NodeRow) → node_row t.nodes row.id ≡ Some row → stays gone row.id ≡ true → IsNodeSound t row → IsNodeSound (without t gone items) row
+  node_left row there passes h =
+      node_still t (without t gone items) row row.place row.name (le_refl _) (le_refl _) (le_refl _) h
+      (place_left row there passes row.place refl h.place)
+      (record {
+        steps = h.steps;
+        shallow = h.shallow;
+        top = h.top;
+        climbs = climb_those (stays gone) t.nodes closed h.steps row.id passes ∙ h.climbs;
+        ends = record {
+          row = h.ends.row;
+          there = row_of_those (stays gone) t.nodes h.top (climb_passes (stays gone) t.nodes closed h.steps row.id h.top h.climbs passes) ∙ h.ends.there;
+          ends = h.ends.ends;
+        };
+      })
 
-root_stays : (t : Tables) (gone : ℕ → Bool) (user : UserRow) → stays gone user.root ≡ true → HasRoot t user → HasRoot (without t gone) user
-root_stays t gone user passes root =
-    root_still t (without t gone) user root
-    (kept_row (those (stays gone) t.nodes) user.root root.row (row_of_those (stays gone) t.nodes user.root passes ∙ root.there))
+  root_stays : (user : UserRow) → stays gone user.root ≡ true → HasRoot t user → HasRoot (without t gone items) user
+  root_stays user passes root =
+      root_still t (without t gone items) user root
+      (kept_row (those (stays gone) t.nodes) user.root root.row (row_of_those (stays gone) t.nodes user.root passes ∙ root.there))
 
-pub those_sound : (t : Tables) (gone : ℕ → Bool) → AreSound t → IsClosed t.nodes (stays gone)
-    → ((user : UserRow) → HasRoot t user → stays gone user.root ≡ true)
-    → ((node : ℕ) (row : NodeRow) → node_row t.nodes node ≡ Some row → row.place ≡ Trash → stays gone node ≡ true) → AreSound (without t gone)
-those_sound t gone sound closed roots trash =
-    let passes : NodeRow → Bool = λ row. stays gone row.id in
-    record {
-      counters = sound.counters;
-      rising = AllPairs-filter (λ a b. a.id < b.id) passes t.nodes sound.rising;
-      nodes = λ k d within. node_left t gone _ closed
-          (All-filter passes (λ row. node_row t.nodes row.id ≡ Some row) t.nodes (node_row_each t.nodes sound.rising) k d within)
-          (filter_passes passes t.nodes k d within)
-          (All-filter passes (IsNodeSound t) t.nodes sound.nodes k d within);
-      names = AllPairs-filter AreApart passes t.nodes sound.names;
-      roots = All-weaker (HasRoot t) (HasRoot (without t gone)) (λ user root. root_stays t gone user (roots user root) root) t.users sound.roots;
-      users_given = sound.users_given;
-      members_there = sound.members_there;
-      groups_given = sound.groups_given;
-      few_nodes = omega (arith, sound.few_nodes, length-filter_both passes (λ row. not (passes row)) (λ row. refl) t.nodes);
-      few_pieces = omega (
-        arith,
-        sound.few_pieces,
-        sum_by-filter_both passes (λ row. not (passes row)) (λ row. refl) (λ row. length row.content) t.nodes,
-      );
-      later = sound.later;
-      others = others_ended t gone sound closed trash;
-    }
+  pub those_sound : ((user : UserRow) → HasRoot t user → stays gone user.root ≡ true) → AreSound (without t gone items)
+  those_sound roots =
+      let passes : NodeRow → Bool = λ row. stays gone row.id in
+      let made = without t gone items in
+      record {
+        counters = sound.counters;
+        rising = AllPairs-filter (λ a b. a.id < b.id) passes t.nodes sound.rising;
+        nodes = λ k d within. node_left _
+            (All-filter passes (λ row. node_row t.nodes row.id ≡ Some row) t.nodes (node_row_each t.nodes sound.rising) k d within)
+            (filter_passes passes t.nodes k d within)
+            (All-filter passes (IsNodeSound t) t.nodes sound.nodes k d within);
+        names = AllPairs-filter AreApart passes t.nodes sound.names;
+        roots = All-weaker (HasRoot t) (HasRoot made) (λ user root. root_stays user (roots user root) root) t.users sound.roots;
+        users_given = sound.users_given;
+        members_there = sound.members_there;
+        groups_given = sound.groups_given;
+        few_nodes = omega (arith, sound.few_nodes, length-filter_both passes (λ row. not (passes row)) (λ row. refl) t.nodes);
+        few_pieces = omega (
+          arith,
+          sound.few_pieces,
+          sum_by-filter_both passes (λ row. not (passes row)) (λ row. refl) (λ row. length row.content) t.nodes,
+        );
+        later = sound.later;
+        others = others_ended t gone made.nodes items sound
+            (λ n row there. was_same t.nodes n row (those_were (stays gone) t.nodes n row there).1)
+            (λ n passes up. those_leads (stays gone) t.nodes n closed (ap not passes) up)
+            (All-filter passes (IsOff t) t.nodes (all_off t sound))
+            (items_left t made gone items (le_refl _) (row_of_those (stays gone) t.nodes) left) left.rise;
+      }
 
 -- ---- the tables without the nodes under a top
 
@@ -105,7 +110,7 @@ folder_left t top sound node parent above left =
     never_climbs t node top sound outside (suc c.0) (rw above c.2)))
 
 -- a root is left, since a top that it is under is that root
-root_left : (t : Tables) (top : ℕ) → is_root t.nodes top ≡ false → (user : UserRow) → HasRoot t user → is_left t.nodes top user.root ≡ true
+pub root_left : (t : Tables) (top : ℕ) → is_root t.nodes top ≡ false → (user : UserRow) → HasRoot t user → is_left t.nodes top user.root ≡ true
 root_left t top no_root user root =
     not_from_false (is_under t.nodes user.root top) (false_from_ne_true (is_under t.nodes user.root top) (λ under.
     let c = under_climb t.nodes user.root top under in
@@ -125,7 +130,8 @@ trash_left rows top present node row there place =
 
 pub left_sound : (t : Tables) (top : ℕ) → AreSound t → is_root t.nodes top ≡ false → LeadsToRoot t.nodes top → AreSound (removed t top)
 left_sound t top sound no_root present =
-    those_sound t (λ node. is_under t.nodes node top) sound (folder_left t top sound) (root_left t top no_root) (trash_left t.nodes top present)
+    let gone : ℕ → Bool = λ node. is_under t.nodes node top in
+    those_sound t gone t.items sound (folder_left t top sound) (items_all t gone sound (trash_left t.nodes top present)) (root_left t top no_root)
 
 -- what is present and isn't under the top is present without it
 pub left_leads : (t : Tables) (top node : ℕ) → AreSound t → is_under t.nodes node top ≡ false → LeadsToRoot t.nodes node

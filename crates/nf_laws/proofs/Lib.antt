@@ -20,6 +20,7 @@ pub mod Exceeding
 pub mod Following
 pub mod Free
 pub mod Given
+pub mod Going
 pub mod Gone
 pub mod Held
 pub mod Lines
@@ -57,6 +58,7 @@ pub mod Stays
 pub mod Stored
 pub mod Telling
 pub mod Transferred
+pub mod Trashed
 pub mod Trashing
 pub mod Upwards
 pub mod Walked

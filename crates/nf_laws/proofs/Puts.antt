@@ -148,7 +148,7 @@ put_share (x ∷ done) shares row share same rising =
 same_ended : (share : ShareRow) → share.ended ≡ true → ended_row share ≡ share
 same_ended share is = ap (λ (b : Bool). record share { ended = b }) (sym is)
 
-closes : (t : Tables) (nodes : List NodeRow) (top : ℕ) (done shares : List ShareRow) (rest : List Change) → IsRising share_key (done ++ shares)
+pub closes : (t : Tables) (nodes : List NodeRow) (top : ℕ) (done shares : List ShareRow) (rest : List Change) → IsRising share_key (done ++ shares)
     → put_all (record t { shares = done ++ shares }) (closed_under nodes shares top ++ rest)
     ≡ put_all (record t { shares = done ++ ended_under nodes top shares }) rest
 closes t nodes top done [] rest rising = refl

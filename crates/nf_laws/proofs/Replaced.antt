@@ -7,7 +7,7 @@ use Rattle.nf_base.specs.declared.content.Piece.{Piece}
 use Rattle.nf_base.specs.declared.rows.NodeRow.{NodeRow}
 use Rattle.nf_defs.specs.Prelude.{filled, is_folder_kind, node_row, Tables, with_node}
 use Rattle.nf_laws.proofs.OneRow.{IsEither, each_either, length_with, pieces_with, rising_with, row_with, same_either, with_each}
-use Rattle.nf_laws.proofs.Others.{others_still, still_with, trash_kept}
+use Rattle.nf_laws.proofs.Others.{items_still, others_seen, seen_with, trash_kept}
 use Rattle.nf_laws.proofs.Present.{kept_leads}
 use Rattle.nf_laws.proofs.Rows.{AreKept, Kept, kept_row, node_kept, none_higher, pieces_kept, root_kept}
 use Rattle.nf_words.specs.Prelude.{AreSound, HasRoot, IsFilled, IsNodeSound}
@@ -101,14 +101,13 @@ filled_sound t row sound is =
             )
       ];
       later = sound.later;
-      others = others_still t t.meta made.nodes sound (none_higher t.meta t.meta.last) (le_refl _)
-          (still_with t row.id change sound (record {
+      others = others_seen t t.meta made.nodes t.items sound (none_higher t.meta t.meta.last) (le_refl _)
+          (seen_with t row.id change sound (record {
             id = λ row. refl;
             owner = λ row. refl;
             kind = λ row. refl;
             root = λ row there. refl;
             off = λ row there off. off;
-            present = λ n. kept_leads t.nodes made.nodes n kept;
-            trashed = trash_kept t.nodes made.nodes kept;
-          }));
+          }) (λ n. kept_leads t.nodes made.nodes n kept))
+          (items_still t made (le_refl _) (trash_kept t.nodes made.nodes kept) sound.others.items) sound.others.items_rise;
     }

@@ -1,36 +1,28 @@
 -- What comes back from the trash, row by row, and what of a user's trash is dropped.
-use Rattle.std.proofs.Common.{ℕ, zero, suc, ◌==◌, ◌&&◌, ◌≡◌, ◌≢◌, ◌<◌, ◌^◌, true, false, not, List, [], ◌∷◌, Option, None, Some, filter, get_or, if◌then◌else◌, length, map, option_map, inl, inr, refl, sym, ap, subst, ◌∙◌, arith}
+use Rattle.std.proofs.Common.{ℕ, zero, suc, ◌==◌, ◌≡◌, ◌≢◌, true, List, [], ◌∷◌, Option, None, Some, filter, get_or, if◌then◌else◌, map, option_map, inl, inr, refl, sym, ap, subst, ◌∙◌, arith}
 use Rattle.std.specs.Prelude.{is_some}
 use Rattle.std.specs.List.{All, Contains}
-use Rattle.std.specs.Option.{option_and_then, option_map_or}
-use Rattle.std.proofs.lemmas.Bool.{and_parts, cases_Bool, cond_both, eq-eqb, eqb-true, ne_eqb}
-use Rattle.std.proofs.lemmas.List.{length-map}
-use Rattle.std.proofs.lemmas.List.Filters.{length-filter_both}
+use Rattle.std.proofs.lemmas.Bool.{cases_Bool, cond_both, eq-eqb, eqb-true, ne_eqb}
 use Rattle.std.proofs.lemmas.Option.{none-some, option_and_then_some, same_Some}
-use Rattle.nf_access.proofs.Naming.{free_is_free, taken_child}
-use Rattle.nf_access.specs.Mounts.{free_name_of, names_in_root, root_folder}
 use Rattle.nf_base.specs.declared.rows.ItemRow.{ItemRow}
 use Rattle.nf_base.specs.declared.rows.NodeRow.{NodeRow}
 use Rattle.nf_base.specs.declared.rows.Place.TheVariants.{Trash}
-use Rattle.nf_base.specs.declared.rows.UserRow.{UserRow}
-use Rattle.nf_defs.proofs.Climbs.{under_climb}
-use Rattle.nf_defs.specs.Prelude.{child_of, folder_of, is_folder, is_folder_kind, is_in, is_root, is_root_place, is_under, item_row, node_row, owner_of, parent_of, relinked, Tables, taken_names, user_row}
-use Rattle.nf_laws.proofs.Climbs.{parent_at, some_there}
+use Rattle.nf_defs.proofs.Climbs.{climb_under}
+use Rattle.nf_defs.specs.Prelude.{dropped, item_key, item_row, node_row, relinked, Tables}
 use Rattle.nf_laws.proofs.Discarding.{AreGoneBeside, goes_beside, goes_told, items_are}
 use Rattle.nf_laws.proofs.OneRow.{row_itself, row_other}
-use Rattle.nf_laws.proofs.Paths.{climb_own, IsOf}
 use Rattle.nf_laws.proofs.Presence.{leads_present}
-use Rattle.nf_laws.proofs.Present.{below_present, never_trash, root_leads, trash_alone}
-use Rattle.nf_laws.proofs.Purged.{ArePurged, AreTwo, climb_beside, HasTops, item_is, item_none, item_other, items_purged, purged_rest, shares_purged, sound_tops, those_items, under_beside}
-use Rattle.nf_laws.proofs.Rows.{folder_there, found_is, row_is, stamp, stamped_some}
-use Rattle.nf_laws.proofs.Upwards.{climb_short, climbed, derived}
+use Rattle.nf_laws.proofs.Present.{trash_alone}
+use Rattle.nf_laws.proofs.Going.{ArePurged, AreTwo, item_is, items_purged, present_off, purged_rest, shares_purged}
+use Rattle.nf_laws.proofs.Moved.{Fits}
+use Rattle.nf_laws.proofs.Others.{item_gone, item_other}
+use Rattle.nf_laws.proofs.Rows.{stamp, stamped_some}
+use Rattle.nf_laws.proofs.Trashed.{item_top, restored_below, restored_fits, restored_sound}
+use Rattle.nf_laws.proofs.Upwards.{climbed}
 use Rattle.nf_laws.specs.Acts.{IsEmptied, IsItemOf, IsRestored}
-use Rattle.nf_laws.specs.Tree.{Under}
-use Rattle.nf_words.proofs.Ensured.{free_in_root}
-use Rattle.nf_words.proofs.Known.{IsItem}
-use Rattle.nf_words.proofs.Ways.{inside_present}
+use Rattle.nf_words.proofs.Known.{IsItem, KnownRestore}
 use Rattle.nf_words.specs.Others.{IsItemSound}
-use Rattle.nf_words.specs.Prelude.{AreSound, asker_of, Call, changed, HasRoot, home_of, IsPlaceSound, item_if_of, lacks_item, LeadsToRoot, name_back, own_item, purged_all, restored, told}
+use Rattle.nf_words.specs.Prelude.{AreSound, asker_of, Call, changed, home_of, item_if_of, lacks_item, LeadsToRoot, name_back, own_item, purged_all, restored, told}
 use Rattle.nf_words.specs.declared.answer.Allowed.TheVariants as allowed
 use Rattle.nf_words.specs.declared.answer.Deed.TheVariants as deed
 use Rattle.nf_words.specs.declared.answer.Report.{Report}
@@ -50,7 +42,7 @@ emptied_rows call tops report sound own once = here tops own once
         → IsEmptied call (stamp (purged_all t tops) moment) tops
     without tops moment own once =
         let items = items_are t (asker_of call) tops own in
-        let h = items_purged t tops (sound_tops t sound) items once in
+        let h = items_purged t tops sound items once in
         record {
           emptied = record { items = own; gone = h.gone; none = h.none };
           others = h.others;
@@ -59,7 +51,7 @@ emptied_rows call tops report sound own once = here tops own once
               ∙ (λ i. record t {
                 meta = record t.meta { last = moment };
                 nodes = (purged_all t tops).nodes;
-                shares = shares_purged t tops (sound_tops t sound) items once i;
+                shares = shares_purged t tops sound items once i;
                 items = (purged_all t tops).items;
               });
         }
@@ -104,152 +96,33 @@ own_named call node named = here (own_item call node) refl named
         ]) in
         (item, e, of.0, of.1)
 
--- ---- where an item comes back to
+-- ---- what comes back
 
--- a folder of the user's that is present
-pub record IsHome (t : Tables) (user folder : ℕ) : Type 0 where
-  pub folds : is_folder t.nodes folder ≡ true
-  pub leads : LeadsToRoot t.nodes folder
-  pub owner : owner_of t.nodes folder ≡ user
+module _ (t : Tables) (item : ItemRow) (sound : AreSound t) (known : KnownRestore t item.node (home_of t item) (name_back t item)) where
+  abbrev home : ℕ
+  home = home_of t item
 
-module _ (t : Tables) (item : ItemRow) (sound : AreSound t) (there : item_row t.items item.node ≡ Some item) where
-  abbrev is_sound : IsItemSound t item
-  is_sound = (item_is t item.node sound item there).1
-
-  abbrev root : ℕ
-  root = root_folder t.users item.owner
-
-  -- the root of its owner's
-  own_root : (row : NodeRow) × (node_row t.nodes root ≡ Some row) × (is_root_place row.place ≡ true) × (is_folder_kind row.kind ≡ true) × (row.owner ≡ item.owner)
-  own_root =
-      let top = (row_is t item.node is_sound.of sound is_sound.there).1 in
-      let of = (subst (IsPlaceSound t is_sound.of) is_sound.place top.place).0 in
-      let user = some_there (user_row t.users item.owner) (subst (λ (n : ℕ). is_some (user_row t.users n) ≡ true) is_sound.owner of) in
-      let found = found_is (HasRoot t) (λ (row : UserRow). row.id == item.owner) t.users user.0 sound.roots user.1 in
-      let r = found.1 in (
-        r.row,
-        ap (λ (o : Option UserRow). node_row t.nodes (option_map_or (λ row. row.root) o 0)) user.1 ∙ r.there,
-        ap is_root_place r.place,
-        r.folder,
-        r.owner ∙ eqb-true user.0.id item.owner found.0,
-      )
-
-  is_root_there : is_root t.nodes root ≡ true
-  is_root_there = rw own_root.1 own_root.2
-
-  pub home_is : IsHome t item.owner (home_of t item)
-  home_is =
-      cond_both (is_folder t.nodes item.from && is_under t.nodes item.from root) item.from root (IsHome t item.owner)
-      (λ e.
-      let parts = and_parts (is_folder t.nodes item.from) (is_under t.nodes item.from root) e in
-      let c = under_climb t.nodes item.from root parts.1 in
-      let row = folder_there t.nodes item.from parts.0 in
-      let of : IsOf t item.owner root = record { row = own_root.0; there = own_root.1; owner = own_root.4 } in
-      record {
-        folds = parts.0;
-        leads = below_present c.0 t.nodes item.from root c.2 (root_leads t.nodes root is_root_there);
-        owner = rw row.1 (climb_own c.0 t item.owner item.from root row.0 sound c.2 of row.1);
-      })
-      (λ e. record { folds = rw own_root.1 own_root.3; leads = root_leads t.nodes root is_root_there; owner = rw own_root.1 own_root.4 })
-
-  -- the name that it has there is free
-  pub back_free : child_of t.nodes (home_of t item) (name_back t item) ≡ None
-  back_free =
-      cond_both (home_of t item == root) (names_in_root t.users t.nodes t.mounts item.owner) (taken_names t.nodes (home_of t item))
-      (λ (names : List (List ℕ)). child_of t.nodes (home_of t item) (free_name_of item.name names) ≡ None)
-      (λ e.
-      let free = free_name_of item.name (names_in_root t.users t.nodes t.mounts item.owner) in
-      ap (λ (n : ℕ). child_of t.nodes n free) (eqb-true (home_of t item) root e)
-      ∙ (free_in_root t.users t.nodes t.mounts item.owner item.name sound.few_nodes sound.others.few_mounts).0)
-      (λ e. in_folder (home_of t item))
-    where
-      no_child : (o : Option ℕ) → is_some o ≡ false → o ≡ None
-      no_child None none = refl
-      no_child (Some node) none = absurd (cc)
-
-      in_folder : (folder : ℕ) → child_of t.nodes folder (free_name_of item.name (taken_names t.nodes folder)) ≡ None
-      in_folder folder =
-          let names = taken_names t.nodes folder in
-          let few : length names < 2 ^ 32 =
-          omega (
-            arith,
-            sound.few_nodes,
-            length-map (filter (is_in folder) t.nodes) (λ (row : NodeRow). row.name),
-            length-filter_both (is_in folder) (λ (row : NodeRow). not (is_in folder row)) (λ row. refl) t.nodes,
-          ) in
-          no_child (child_of t.nodes folder (free_name_of item.name names))
-          (sym (taken_child t.nodes folder (free_name_of item.name names)) ∙ free_is_free item.name names few)
-
-  -- ---- what comes back
+  abbrev name : List ℕ
+  name = name_back t item
 
   abbrev back : Tables
-  back = restored t item.node (home_of t item) (name_back t item)
+  back = restored t item.node home name
 
-  abbrev moved : NodeRow → NodeRow
-  moved = relinked (home_of t item) (name_back t item)
+  back_sound : AreSound back
+  back_sound = restored_sound t item.node home name sound known
 
-  row_back : node_row back.nodes item.node ≡ Some (moved is_sound.of)
-  row_back = row_itself t.nodes item.node moved (λ r. refl) ∙ ap (option_map moved) is_sound.there
+  abbrev top : (row : NodeRow) × (node_row t.nodes item.node ≡ Some row) × (row.place ≡ Trash)
+  top = item_top t item.node sound (ap is_some known.there)
+
+  row_back : node_row back.nodes item.node ≡ Some (relinked home name top.0)
+  row_back = row_itself t.nodes item.node (relinked home name) (λ r. refl) ∙ ap (option_map (relinked home name)) top.1
 
   row_off : (node : ℕ) → node ≢ item.node → node_row back.nodes node ≡ node_row t.nodes node
-  row_off node differs = row_other t.nodes item.node moved (λ r. refl) node (ne_eqb node item.node differs)
+  row_off node differs = row_other t.nodes item.node (relinked home name) (λ r. refl) node (ne_eqb node item.node differs)
 
-  parent_off : (node : ℕ) → node ≢ item.node → parent_of back.nodes node ≡ parent_of t.nodes node
-  parent_off node differs = ap (option_and_then (λ (row : NodeRow). folder_of row.place)) (row_off node differs)
-
-  -- it is under no item but itself, before
-  alone : (top : ℕ) → top ≢ item.node → Under t.nodes top item.node → ⊥
-  alone top differs below =
-      let c = climbed t.nodes top item.node below in
-      differs (sym (trash_alone c.0 t.nodes item.node top is_sound.of is_sound.there is_sound.place c.1))
-
-  -- what is present isn't under it
-  present_alone : (node : ℕ) → LeadsToRoot t.nodes node → Under t.nodes node item.node → ⊥
-  present_alone node present below =
-      let c = climbed t.nodes node item.node below in
-      never_trash 0 t.nodes item.node item.node is_sound.of (below_present c.0 t.nodes item.node node c.1 present) refl is_sound.there is_sound.place
-
-  -- it is present then, in its folder
+  -- it is present then
   back_present : LeadsToRoot back.nodes item.node
-  back_present =
-      let up = home_is.leads in
-      let apart = present_alone up.top (root_leads t.nodes up.top up.root) in
-      let stays : node_row back.nodes up.top ≡ node_row t.nodes up.top =
-      row_off up.top (λ same. apart (subst (Under t.nodes up.top) same (derived 0 t.nodes up.top up.top refl))) in
-      inside_present back.nodes item.node (home_of t item) (parent_at back.nodes item.node (home_of t item) (moved is_sound.of) row_back refl)
-      (record {
-        steps = up.steps;
-        top = up.top;
-        climbs = climb_beside t.nodes back.nodes item.node up.top parent_off apart up.steps (home_of t item) up.climbs;
-        root = ap (λ (o : Option NodeRow). option_map_or (λ row. is_root_place row.place) o false) stays ∙ up.root;
-      })
-
-  was_item : (node : ℕ) → IsItem back node → IsItem t node × (node ≢ item.node)
-  was_item = those_items t.items item.node
-
-  still_top : (top : ℕ) → IsItem t top → top ≢ item.node → (row : NodeRow) × (node_row back.nodes top ≡ Some row) × (row.place ≡ Trash)
-  still_top top is differs = let row = (sound_tops t sound).tops top is in (row.0, row_off top differs ∙ row.1, row.2)
-
-  -- and under none of the others after
-  apart : (top : ℕ) → IsItem t top → top ≢ item.node → Under back.nodes top item.node → ⊥
-  apart top is differs below =
-      let row = still_top top is differs in
-      let c = climbed back.nodes top item.node below in
-      never_trash c.0 back.nodes item.node top row.0 back_present c.1 row.1 row.2
-
-  back_tops : HasTops back
-  back_tops = record {
-    tops = λ node is. let was = was_item node is in still_top node was.0 was.1;
-    short = λ top is j node up.
-        let was = was_item top is in
-        climb_short j t node top sound
-        (climb_beside back.nodes t.nodes item.node top (λ other differs. sym (parent_off other differs)) (apart top was.0 was.1) j node up);
-    shares = λ k d within top is below.
-        let was = was_item top is in
-        (sound_tops t sound).shares k d within top was.0
-        (under_beside back.nodes t.nodes item.node top (λ other differs. sym (parent_off other differs)) (apart top was.0 was.1)
-        (get_or t.shares k d).node below);
-  }
+  back_present = restored_below t item.node home name item.node sound known (climb_under 0 t.nodes item.node item.node (omega arith) refl)
 
   -- items that go meanwhile
   module _ (gone : List ℕ) (items : All (IsItem t) gone) (others : All (λ (node : ℕ). item.node ≢ node) gone) (once : AreTwo gone) where
@@ -257,49 +130,52 @@ module _ (t : Tables) (item : ItemRow) (sound : AreSound t) (there : item_row t.
     left = purged_all back gone
 
     still : All (IsItem back) gone
-    still k d within =
-        ap is_some (item_other t.items item.node (get_or gone k d) (λ same. others k d within (sym same))) ∙ items k d within
+    still k d within = ap is_some (item_other item.node (get_or gone k d) t.items (λ same. others k d within (sym same))) ∙ items k d within
 
     back_purged : ArePurged back left gone
-    back_purged = items_purged back gone back_tops still once
+    back_purged = items_purged back gone back_sound still once
 
     back_shares : left.shares ≡ t.shares
-    back_shares = shares_purged back gone back_tops still once
+    back_shares = shares_purged back gone back_sound still once
 
     back_beside : AreGoneBeside t back left item.node gone
     back_beside =
         goes_beside t back left item.node gone row_off
-        (λ k d within.
-        let differs : get_or gone k d ≢ item.node = λ same. others k d within (sym same) in
-        (alone (get_or gone k d) differs, apart (get_or gone k d) (items k d within) differs)) back_purged
+        (λ k d within. (
+          λ below.
+              let c = climbed t.nodes (get_or gone k d) item.node below in
+              others k d within (trash_alone c.0 t.nodes item.node (get_or gone k d) top.0 top.1 top.2 c.1),
+          present_off back (get_or gone k d) item.node back_sound (still k d within) back_present,
+        )) back_purged
 
 -- so an item that comes back is there, and others of its owner's that go are gone
 pub restored_rows : (call : Call) (item : ItemRow) (gone : List ℕ) → AreSound call.state.tables
-    → item_row call.state.tables.items item.node ≡ Some item → item.owner ≡ asker_of call
+    → item_row call.state.tables.items item.node ≡ Some item
+    → KnownRestore call.state.tables item.node (home_of call.state.tables item) (name_back call.state.tables item) → item.owner ≡ asker_of call
     → All (IsItemOf call.state.tables (asker_of call)) gone → All (λ (node : ℕ). item.node ≢ node) gone → AreTwo gone
     → IsRestored call item.node
     (stamp (purged_all (restored call.state.tables item.node (home_of call.state.tables item) (name_back call.state.tables item)) gone) call.now)
-restored_rows call item gone sound there own theirs others once = record {
+restored_rows call item gone sound there known own theirs others once = record {
   item = item;
   there = there;
   own = own;
-  row = (is_sound t item sound there).of;
-  was = (is_sound t item sound there).there;
-  folds = home.folds;
-  present = (leads_present t (home_of t item) sound).0 home.leads;
-  owner = home.owner ∙ own;
-  free = back_free t item sound there;
-  itself = beside.itself ∙ row_back t item sound there;
-  none = purge.no_items item.node (item_none t.items item.node);
+  row = of.0;
+  was = of.1;
+  folds = fits.1.in_folder;
+  present = (leads_present t (home_of t item) sound).0 fits.1.folder_present;
+  owner = fits.1.owner ∙ ap (λ (row : NodeRow). row.owner) (same_Some fits.0 is.of (sym fits.1.there ∙ is.there)) ∙ is.owner ∙ own;
+  free = fits.1.free;
+  itself = beside.itself ∙ row_back t item sound known;
+  none = purge.no_items item.node (item_gone item.node t.items);
   tops = gone;
   emptied = record { items = theirs; gone = beside.gone; none = purge.none };
   others = beside.others;
-  items = λ other differs off. purge.items other off ∙ item_other t.items item.node other differs;
-  rest = ap (λ (u : Tables). stamp u call.now) (purged_rest u gone)
+  items = λ other differs off. purge.items other off ∙ item_other item.node other t.items differs;
+  rest = ap (λ (made : Tables). stamp made call.now) (purged_rest u gone)
       ∙ (λ i. record t {
         meta = record t.meta { last = call.now };
         nodes = (purged_all u gone).nodes;
-        shares = back_shares t item sound there gone items others once i;
+        shares = back_shares t item sound known gone items others once i;
         items = (purged_all u gone).items;
       });
 }
@@ -310,14 +186,20 @@ restored_rows call item gone sound there own theirs others once = record {
     u : Tables
     u = restored t item.node (home_of t item) (name_back t item)
 
-    home : IsHome t item.owner (home_of t item)
-    home = home_is t item sound there
+    fits : (row : NodeRow) × Fits t (dropped item_key (item.node ∷ []) t.items) item.node (home_of t item) (name_back t item) row
+    fits = restored_fits t item.node (home_of t item) (name_back t item) sound known
+
+    is : IsItemSound t item
+    is = (item_is t item.node sound item there).1
+
+    of : (row : NodeRow) × (node_row t.nodes item.node ≡ Some row) × (row.place ≡ Trash)
+    of = top t item sound known
 
     items : All (IsItem t) gone
     items = items_are t (asker_of call) gone theirs
 
     purge : ArePurged u (purged_all u gone) gone
-    purge = back_purged t item sound there gone items others once
+    purge = back_purged t item sound known gone items others once
 
     beside : AreGoneBeside t u (purged_all u gone) item.node gone
-    beside = back_beside t item sound there gone items others once
+    beside = back_beside t item sound known gone items others once

@@ -11,7 +11,6 @@ use Rattle.nf_defs.specs.declared.Seeker.TheVariants as seeker
 use Rattle.nf_laws.proofs.Copied.{copied_sound, crossed_sound}
 use Rattle.nf_laws.proofs.Counters.{changed_up}
 use Rattle.nf_laws.proofs.Entries.{entry_has, tickets_left, tickets_with}
-use Rattle.nf_laws.proofs.Gone.{left_sound}
 use Rattle.nf_laws.proofs.Held.{act_leads, act_stays, held_on}
 use Rattle.nf_laws.proofs.Links.{KeepsShares, link_stays, shares_kept}
 use Rattle.nf_laws.proofs.Lists.{changes_sound}
@@ -19,7 +18,8 @@ use Rattle.nf_laws.proofs.Moved.{transferred_sound}
 use Rattle.nf_laws.proofs.Owned.{KeepsOwners, owners_kept}
 use Rattle.nf_laws.proofs.Others.{stamp_sound}
 use Rattle.nf_laws.proofs.Rows.{content_has, pieces_kept, stamp, stamped_has}
-use Rattle.nf_words.specs.Prelude.{after, after_mark, altered, AreApartHolds, AreSound, changed, goal_of, hold_of, HoldsFor, IsGoalSound, IsHeld, IsLegalFrom, IsPieceSound, IsSound, IsTicketSound, LeadsToRoot, MayCome, node_of_key, removed, replay, State, ticket_for, told, transferred, with_goal, without}
+use Rattle.nf_laws.proofs.Trashed.{trash_sound}
+use Rattle.nf_words.specs.Prelude.{after, after_mark, altered, AreApartHolds, AreSound, changed, goal_of, hold_of, HoldsFor, IsGoalSound, IsHeld, IsLegalFrom, IsPieceSound, IsSound, IsTicketSound, LeadsToRoot, MayCome, node_of_key, replay, State, ticket_for, told, transferred, with_goal, without}
 use Rattle.nf_words.specs.Sound.{MayStoreBy}
 use Rattle.nf_words.specs.declared.answer.Allowed.{Allowed}
 use Rattle.nf_words.specs.declared.answer.Allowed.TheVariants as allowed
@@ -43,7 +43,7 @@ use Rattle.nf_words.proofs.Steps.{differ_replay}
 altered_sound : (t : Tables) (now : ℕ) (act : Allowed) → AreSound t → t.meta.last ≤ now → Known t now act
     → AreSound (stamp (altered t now act) now)
 altered_sound t now (allowed.Change changes blob report) sound before known = changes_sound t now changes blob report sound before known
-altered_sound t now (allowed.Delete node) sound before known = stamp_sound (removed t node) now (left_sound t node sound known.no_root known.present) before
+altered_sound t now (allowed.Trash did gone report) sound before known = trash_sound t now did gone sound before known
 altered_sound t now (allowed.Move transfer name) sound before known =
     stamp_sound (transferred t transfer name) now (transferred_sound t transfer name sound known) before
 altered_sound t now (allowed.Copy rows replaced) sound before known = copied_sound t now rows replaced sound before known
