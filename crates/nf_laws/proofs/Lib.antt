@@ -51,6 +51,7 @@ pub mod Reached
 pub mod Reaching
 pub mod Reading
 pub mod Remaining
+pub mod Recharged
 pub mod Replaced
 pub mod Restoring
 pub mod Rows
