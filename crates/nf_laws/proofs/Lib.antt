@@ -16,6 +16,7 @@ pub mod Crossing
 pub mod Ended
 pub mod Entries
 pub mod Exceeding
+pub mod Fitting
 pub mod Following
 pub mod Free
 pub mod Given
@@ -24,6 +25,7 @@ pub mod Held
 pub mod Lines
 pub mod Links
 pub mod Leaning
+pub mod Leaving
 pub mod Lists
 pub mod Locking
 pub mod May
@@ -46,8 +48,10 @@ pub mod Quotas
 pub mod Reached
 pub mod Reaching
 pub mod Reading
+pub mod Remaining
 pub mod Replaced
 pub mod Rows
+pub mod Settling
 pub mod Sharing
 pub mod Sizes
 pub mod Sources

@@ -90,7 +90,7 @@ nodes_two (item ∷ items) pairs =
     (nodes_two items (tails AreTwo item items pairs))
 
 -- what the nodes of some items have, those of them that go have
-gone_has : (P : ℕ → Type 0) (t : Tables) (now quota : ℕ) (items : List ItemRow) → All (λ (item : ItemRow). P item.node) items
+pub gone_has : (P : ℕ → Type 0) (t : Tables) (now quota : ℕ) (items : List ItemRow) → All (λ (item : ItemRow). P item.node) items
     → All P (gone_of t now quota items)
 gone_has P t now quota items all =
     All-map P (λ (item : ItemRow). item.node) _
