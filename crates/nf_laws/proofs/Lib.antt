@@ -48,6 +48,7 @@ pub mod Quotas
 pub mod Reached
 pub mod Reaching
 pub mod Reading
+pub mod Recharged
 pub mod Remaining
 pub mod Replaced
 pub mod Rows
