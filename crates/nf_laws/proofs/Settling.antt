@@ -1,6 +1,5 @@
 -- A DELETE, and what is asked about the trash: what goes for good is of the trash of one user.
 use Rattle.std.proofs.Common.{ℕ, zero, suc, ◌==◌, ◌≡◌, ◌≢◌, ◌⊎◌, ◌≤◌, Bool, true, false, not, List, [], ◌∷◌, Option, None, Some, filter, map, get_or, if◌then◌else◌, refl, sym, ap, subst, ◌∙◌, inl, inr, arith}
-use Rattle.std.specs.Prelude.{is_some}
 use Rattle.std.specs.List.{All, list_any}
 use Rattle.std.specs.Option.{option_and_then, option_map_or}
 use Rattle.std.proofs.lemmas.Bool.{eq-eqb, eqb-true, false≢true, ne_eqb}
@@ -11,19 +10,17 @@ use Rattle.nf_base.specs.declared.perms.Act.TheVariants.{Delete}
 use Rattle.nf_base.specs.declared.rows.ItemRow.{ItemRow}
 use Rattle.nf_base.specs.declared.rows.NodeRow.{NodeRow}
 use Rattle.nf_defs.proofs.Puts.{below_one, tail_rising}
-use Rattle.nf_defs.specs.Prelude.{IsRising, item_key, item_row, node_row, Tables, user_row}
+use Rattle.nf_defs.specs.Prelude.{IsRising, item_key, item_row, node_row, Tables}
 use Rattle.nf_defs.specs.declared.Seeker.{Seeker}
-use Rattle.nf_laws.proofs.Climbs.{some_there}
 use Rattle.nf_laws.proofs.Following.{AllFollow}
 use Rattle.nf_laws.proofs.Leaving.{discarded_follow, discarded_items, discarded_shares, present_no_item, purged_follow, purged_items, purged_shares, same_items}
 use Rattle.nf_laws.proofs.Remaining.{shares_present}
 use Rattle.nf_laws.proofs.Rows.{found_is, stamp, stamped_has}
-use Rattle.nf_laws.proofs.Trashed.{home_there, IsHome, name_free, purged_stamped}
-use Rattle.nf_laws.proofs.Upwards.{owners_there}
+use Rattle.nf_laws.proofs.Trashed.{home_fits, purged_stamped}
 use Rattle.nf_laws.specs.Access.{by_asking, by_delete, ChangesAllowed, IsNeeded, IsSettled, ItemsFollow, MayDo, needs_of, NodesAllowed, seeker_at, Settles, shares_without}
+use Rattle.nf_laws.specs.Acts.{IsItemOf}
 use Rattle.nf_words.proofs.Known.{IsItem, Known, KnownGone}
 use Rattle.nf_words.proofs.Trashing.{gone_has, own_there}
-use Rattle.nf_words.specs.Others.{IsItemSound}
 use Rattle.nf_words.specs.Prelude.{altered, AreSound, asker_of, Call, call_of, changed, deed_done, discard, gone_beside, gone_of, home_of, IsSound, item_dropped, item_for, item_if_of, item_restored, items_but, items_of, LeadsToRoot, name_back, Need, nothing_done, own_item, purged, purged_all, quota_of, restored, State, told, trash_done}
 use Rattle.nf_words.specs.declared.answer.Allowed.{Allowed}
 use Rattle.nf_words.specs.declared.answer.Allowed.TheVariants as allowed
@@ -39,10 +36,6 @@ use Rattle.nf_words.specs.declared.request.Words.{Words}
 
 -- ---- the items of a user
 
--- the node is an item in the trash of a user
-abbrev pub IsOf : Tables → ℕ → ℕ → Type 0
-IsOf t user top = (item : ItemRow) × (item_row t.items top ≡ Some item) × (item.owner ≡ user)
-
 -- each item is found by its node
 item_each : (items : List ItemRow) → IsRising item_key items → All (λ (item : ItemRow). item_row items item.node ≡ Some item) items
 item_each [] rising k d within = absurd (omega arith)
@@ -53,7 +46,7 @@ item_each (x ∷ items) rising (suc k) d within =
     (item_each items (tail_rising item_key x items rising) k d (omega (arith, within)))
 
 module _ (t : Tables) (sound : AreSound t) where
-  of_user : (user : ℕ) → All (λ (item : ItemRow). IsOf t user item.node) (items_of t user)
+  of_user : (user : ℕ) → All (λ (item : ItemRow). IsItemOf t user item.node) (items_of t user)
   of_user user k d within =
       let mine : ItemRow → Bool = λ item. item.owner == user in
       let item = get_or (items_of t user) k d in (
@@ -63,14 +56,14 @@ module _ (t : Tables) (sound : AreSound t) where
       )
 
   -- those that go of a user's are the user's
-  pub gone_of_user : (now quota user : ℕ) → All (IsOf t user) (gone_of t now quota (items_of t user))
-  gone_of_user now quota user = gone_has (IsOf t user) t now quota (items_of t user) (of_user user)
+  pub gone_of_user : (now quota user : ℕ) → All (IsItemOf t user) (gone_of t now quota (items_of t user))
+  gone_of_user now quota user = gone_has (IsItemOf t user) t now quota (items_of t user) (of_user user)
 
   -- and so beside an item of theirs
-  beside_of_user : (now : ℕ) (item : ItemRow) → All (IsOf t item.owner) (gone_beside t now item)
+  beside_of_user : (now : ℕ) (item : ItemRow) → All (IsItemOf t item.owner) (gone_beside t now item)
   beside_of_user now item =
-      gone_has (IsOf t item.owner) t now (quota_of t item.owner) (items_but t item.owner item.node)
-      (All-filter (λ (other : ItemRow). not (other.node == item.node)) (λ (other : ItemRow). IsOf t item.owner other.node) (items_of t item.owner)
+      gone_has (IsItemOf t item.owner) t now (quota_of t item.owner) (items_but t item.owner item.node)
+      (All-filter (λ (other : ItemRow). not (other.node == item.node)) (λ (other : ItemRow). IsItemOf t item.owner other.node) (items_of t item.owner)
       (of_user item.owner))
 
   -- the item of a user, found by its node
@@ -85,14 +78,6 @@ module _ (t : Tables) (sound : AreSound t) where
       owned true e is = eqb-true item.owner user e
       owned false e is = absurd (none-some item is)
 
-  -- where an item comes back to is a folder of its owner's
-  item_home : (item : ItemRow) → item_row t.items item.node ≡ Some item → IsHome t item.owner (home_of t item)
-  item_home item there =
-      let is = (found_is (IsItemSound t) (λ (other : ItemRow). other.node == item.node) t.items item sound.others.items there).1 in
-      let user = some_there (user_row t.users is.of.owner)
-      (found_is (λ (r : NodeRow). is_some (user_row t.users r.owner) ≡ true) (λ (r : NodeRow). r.id == item.node) t.nodes is.of (owners_there t sound) is.there).1 in
-      home_there t item user.0 sound (ap (user_row t.users) (sym is.owner) ∙ user.1)
-
   -- what is present goes as no item
   present_goes : (node : ℕ) → LeadsToRoot t.nodes node → IsItem t node ⊎ KnownGone t node → KnownGone t node
   present_goes node up (inl item) = absurd (present_no_item t node sound up item)
@@ -103,10 +88,10 @@ module _ (t : Tables) (sound : AreSound t) where
 -- nothing does
 pub none_settled : (s : State) (e : Entry) (made : Tables) → IsSettled s e made made
 none_settled s e made =
-    record { user = 0; tops = []; items = All-nil (IsOf s.tables 0); settles = λ some. absurd (some refl); gone = refl }
+    record { user = 0; tops = []; items = All-nil (IsItemOf s.tables 0); settles = λ some. absurd (some refl); gone = refl }
 
 -- some of the trash of a user does
-pub some_settled : (s : State) (e : Entry) (made : Tables) (user : ℕ) (tops : List ℕ) → All (IsOf s.tables user) tops → Settles s e user
+pub some_settled : (s : State) (e : Entry) (made : Tables) (user : ℕ) (tops : List ℕ) → All (IsItemOf s.tables user) tops → Settles s e user
     → IsSettled s e (stamp made e.moment) (stamp (purged_all made tops) e.moment)
 some_settled s e made user tops items settles =
     record { user = user; tops = tops; items = items; settles = λ some. settles; gone = sym (purged_stamped made e.moment tops) }
@@ -170,17 +155,17 @@ module _ (s : State) (e : Entry) (sound : IsSound s) where
 
     -- what goes is the node, or of its owner's trash
     abbrev EitherOf : ℕ → Type 0
-    EitherOf node = (node ≡ row.id) ⊎ IsOf t row.owner node
+    EitherOf node = (node ≡ row.id) ⊎ IsItemOf t row.owner node
 
     either_gone : All EitherOf gone
     either_gone =
         gone_has EitherOf t now (quota_of t row.owner) (item ∷ items_of t row.owner)
         (All-cons (λ (other : ItemRow). EitherOf other.node) item (items_of t row.owner) (inl refl)
-        (All-weaker (λ (other : ItemRow). IsOf t row.owner other.node) (λ (other : ItemRow). EitherOf other.node) (λ other is. inr is)
+        (All-weaker (λ (other : ItemRow). IsItemOf t row.owner other.node) (λ (other : ItemRow). EitherOf other.node) (λ other is. inr is)
         (items_of t row.owner) (of_user t sound.rows row.owner)))
 
     -- so the items among them are of it
-    items_gone : (nodes : List ℕ) → All EitherOf nodes → All (IsItem t) nodes → All (IsOf t row.owner) nodes
+    items_gone : (nodes : List ℕ) → All EitherOf nodes → All (IsItem t) nodes → All (IsItemOf t row.owner) nodes
     items_gone nodes either items k d within =
         elim (either k d within) [
           | inl same ↦ absurd (present_no_item t row.id sound.rows present (subst (IsItem t) same (items k d within)))
@@ -249,7 +234,7 @@ module _ (s : State) (e : Entry) (sound : IsSound s) where
       asking = by_asking words request asked begins wanted
 
       -- some of the asker's items go, and nothing else is done
-      only_goes : (tops : List ℕ) → All (IsOf t asker) tops → IsAllowed (changed t now (allowed.Trash deed.Nothing tops report.Done))
+      only_goes : (tops : List ℕ) → All (IsItemOf t asker) tops → IsAllowed (changed t now (allowed.Trash deed.Nothing tops report.Done))
       only_goes tops items =
           by_stamp (allowed.Trash deed.Nothing tops report.Done)
           (record { between = stamp t now; allowed = inl stamped_nodes; settled = some_settled s e t asker tops items asking })
@@ -259,8 +244,8 @@ module _ (s : State) (e : Entry) (sound : IsSound s) where
       drop_allowed node (Some item) is =
           let own = own_of t sound.rows asker node item is in
           only_goes (item.node ∷ gone_beside t now item)
-          (All-cons (IsOf t asker) item.node (gone_beside t now item) (item, ap (item_row t.items) own.1 ∙ own.0, own.2)
-          (subst (λ (user : ℕ). All (IsOf t user) (gone_beside t now item)) own.2 (beside_of_user t sound.rows now item)))
+          (All-cons (IsItemOf t asker) item.node (gone_beside t now item) (item, ap (item_row t.items) own.1 ∙ own.0, own.2)
+          (subst (λ (user : ℕ). All (IsItemOf t user) (gone_beside t now item)) own.2 (beside_of_user t sound.rows now item)))
 
     restore_allowed : (user : List ℕ) (node : ℕ) → request.wanted ≡ Trash (trash.Restore user node) → (o : Option ItemRow) → own_item call node ≡ o
         → IsAllowed (changed t now (option_map_or (item_restored t now) o nothing_done))
@@ -269,7 +254,7 @@ module _ (s : State) (e : Entry) (sound : IsSound s) where
         let own = own_of t sound.rows asker node item is in
         let home = home_of t item in
         let name = name_back t item in
-        let at = item_home t sound.rows item (ap (item_row t.items) own.1 ∙ own.0) in
+        let at = home_fits t item sound.rows (ap (item_row t.items) own.1 ∙ own.0) in
         let made = restored t item.node home name in
         by_stamp (item_restored t now item)
         (record {
@@ -283,13 +268,13 @@ module _ (s : State) (e : Entry) (sound : IsSound s) where
             wanted = wanted;
             item = item;
             own = is;
-            folds = at.in_folder;
-            owner = at.owned;
-            free = (name_free t item.owner home item.name sound.rows at.owned).0;
+            folds = at.0;
+            owner = at.1;
+            free = at.2;
             rows = ap (λ (n : ℕ). stamp (restored t n home name) now) own.1;
           }));
           settled = some_settled s e made asker (gone_beside t now item)
-              (subst (λ (user : ℕ). All (IsOf t user) (gone_beside t now item)) own.2 (beside_of_user t sound.rows now item))
+              (subst (λ (user : ℕ). All (IsItemOf t user) (gone_beside t now item)) own.2 (beside_of_user t sound.rows now item))
               (asking (trash.Restore user node) wanted);
         })
 
@@ -298,5 +283,5 @@ module _ (s : State) (e : Entry) (sound : IsSound s) where
     trash_allowed (trash.Drop user node) wanted = drop_allowed (trash.Drop user node) wanted node (own_item call node) refl
     trash_allowed (trash.Empty user) wanted =
         only_goes (trash.Empty user) wanted (map (λ item. item.node) (items_of t asker))
-        (All-map (IsOf t asker) (λ (item : ItemRow). item.node) (items_of t asker) (of_user t sound.rows asker))
+        (All-map (IsItemOf t asker) (λ (item : ItemRow). item.node) (items_of t asker) (of_user t sound.rows asker))
     trash_allowed (trash.Restore user node) wanted = restore_allowed user node wanted (own_item call node) refl

@@ -221,7 +221,7 @@ under_home t user folder sound root is under =
     }
 
 -- so is the home of an item, whose owner is there
-pub home_there : (t : Tables) (item : ItemRow) (user : UserRow) → AreSound t → user_row t.users item.owner ≡ Some user → IsHome t item.owner (home_of t item)
+home_there : (t : Tables) (item : ItemRow) (user : UserRow) → AreSound t → user_row t.users item.owner ≡ Some user → IsHome t item.owner (home_of t item)
 home_there t item user sound there =
     subst (λ (n : ℕ). IsHome t n (home_of t item)) (eqb-true user.id item.owner found.0)
     (here (is_folder t.nodes item.from) (is_under t.nodes item.from root) refl refl)
