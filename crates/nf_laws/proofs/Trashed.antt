@@ -34,7 +34,7 @@ use Rattle.nf_laws.proofs.Upwards.{climb_short, never_climbs, owners_there}
 use Rattle.nf_words.proofs.Ensured.{free_in_root}
 use Rattle.nf_words.proofs.Known.{IsItem, KnownDeed, KnownGoes, KnownGone, KnownRestore, KnownTrash}
 use Rattle.nf_words.specs.Others.{IsItemSound}
-use Rattle.nf_words.specs.Prelude.{AreSound, deed_done, discarded, HasRoot, home_of, IsNodeSound, IsPlaceSound, IsUnmounted, LeadsToRoot, names_taken_in, purged, purged_all, restored, root_of_user}
+use Rattle.nf_words.specs.Prelude.{AreSound, deed_done, discarded, HasRoot, home_of, IsNodeSound, IsPlaceSound, IsUnmounted, LeadsToRoot, name_back, names_taken_in, purged, purged_all, restored, root_of_user}
 use Rattle.nf_words.specs.declared.answer.Deed.{Deed}
 use Rattle.nf_words.specs.declared.answer.Deed.TheVariants as deed
 
@@ -299,6 +299,14 @@ name_free t user folder name sound owner = here (folder == root_folder t.users u
               absurd (both_ways (folder == root_folder t.users user) e
               (eq-eqb folder (root_folder t.users user) (owner_root t folder sound root ∙ ap (root_folder t.users) owner))),
         )
+
+-- so the folder of an item is its owner's, and its name is free there
+pub home_fits : (t : Tables) (item : ItemRow) → AreSound t → item_row t.items item.node ≡ Some item
+    → (is_folder t.nodes (home_of t item) ≡ true) × (owner_of t.nodes (home_of t item) ≡ item.owner)
+    × (child_of t.nodes (home_of t item) (name_back t item) ≡ None)
+home_fits t item sound there =
+    let home = item_home t item.node item sound there in
+    (home.in_folder, home.owned, (name_free t item.owner (home_of t item) item.name sound home.owned).0)
 
 -- what comes back fits there
 pub restored_fits : (t : Tables) (node folder : ℕ) (name : List ℕ) → AreSound t → KnownRestore t node folder name
