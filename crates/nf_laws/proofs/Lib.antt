@@ -13,6 +13,7 @@ pub mod Copied
 pub mod Counters
 pub mod Crossed
 pub mod Crossing
+pub mod Discarding
 pub mod Ended
 pub mod Entries
 pub mod Exceeding
@@ -20,6 +21,7 @@ pub mod Fitting
 pub mod Following
 pub mod Free
 pub mod Given
+pub mod Going
 pub mod Gone
 pub mod Held
 pub mod Lines
@@ -51,6 +53,7 @@ pub mod Reading
 pub mod Recharged
 pub mod Remaining
 pub mod Replaced
+pub mod Restoring
 pub mod Rows
 pub mod Settling
 pub mod Sharing
