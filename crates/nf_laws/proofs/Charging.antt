@@ -30,7 +30,7 @@ sums_below f g [] each = omega arith
 sums_below f g (x ∷ xs) each = omega (arith, sum_by-cons f x xs, sum_by-cons g x xs, each x, sums_below f g xs each)
 
 -- where two numbers are a third in each, their sums are its
-sums_join : {X : Type 0} (f g h : X → ℕ) (xs : List X) → ((x : X) → f x + g x ≡ h x) → sum_by f xs + sum_by g xs ≡ sum_by h xs
+pub sums_join : {X : Type 0} (f g h : X → ℕ) (xs : List X) → ((x : X) → f x + g x ≡ h x) → sum_by f xs + sum_by g xs ≡ sum_by h xs
 sums_join f g h [] each = omega arith
 sums_join f g h (x ∷ xs) each =
     omega (arith, sum_by-cons f x xs, sum_by-cons g x xs, sum_by-cons h x xs, each x, sums_join f g h xs each)

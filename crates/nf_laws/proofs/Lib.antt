@@ -17,6 +17,7 @@ pub mod Discarding
 pub mod Ended
 pub mod Entries
 pub mod Exceeding
+pub mod Fitting
 pub mod Following
 pub mod Free
 pub mod Given
@@ -26,6 +27,7 @@ pub mod Held
 pub mod Lines
 pub mod Links
 pub mod Leaning
+pub mod Leaving
 pub mod Lists
 pub mod Locking
 pub mod May
@@ -48,9 +50,12 @@ pub mod Quotas
 pub mod Reached
 pub mod Reaching
 pub mod Reading
+pub mod Recharged
+pub mod Remaining
 pub mod Replaced
 pub mod Restoring
 pub mod Rows
+pub mod Settling
 pub mod Sharing
 pub mod Sizes
 pub mod Sources

@@ -117,12 +117,12 @@ granted_ticket t now seat act sound known =
     here (Some goal) held present both = record { goal = both.0; hold = both.1; held = held; present = present }
 
 -- what stays held by a ticket that a step leaves alone
-spared_held : (t : Tables) (now : ℕ) (act : Allowed) (o : Option Hold) → AreSound t → Known t now act
-    → IfSome o (λ (hold : Hold). IsHeld t hold.key) → IfSome o (λ (hold : Hold). Spares t now hold act)
-    → IfSome o (λ (hold : Hold). IsHeld (changed t now act) hold.key)
-spared_held t now act None sound known held spares = tt
-spared_held t now act (Some hold) sound known held spares =
-    held_on t (changed t now act) hold.key (act_stays t hold sound held now act known spares) held
+spared_held : (t : Tables) (now : ℕ) (act : Allowed) (o : Option Hold) → AreSound t → t.meta.last ≤ now → Known t now act
+    → IfSome o (λ (hold : Hold). IsHeld t hold.key) → IfSome o (λ (hold : Hold). LeadsToRoot t.nodes (node_of_key hold.key))
+    → IfSome o (λ (hold : Hold). Spares t now hold act) → IfSome o (λ (hold : Hold). IsHeld (changed t now act) hold.key)
+spared_held t now act None sound later known held present spares = tt
+spared_held t now act (Some hold) sound later known held present spares =
+    held_on t (changed t now act) hold.key (act_stays t hold sound held now act later known spares present) held
 
 -- and present
 spared_present : (t : Tables) (now : ℕ) (act : Allowed) (o : Option Hold) → AreSound t → t.meta.last ≤ now → Known t now act
@@ -169,7 +169,7 @@ act_holds t tickets seat now act known h spares =
     record {
       goal = goal_stays t made (get_or tickets k d).goal up.nodes up.blobs (owners_kept t now act h.0 known) (shares_kept t now act h.0 known) is.goal;
       hold = is.hold;
-      held = spared_held t now act (get_or tickets k d).hold h.0 known is.held (spares k d within);
+      held = spared_held t now act (get_or tickets k d).hold h.0 h.1 known is.held is.present (spares k d within);
       present = spared_present t now act (get_or tickets k d).hold h.0 h.1 known is.held is.present (spares k d within);
     } in (
       stamped_has AreSound t (altered t now act) now (told t act) h.0 (altered_sound t now act h.0 h.1 known),

@@ -22,7 +22,7 @@ use Rattle.nf_defs.specs.Prelude.{child_of, dropped, is_folder, is_folder_kind, 
 use Rattle.nf_defs.specs.Tree.{trashed}
 use Rattle.nf_laws.proofs.Climbs.{node_row_each, some_there}
 use Rattle.nf_laws.proofs.Gone.{folder_left, root_left, those_sound}
-use Rattle.nf_laws.proofs.Moved.{below_leads, climb_below, deep_below, Fits, moved_leads, names_turned, no_root_row, others_same, outside_leads, outside_rooted, relinked_sound, root_turned}
+use Rattle.nf_laws.proofs.Moved.{below_leads, climb_below, deep_below, Fits, names_turned, no_root_row, others_same, outside_leads, outside_rooted, relinked_sound, root_turned}
 use Rattle.nf_laws.proofs.OneRow.{KeepsId, length_with, pieces_with, rising_with, row_itself, value_with, with_each}
 use Rattle.nf_laws.proofs.Others.{item_other, items_all, items_dropped, items_left, IsSeenSo, off_with, others_ended, stamp_sound, was_with}
 use Rattle.nf_laws.proofs.Paths.{climb_own}
@@ -346,14 +346,7 @@ restored_sound t node folder name sound known =
     let fits = restored_fits t node folder name sound known in
     relinked_sound t (dropped item_key (node ∷ []) t.items) node folder name fits.0 sound fits.1
 
--- what was present is so
-pub restored_leads : (t : Tables) (node folder : ℕ) (name : List ℕ) (other : ℕ) → AreSound t → KnownRestore t node folder name
-    → LeadsToRoot t.nodes other → LeadsToRoot (restored t node folder name).nodes other
-restored_leads t node folder name other sound known =
-    let fits = restored_fits t node folder name sound known in
-    moved_leads t (dropped item_key (node ∷ []) t.items) node folder name fits.0 sound fits.1 other
-
--- and so is what is under what comes back
+-- what is under what comes back is present
 pub restored_below : (t : Tables) (node folder : ℕ) (name : List ℕ) (other : ℕ) → AreSound t → KnownRestore t node folder name
     → is_under t.nodes other node ≡ true → LeadsToRoot (restored t node folder name).nodes other
 restored_below t node folder name other sound known =

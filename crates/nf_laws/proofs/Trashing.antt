@@ -1,5 +1,5 @@
--- No act changes what is in the trash: the same rows are there afterwards, and all others are present.
-use Rattle.std.proofs.Common.{ℕ, zero, suc, ◌+◌, ◌==◌, ◌&&◌, ◌≡◌, ◌<◌, ◌≤◌, Bool, true, false, not, List, [], ◌∷◌, ◌++◌, Option, None, Some, get_or, length, if◌then◌else◌, inl, inr, refl, sym, ap, subst, ◌∙◌, arith}
+-- No act but those of the trash changes what is in it: the same rows are there afterwards, and all others are present.
+use Rattle.std.proofs.Common.{ℕ, zero, suc, ◌+◌, ◌==◌, ◌&&◌, ◌≡◌, ◌<◌, ◌≤◌, Bool, true, false, not, List, [], ◌∷◌, ◌++◌, Option, None, Some, Ok, get_or, length, if◌then◌else◌, inl, inr, refl, sym, ap, subst, ◌∙◌, arith}
 use Rattle.std.specs.Prelude.{is_some, sum_by}
 use Rattle.std.specs.List.{All}
 use Rattle.std.specs.Option.{option_and_then}
@@ -16,7 +16,7 @@ use Rattle.nf_laws.proofs.Charging.{sums_agree}
 use Rattle.nf_laws.proofs.Climbs.{climb_passes, climb_same, IsClosed, node_row_each, parent_at, row_of_those, some_there, those}
 use Rattle.nf_laws.proofs.Copied.{copied_sound, copies_numbered, copy_at, copy_in, copy_there, crossed_present}
 use Rattle.nf_laws.proofs.Crossed.{none_pass}
-use Rattle.nf_laws.proofs.Entries.{after_has}
+use Rattle.nf_laws.proofs.Entries.{entry_has}
 use Rattle.nf_laws.proofs.Gone.{cleared_leads, clearing_sound, folder_stays, kept_cleared, left_leads}
 use Rattle.nf_laws.proofs.Lists.{nodes_have}
 use Rattle.nf_laws.proofs.Mirrored.{mirrored}
@@ -25,7 +25,7 @@ use Rattle.nf_laws.proofs.OneRow.{filter_with, KeepsId, with_each}
 use Rattle.nf_laws.proofs.Presence.{leads_present, present_there}
 use Rattle.nf_laws.proofs.Present.{below_present, kept_leads, never_trash, root_leads}
 use Rattle.nf_laws.proofs.Replaced.{kept_replaced}
-use Rattle.nf_laws.proofs.Rows.{AreKept, kept_joined, parent_there, row_id, row_is, stamp}
+use Rattle.nf_laws.proofs.Rows.{AreKept, kept_joined, parent_there, row_id, row_is, stamp, stamped_has}
 use Rattle.nf_laws.proofs.Sizes.{weight}
 use Rattle.nf_laws.proofs.Sources.{filter_left}
 use Rattle.nf_laws.proofs.Stays.{sound_after}
@@ -33,11 +33,12 @@ use Rattle.nf_laws.proofs.Weighing.{parts_sum}
 use Rattle.nf_laws.specs.Charges.{bytes_trashed, owned_bytes, trashed_bytes}
 use Rattle.nf_laws.specs.Transfers.{Mirrors}
 use Rattle.nf_laws.specs.Tree.{IsTrashed}
+use Rattle.nf_words.proofs.Ends.{known_change}
 use Rattle.nf_words.proofs.Fits.{KnownChange}
 use Rattle.nf_words.proofs.Found.{child_parent}
 use Rattle.nf_words.proofs.Known.{Known, KnownCopies, KnownMove, KnownTransfer}
 use Rattle.nf_words.proofs.Ways.{inside_present}
-use Rattle.nf_words.specs.Prelude.{after, altered, AreSound, cleared, IsSound, joined, LeadsToRoot, MayCome, State, transferred}
+use Rattle.nf_words.specs.Prelude.{after, altered, AreSound, cleared, decision_of, IsSound, joined, LeadsToRoot, MayCome, State, told, transferred}
 use Rattle.nf_words.specs.declared.answer.Allowed.{Allowed}
 use Rattle.nf_words.specs.declared.answer.Allowed.TheVariants as allowed
 use Rattle.nf_words.specs.declared.answer.Report.{Report}
@@ -67,7 +68,7 @@ module _ (t : Tables) (sound : AreSound t) where
         | inr is ↦ (leads_present t node sound).1 (not-false (is_present t.users t.nodes node) is)
       ]
 
-  all_kept : KeepsTrash t t.nodes
+  pub all_kept : KeepsTrash t t.nodes
   all_kept = record {
     same = refl;
     present = λ k d within.
@@ -223,7 +224,7 @@ trash_same t made user sound later kept =
           sum_by-filter_both (λ (row : NodeRow). is_gone t row.id) (λ (row : NodeRow). not (is_gone t row.id)) (λ row. refl) (owned_bytes user) u.nodes,
         )
 
--- ---- every act
+-- ---- every act but those of the trash
 
 changes_kept : (t : Tables) (now : ℕ) (changes : List Change) (blob : Option ℕ) (report : Report) → AreSound t → KnownChange t now changes blob
     → KeepsTrash t (altered t now (allowed.Change changes blob report)).nodes
@@ -302,22 +303,32 @@ copied_kept t now rows replaced sound known =
     subst (λ (o : Option ℕ). KeepsTrash t (cleared t.nodes o ++ rows)) (sym known.replaced_is)
     (copies_kept t known.transfer known.name sound known.known now rows (mirrored t now rows replaced sound known))
 
-act_kept : (t : Tables) (now : ℕ) (act : Allowed) → AreSound t → t.meta.last ≤ now → Known t now act → KeepsTrash t (altered t now act).nodes
-act_kept t now (allowed.Change changes blob report) sound later known = changes_kept t now changes blob report sound known
-act_kept t now (allowed.Delete node) sound later known = left_kept t sound t node sound (all_kept t sound) known.present
-act_kept t now (allowed.Move transfer name) sound later known = transferred_kept t transfer name sound known.known known
-act_kept t now (allowed.Copy rows replaced) sound later known = copied_kept t now rows replaced sound known
-act_kept t now (allowed.Cross rows replaced node) sound later known =
+-- it is none of the trash
+abbrev pub IsOther : Allowed → Type 0
+IsOther (allowed.Trash did gone report) = ⊥
+IsOther act = Unit {0}
+
+pub act_kept : (t : Tables) (now : ℕ) (act : Allowed) → AreSound t → t.meta.last ≤ now → Known t now act → IsOther act
+    → KeepsTrash t (altered t now act).nodes
+act_kept t now (allowed.Change changes blob report) sound later known other = changes_kept t now changes blob report sound known
+act_kept t now (allowed.Trash did gone report) sound later known other = absurd other
+act_kept t now (allowed.Move transfer name) sound later known other = transferred_kept t transfer name sound known.known known
+act_kept t now (allowed.Copy rows replaced) sound later known other = copied_kept t now rows replaced sound known
+act_kept t now (allowed.Cross rows replaced node) sound later known other =
     left_kept t sound (stamp (joined t rows replaced) now) node (copied_sound t now rows replaced sound later known.copies)
     (copied_kept t now rows replaced sound known.copies) (crossed_present t now rows replaced node sound known)
-act_kept t now act sound later known = all_kept t sound
+act_kept t now act sound later known other = all_kept t sound
 
 -- ---- the law
 
--- after each entry as many bytes of a user's are in the trash as before
+-- after each entry whose act is none of the trash as many bytes of a user's are in it as before
 pub trash_after : (n : ℕ) (s : State) (e : Entry) (user : ℕ) → IsSound s → MayCome n s e
+    → ((act : Allowed) → decision_of s e.seat e.moment e.event ≡ Ok act → IsOther act)
     → bytes_trashed (after s e).tables user ≡ bytes_trashed s.tables user
-trash_after n s e user sound may =
+trash_after n s e user sound may others =
     trash_same s.tables (after s e).tables user sound.rows (sound_after n s e sound may).rows
-    (after_has (λ (t : Tables). KeepsTrash s.tables t.nodes) n s e sound may (all_kept s.tables sound.rows)
-    (λ act known. act_kept s.tables e.moment act sound.rows (omega (arith, sound.seen, may.not_before)) known))
+    (entry_has (λ t tickets blob. KeepsTrash s.tables t.nodes) s e e.mark (all_kept s.tables sound.rows) (λ act is.
+    stamped_has (λ (t : Tables). KeepsTrash s.tables t.nodes) s.tables (altered s.tables e.moment act) e.moment (told s.tables act)
+    (all_kept s.tables sound.rows)
+    (act_kept s.tables e.moment act sound.rows (omega (arith, sound.seen, may.not_before))
+    (known_change s e.seat e.moment e.event act sound may.asked is) (others act is))))
