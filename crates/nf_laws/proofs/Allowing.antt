@@ -1,5 +1,5 @@
 -- Where a step makes a row another, who acts may do all that is needed, and what became of the node follows from it.
-use Rattle.std.proofs.Common.{ℕ, ◌≡◌, ◌≢◌, ◌⊎◌, ◌≤◌, Bool, true, false, not, List, [], ◌∷◌, ◌++◌, Option, None, Some, Ok, option_map, inl, inr, refl, sym, ap, subst, ◌∙◌, arith}
+use Rattle.std.proofs.Common.{ℕ, zero, suc, ◌≡◌, ◌≢◌, ◌⊎◌, ◌≤◌, Bool, true, false, not, List, [], ◌∷◌, ◌++◌, Option, None, Some, Ok, option_map, inl, inr, refl, sym, ap, subst, ◌∙◌, arith}
 use Rattle.std.specs.List.{All}
 use Rattle.std.specs.Option.{IfSome, option_and_then, option_map_or}
 use Rattle.nf_access.specs.Shares.{ground_of}
@@ -18,18 +18,19 @@ use Rattle.nf_laws.proofs.Remaining.{gone_present}
 use Rattle.nf_laws.proofs.Rows.{row_id}
 use Rattle.nf_laws.proofs.Settling.{delete_allowed, none_settled, same_allowed, same_nodes, trash_allowed}
 use Rattle.nf_laws.proofs.Stays.{sound_after}
-use Rattle.nf_laws.specs.Access.{ChangesAllowed, ChangesWhatMayBeChanged, IsAllowed, IsNeeded, IsRemounted, IsSharing, ItemsFollow, KeepsShares, MayDo, needs_of, needs_of_goal, NodesAllowed, seeker_at, seeker_of_goal}
+use Rattle.nf_laws.specs.Access.{by_asking, by_delete, by_quota, ChangesAllowed, ChangesWhatMayBeChanged, IsAllowed, IsNeeded, IsProviding, IsRemounted, IsRestoring, IsSharing, ItemsFollow, KeepsShares, MayDo, needs_of, needs_of_goal, NodesAllowed, seeker_at, seeker_of_goal, Settles}
 use Rattle.nf_words.proofs.Begins.{places_at, wanted_known, wanted_passes, WantedPasses}
 use Rattle.nf_words.proofs.Ends.{known_change, goal_held}
 use Rattle.nf_words.proofs.Known.{Known}
 use Rattle.nf_words.proofs.Passing.{acts_pass, call_passes, end_passes, needs_pass, not_refused, Passes}
 use Rattle.nf_words.proofs.Starts.{has_asker, IsAsking}
 use Rattle.nf_words.proofs.Ways.{node_present, way_there}
-use Rattle.nf_words.specs.Prelude.{access_of, allowed_of, AreSound, asked_of, blob_for, Call, call_of, call_decision, changed, content_in, decision_of, deleted, discard, end_refusal, ends_at, found, given, goal_at, IsSound, IsStorable, LeadsToRoot, MayAsk, MayEnd, MayWant, mounted, Need, needed, needed_by, needs, needs_at, needs_between, node_found, nothing_done, places_of, root_of, seeker_of, State, stored_at, way_of}
+use Rattle.nf_words.specs.Prelude.{access_of, allowed_of, AreSound, asked_of, blob_for, Call, call_of, call_decision, changed, content_in, decision_of, deleted, discard, end_refusal, ends_at, found, given, goal_at, IsSound, IsStorable, LeadsToRoot, MayAsk, MayEnd, MayWant, mounted, Need, needed, needed_by, needs, needs_at, needs_between, node_found, nothing_done, places_of, purged_all, root_of, seeker_of, State, stored_at, way_of}
 use Rattle.nf_words.specs.declared.answer.Allowed.{Allowed}
 use Rattle.nf_words.specs.declared.answer.Allowed.TheVariants as allowed
 use Rattle.nf_words.specs.declared.answer.Goal.{Goal}
-use Rattle.nf_words.specs.declared.answer.Goal.TheVariants.{Store}
+use Rattle.nf_words.specs.declared.answer.Goal.TheVariants.{Serve, Store}
+use Rattle.nf_words.specs.declared.answer.LockKey.TheVariants.{Node, Slot}
 use Rattle.nf_words.specs.declared.history.Entry.{Entry}
 use Rattle.nf_words.specs.declared.history.Event.{Event}
 use Rattle.nf_words.specs.declared.history.Event.TheVariants.{Begin, End}
@@ -264,3 +265,40 @@ changes_allowed n s e sound may =
     entry_has (λ t tickets blob. IsFine s e t) s e e.mark (λ fine. same_allowed s e sound)
     (λ act is. act_fine s e e.event act refl sound (omega (arith, sound.seen, may.not_before)) may.asked is)
     (sound_after n s e sound may).rows
+
+-- ---- an End
+
+-- it is no Begin
+both_events : (outcome : Outcome) (words : Words) (request : Request) → End outcome ≡ Begin words request → ⊥
+both_events outcome words request same = cc
+
+-- it settles no trash
+end_settles : (s : State) (e : Entry) (outcome : Outcome) (user : ℕ) → e.event ≡ End outcome → Settles s e user → ⊥
+end_settles s e outcome _ ends (by_delete node needed) =
+    here (goal_at s e.seat) (subst (λ (event : Event). IsNeeded (needs_of s e.seat e.moment event) act.Delete node) ends needed)
+  where
+    one : (need : Need) → need.act ≢ act.Delete → IsNeeded (need ∷ []) act.Delete node → ⊥
+    one need other (mount, (zero, within, same)) = other (ap (λ (n : Need). n.act) same)
+    one need other (mount, (suc k, within, same)) = omega (arith, within)
+
+    here : (goal : Option Goal) → IsNeeded (option_map_or needs_of_goal goal []) act.Delete node → ⊥
+    here None (mount, (k, within, same)) = omega (arith, within)
+    here (Some (Serve content)) (mount, (k, within, same)) = omega (arith, within)
+    here (Some (Store by (Node key) length)) is = one (need_of act.Update key by.mount) (λ same. cc) is
+    here (Some (Store by (Slot folder name) length)) is = one (need_of act.Create folder by.mount) (λ same. cc) is
+end_settles s e outcome _ ends (by_asking words request asked begins wanted) = both_events outcome words request (sym ends ∙ begins)
+end_settles s e outcome _ ends (by_quota words request user quota row begins wanted named) = both_events outcome words request (sym ends ∙ begins)
+
+-- so the nodes that it makes are allowed as they stand
+pub end_allowed : (s : State) (e : Entry) (made : Tables) (outcome : Outcome) → e.event ≡ End outcome → ChangesAllowed s e made → NodesAllowed s e made
+end_allowed s e made outcome ends changes =
+    subst (NodesAllowed s e) (sym (same changes.settled.tops changes.settled.settles changes.settled.gone)) (nodes changes.allowed)
+  where
+    nodes : NodesAllowed s e changes.between ⊎ (IsProviding s e changes.between ⊎ IsRestoring s e changes.between) → NodesAllowed s e changes.between
+    nodes (inl allowed) = allowed
+    nodes (inr (inl one)) = absurd (both_events outcome one.words one.request (sym ends ∙ one.begins))
+    nodes (inr (inr one)) = absurd (both_events outcome one.words one.request (sym ends ∙ one.begins))
+
+    same : (tops : List ℕ) → (tops ≢ [] → Settles s e changes.settled.user) → made ≡ purged_all changes.between tops → made ≡ changes.between
+    same [] settles gone = gone
+    same (top ∷ tops) settles gone = absurd (end_settles s e outcome changes.settled.user ends (settles (λ none. cc)))

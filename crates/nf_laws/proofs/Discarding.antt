@@ -79,7 +79,7 @@ pub items_are : (t : Tables) (user : ℕ) (nodes : List ℕ) → All (IsItemOf t
 items_are t user nodes own k d within = ap is_some (own k d within).1
 
 -- each item of a user's is that user's
-items_own : (t : Tables) (user : ℕ) → AreSound t → All (λ (item : ItemRow). IsItemOf t user item.node) (items_of t user)
+pub items_own : (t : Tables) (user : ℕ) → AreSound t → All (λ (item : ItemRow). IsItemOf t user item.node) (items_of t user)
 items_own t user sound k d within =
     let item = get_or (items_of t user) k d in
     let mine = eqb-true item.owner user (filter_passes (λ (item : ItemRow). item.owner == user) t.items k d within) in
@@ -100,7 +100,7 @@ pub emptied_own : (t : Tables) (user : ℕ) → AreSound t → All (IsItemOf t u
 emptied_own t user sound = All-map (IsItemOf t user) (λ (item : ItemRow). item.node) (items_of t user) (items_own t user sound)
 
 -- and of those that go with a node that is put in the trash each is the node or an item
-discard_own : (t : Tables) (now : ℕ) (row : NodeRow) → AreSound t
+pub discard_own : (t : Tables) (now : ℕ) (row : NodeRow) → AreSound t
     → All (λ (node : ℕ). (node ≡ row.id) ⊎ IsItemOf t row.owner node) (gone_of t now (quota_of t row.owner) (item_for now row ∷ items_of t row.owner))
 discard_own t now row sound =
     gone_has Either t now (quota_of t row.owner) (item_for now row ∷ items_of t row.owner) either

@@ -1,8 +1,8 @@
 -- A node that is put in the trash, or that goes for good though it is present: what becomes of nodes, shares and items.
-use Rattle.std.proofs.Common.{◌==◌, Option, None, subst, ℕ, ◌≡◌, ◌≢◌, ◌≤◌, ◌⊎◌, true, false, List, [], ◌∷◌, Some, option_map, refl, sym, ap, ◌∙◌, inl, inr}
+use Rattle.std.proofs.Common.{Option, None, subst, ℕ, ◌≡◌, ◌≢◌, ◌≤◌, ◌⊎◌, true, false, List, [], ◌∷◌, Some, option_map, refl, sym, ap, ◌∙◌, inl, inr}
 use Rattle.std.specs.Prelude.{is_some}
 use Rattle.std.specs.List.{All, Contains}
-use Rattle.std.proofs.lemmas.Bool.{eqb-true, ne_eqb}
+use Rattle.std.proofs.lemmas.Bool.{ne_eqb}
 use Rattle.std.proofs.lemmas.List.Elements.{All-contains, All-contains_itself, All-weaker}
 use Rattle.nf_base.specs.declared.perms.Act.TheVariants.{Delete}
 use Rattle.nf_base.specs.declared.rows.ItemRow.{ItemRow}
@@ -10,9 +10,9 @@ use Rattle.nf_defs.proofs.Climbs.{under_climb}
 use Rattle.nf_defs.proofs.Puts.{all_put}
 use Rattle.nf_defs.specs.Prelude.{is_under, item_key, item_row, node_row, Tables}
 use Rattle.nf_defs.specs.Tree.{trashed}
-use Rattle.nf_laws.proofs.Climbs.{some_there}
 use Rattle.nf_laws.proofs.Following.{AllFollow, deleted_follow, one_follows}
 use Rattle.nf_laws.proofs.Given.{put_contains}
+use Rattle.nf_laws.proofs.Going.{present_off}
 use Rattle.nf_laws.proofs.Gone.{left_leads, row_gone}
 use Rattle.nf_laws.proofs.Moved.{climb_below, outside_leads}
 use Rattle.nf_laws.proofs.OneRow.{row_itself, row_other}
@@ -20,26 +20,20 @@ use Rattle.nf_laws.proofs.Others.{item_none, stamp_sound}
 use Rattle.nf_laws.proofs.Presence.{climbs_there}
 use Rattle.nf_laws.proofs.Present.{never_trash}
 use Rattle.nf_laws.proofs.Remaining.{shares_present, still_there}
-use Rattle.nf_laws.proofs.Rows.{found_is, stamp}
+use Rattle.nf_laws.proofs.Rows.{stamp}
 use Rattle.nf_laws.proofs.Trashed.{deed_sound, purged_sound}
-use Rattle.nf_laws.proofs.Upwards.{never_climbs}
+use Rattle.nf_laws.proofs.Upwards.{derived, never_climbs}
 use Rattle.nf_laws.specs.Access.{IsNeeded, is_trashed, ItemsFollow, shares_without}
-use Rattle.nf_words.proofs.Known.{IsItem, KnownDiscard, KnownGone}
+use Rattle.nf_words.proofs.Known.{KnownDiscard, KnownGone}
 use Rattle.nf_words.specs.Others.{IsItemSound}
 use Rattle.nf_words.specs.Prelude.{AreSound, discarded, LeadsToRoot, Need, purged}
 use Rattle.nf_words.specs.declared.answer.Deed.TheVariants as deed
 
 -- what is present is no item
-pub no_item : (t : Tables) (node : ℕ) → AreSound t → LeadsToRoot t.nodes node → All (λ (item : ItemRow). item.node ≢ node) t.items
+no_item : (t : Tables) (node : ℕ) → AreSound t → LeadsToRoot t.nodes node → All (λ (item : ItemRow). item.node ≢ node) t.items
 no_item t node sound up =
     All-weaker (IsItemSound t) (λ (item : ItemRow). item.node ≢ node)
     (λ item is same. never_trash 0 t.nodes node item.node is.of up (ap Some (sym same)) is.there is.place) t.items sound.others.items
-
-pub present_no_item : (t : Tables) (node : ℕ) → AreSound t → LeadsToRoot t.nodes node → IsItem t node → ⊥
-present_no_item t node sound up is =
-    let item = some_there (item_row t.items node) is in
-    let found = found_is (λ (item : ItemRow). item.node ≢ node) (λ (item : ItemRow). item.node == node) t.items item.0 (no_item t node sound up) item.1 in
-    found.1 (eqb-true item.0.node node found.0)
 
 -- the items as they were
 pub same_items : (needs : List Need) (now : ℕ) (items : List ItemRow) → ItemsFollow needs now items items
@@ -124,4 +118,4 @@ module _ (t : Tables) (now top : ℕ) (sound : AreSound t) (later : t.meta.last 
     where
       here : (o : Option ItemRow) → item_row t.items top ≡ o → ItemsFollow needs now t.items without_it.items
       here None e = subst (ItemsFollow needs now t.items) (sym (item_none top t.items e)) (same_items needs now t.items)
-      here (Some item) e = absurd (present_no_item t top sound known.present (ap is_some e))
+      here (Some item) e = absurd (present_off t top top sound (ap is_some e) known.present (derived 0 t.nodes top top refl))
