@@ -1,4 +1,4 @@
--- What a DELETE, a MKCOL and a PUT change, and a MOVE of a mount.
+-- What a DELETE, a MKCOL and a PUT change, a MOVE of a mount, and what is asked about the trash.
 use Rattle.std.proofs.Common.{max, ℕ, ◌+◌, ◌-◌, option_map, ◌==◌, ◌&&◌, ◌≡◌, ◌<◌, Bool, true, false, not, List, [], ◌∷◌, ◌++◌, Option, None, Some, Result, Ok, if◌then◌else◌, length, get_or, map, slice_get, unwrap_or, inl, inr, refl, sym, ap, subst, ◌∙◌, arith, length-append}
 use Rattle.std.specs.Prelude.{IsOk}
 use Rattle.std.specs.List.{All}

@@ -19,14 +19,15 @@ use Rattle.nf_defs.specs.Prelude.{folder_of, is_under, item_row, node_row, paren
 use Rattle.nf_defs.specs.Tree.{trashed}
 use Rattle.nf_laws.proofs.Climbs.{some_there}
 use Rattle.nf_laws.proofs.Ended.{are_ended}
+use Rattle.nf_laws.proofs.Going.{ArePurged, first_differs, item_is, items_purged, outside_is, present_off, purged_before, purged_rest, rest_distinct, shares_purged, under_beside, under_is}
 use Rattle.nf_laws.proofs.OneRow.{row_itself, row_other}
 use Rattle.nf_laws.proofs.Present.{below_present, trash_alone}
-use Rattle.nf_laws.proofs.Going.{ArePurged, AreTwo, first_two, item_is, items_purged, outside_is, present_off, purged_before, purged_rest, rest_two, shares_purged, under_beside, under_is}
 use Rattle.nf_laws.proofs.Purged.{purged_items}
 use Rattle.nf_laws.proofs.Puts.{number_found, other_number}
 use Rattle.nf_laws.proofs.Rows.{stamp, stamped_some}
 use Rattle.nf_laws.proofs.Trashed.{deed_sound_at, purged_sound, purged_stamped}
 use Rattle.nf_laws.proofs.Upwards.{climbed, derived}
+use Rattle.nf_laws.proofs.Walked.{AreDistinct}
 use Rattle.nf_laws.specs.Access.{LeadsBy}
 use Rattle.nf_laws.specs.Acts.{AreEmptied, AreEnded, IsDeleted, IsGoneWith, IsInTrash, IsItemOf, IsUnderOne}
 use Rattle.nf_laws.specs.Tree.{Under}
@@ -176,7 +177,7 @@ module _ (t : Tables) (now : ℕ) (item : ItemRow) (sound : AreSound t) (known :
   item_off node differs = other_number (λ (i : ItemRow). i.node) item t.items node differs
 
   -- items that go meanwhile
-  module _ (gone : List ℕ) (items : All (IsItem t) gone) (others : All (λ (node : ℕ). node ≢ item.node) gone) (once : AreTwo gone) where
+  module _ (gone : List ℕ) (items : All (IsItem t) gone) (others : All (λ (node : ℕ). node ≢ item.node) gone) (once : AreDistinct gone) where
     abbrev left : Tables
     left = purged_all put_in gone
 
@@ -222,7 +223,7 @@ module _ (t : Tables) (now : ℕ) (item : ItemRow) (sound : AreSound t) (known :
 -- so a node that is put there is, and items of its owner's that go are gone
 discarded_rows : (call : Call) (spot : Spot) (row : NodeRow) (gone : List ℕ) → AreSound call.state.tables
     → node_row call.state.tables.nodes row.id ≡ Some row → KnownDiscard call.state.tables call.now (item_for call.now row)
-    → All (IsItemOf call.state.tables row.owner) gone → All (λ (node : ℕ). node ≢ row.id) gone → AreTwo gone
+    → All (IsItemOf call.state.tables row.owner) gone → All (λ (node : ℕ). node ≢ row.id) gone → AreDistinct gone
     → LeadsBy call spot (mount_of call spot) row.id
     → IsDeleted call spot (stamp (purged_all (discarded call.state.tables (item_for call.now row)) gone) call.now)
 discarded_rows call spot row gone sound there known own others once led =
@@ -269,7 +270,7 @@ among_cases top tops node (suc k, within, is) = inr (k, omega (arith, within), i
 
 gone_rows : (call : Call) (spot : Spot) (row : NodeRow) (rest : List ℕ) → AreSound call.state.tables
     → node_row call.state.tables.nodes row.id ≡ Some row → KnownGone call.state.tables row.id
-    → All (IsItemOf call.state.tables row.owner) rest → AreTwo (row.id ∷ rest)
+    → All (IsItemOf call.state.tables row.owner) rest → AreDistinct (row.id ∷ rest)
     → LeadsBy call spot (mount_of call spot) row.id
     → IsDeleted call spot (stamp (purged_all call.state.tables (row.id ∷ rest)) call.now)
 gone_rows call spot row rest sound there known own once led = record {
@@ -288,7 +289,7 @@ gone_rows call spot row rest sound there known own once led = record {
   items = λ node differs off. purge.items node (λ among.
       elim (among_cases row.id rest node among) [ inl same ↦ differs same | inr more ↦ off more ]);
   shares = subst (λ (shares : List ShareRow). AreEnded t.shares shares (Under t.nodes row.id))
-      (sym (shares_purged (purged t row.id) rest left_sound items (rest_two row.id rest once))) (shares_under t row.id sound);
+      (sym (shares_purged (purged t row.id) rest left_sound items (rest_distinct row.id rest once))) (shares_under t row.id sound);
   rest = ap (λ (u : Tables). stamp u call.now) (purged_rest t (row.id ∷ rest));
 }
   where
@@ -316,7 +317,7 @@ gone_rows call spot row rest sound there known own once led = record {
         (λ k d within node below.
         outside_is t.nodes row.id node (λ too.
         below_off t node row.id (get_or rest k d) sound known.present too (items_are t row.owner rest own k d within) below))
-        (items_purged (purged t row.id) rest left_sound items (rest_two row.id rest once))
+        (items_purged (purged t row.id) rest left_sound items (rest_distinct row.id rest once))
 
 -- ---- a DELETE
 
@@ -356,7 +357,7 @@ discard_rows call spot row sound there present led = here (list_any (λ node. no
         → IsDeleted call spot (changed t call.now
         (if b then allowed.Trash deed.Nothing (row.id ∷ rest) report.Done else allowed.Trash (deed.Discard (item_for call.now row)) gone report.Done))
     here true known =
-        let others = first_two row.id rest known.once in
+        let others = first_differs row.id rest known.once in
         subst (λ (made : Tables). IsDeleted call spot made)
         (sym (stamped_some t (purged_all t (row.id ∷ rest)) call.now (told t (allowed.Trash deed.Nothing (row.id ∷ rest) report.Done)) (goes_told t row.id rest)))
         (gone_rows call spot row rest sound there (goes known.goes.0)

@@ -1,6 +1,6 @@
 -- What goes for good, row by row: the nodes under each that goes, and its item; all else stays.
 use Rattle.std.proofs.Common.{ℕ, zero, suc, ◌==◌, ◌≡◌, ◌≢◌, Bool, true, false, List, [], ◌∷◌, Some, None, get_or, if◌then◌else◌, inl, inr, refl, sym, ap, subst, ◌∙◌, arith}
-use Rattle.std.specs.List.{All, AllPairs, Contains}
+use Rattle.std.specs.List.{All, Contains}
 use Rattle.std.proofs.lemmas.Bool.{both_ways, cases_Bool, eq-eqb, eqb-true, false_from_ne_true}
 use Rattle.std.proofs.lemmas.List.Elements.{All-cons, All-head, All-nil, All-tail}
 use Rattle.std.proofs.lemmas.Option.{option_and_then_some, same_Some}
@@ -16,6 +16,7 @@ use Rattle.nf_laws.proofs.Purged.{item_outside, purged_items}
 use Rattle.nf_laws.proofs.Rows.{found_is}
 use Rattle.nf_laws.proofs.Trashed.{item_top, purged_sound}
 use Rattle.nf_laws.proofs.Upwards.{climbed, climbs_is_under, derived}
+use Rattle.nf_laws.proofs.Walked.{AreDistinct}
 use Rattle.nf_laws.specs.Acts.{IsGoneWith, IsUnderOne}
 use Rattle.nf_laws.specs.Tree.{Under}
 use Rattle.nf_words.proofs.Known.{IsItem}
@@ -160,25 +161,22 @@ purged_rest t (top ∷ tops) = purged_rest (purged t top) tops
 
 -- ---- items that go
 
--- each two of some numbers are two
-abbrev pub AreTwo : List ℕ → Type 0
-AreTwo nodes = AllPairs (λ (a b : ℕ). a ≢ b) nodes
+-- each differs from those after it
+pub first_differs : (top : ℕ) (tops : List ℕ) → AreDistinct (top ∷ tops) → All (λ (other : ℕ). top ≢ other) tops
+first_differs top tops once k d within = once 0 (suc k) d (omega arith) (omega (arith, within))
 
-pub first_two : (top : ℕ) (tops : List ℕ) → AreTwo (top ∷ tops) → All (λ (other : ℕ). top ≢ other) tops
-first_two top tops once k d within = once 0 (suc k) d (omega arith) (omega (arith, within))
-
-pub rest_two : (top : ℕ) (tops : List ℕ) → AreTwo (top ∷ tops) → AreTwo tops
-rest_two top tops once i j d before within = once (suc i) (suc j) d (omega (arith, before)) (omega (arith, within))
+pub rest_distinct : (top : ℕ) (tops : List ℕ) → AreDistinct (top ∷ tops) → AreDistinct tops
+rest_distinct top tops once i j d before within = once (suc i) (suc j) d (omega (arith, before)) (omega (arith, within))
 
 -- items that go are gone one after the other
-pub items_purged : (t : Tables) (tops : List ℕ) → AreSound t → All (IsItem t) tops → AreTwo tops → ArePurged t (purged_all t tops) tops
+pub items_purged : (t : Tables) (tops : List ℕ) → AreSound t → All (IsItem t) tops → AreDistinct tops → ArePurged t (purged_all t tops) tops
 items_purged t [] sound items once = none_purged t
 items_purged t (top ∷ tops) sound items once =
     let one = All-head (IsItem t) top tops items in
     let more = All-tail (IsItem t) top tops items in
     purged_before t (purged_all (purged t top) tops) top tops sound
-    (λ k d within. items_apart t top (get_or tops k d) sound one (more k d within) (first_two top tops once k d within))
-    (items_purged (purged t top) tops (purged_sound t top sound (inl one)) (purged_items t top tops once more) (rest_two top tops once))
+    (λ k d within. items_apart t top (get_or tops k d) sound one (more k d within) (first_differs top tops once k d within))
+    (items_purged (purged t top) tops (purged_sound t top sound (inl one)) (purged_items t top tops once more) (rest_distinct top tops once))
 
 -- the shares of what is under an item were ended, so that no share is another
 same_shares : (rows : List NodeRow) (top : ℕ) (shares : List ShareRow)
@@ -195,12 +193,12 @@ same_shares rows top (share ∷ shares) all =
     here true is = ap (λ (b : Bool). record share { ended = b }) (sym (is refl))
     here false is = refl
 
-pub shares_purged : (t : Tables) (tops : List ℕ) → AreSound t → All (IsItem t) tops → AreTwo tops → (purged_all t tops).shares ≡ t.shares
+pub shares_purged : (t : Tables) (tops : List ℕ) → AreSound t → All (IsItem t) tops → AreDistinct tops → (purged_all t tops).shares ≡ t.shares
 shares_purged t [] sound items once = refl
 shares_purged t (top ∷ tops) sound items once =
     let one = All-head (IsItem t) top tops items in
     shares_purged (purged t top) tops (purged_sound t top sound (inl one)) (purged_items t top tops once (All-tail (IsItem t) top tops items))
-    (rest_two top tops once)
+    (rest_distinct top tops once)
     ∙ same_shares t.nodes top t.shares (λ k d within under.
     let share = get_or t.shares k d in
     elim (cases_Bool share.ended) [

@@ -10,15 +10,16 @@ use Rattle.nf_base.specs.declared.rows.Place.TheVariants.{Trash}
 use Rattle.nf_defs.proofs.Climbs.{climb_under}
 use Rattle.nf_defs.specs.Prelude.{dropped, item_key, item_row, node_row, relinked, Tables}
 use Rattle.nf_laws.proofs.Discarding.{AreGoneBeside, goes_beside, goes_told, items_are}
+use Rattle.nf_laws.proofs.Going.{ArePurged, item_is, items_purged, present_off, purged_rest, shares_purged}
+use Rattle.nf_laws.proofs.Moved.{Fits}
 use Rattle.nf_laws.proofs.OneRow.{row_itself, row_other}
+use Rattle.nf_laws.proofs.Others.{item_gone, item_other}
 use Rattle.nf_laws.proofs.Presence.{leads_present}
 use Rattle.nf_laws.proofs.Present.{trash_alone}
-use Rattle.nf_laws.proofs.Going.{ArePurged, AreTwo, item_is, items_purged, present_off, purged_rest, shares_purged}
-use Rattle.nf_laws.proofs.Moved.{Fits}
-use Rattle.nf_laws.proofs.Others.{item_gone, item_other}
 use Rattle.nf_laws.proofs.Rows.{stamp, stamped_some}
 use Rattle.nf_laws.proofs.Trashed.{item_top, restored_below, restored_fits, restored_sound}
 use Rattle.nf_laws.proofs.Upwards.{climbed}
+use Rattle.nf_laws.proofs.Walked.{AreDistinct}
 use Rattle.nf_laws.specs.Acts.{IsEmptied, IsItemOf, IsRestored}
 use Rattle.nf_words.proofs.Known.{IsItem, KnownRestore}
 use Rattle.nf_words.specs.Others.{IsItemSound}
@@ -31,14 +32,14 @@ use Rattle.nf_words.specs.declared.answer.Report.{Report}
 
 -- those items are gone, and nothing else is another but the moment, if anything goes
 pub emptied_rows : (call : Call) (tops : List ℕ) (report : Report) → AreSound call.state.tables → All (IsItemOf call.state.tables (asker_of call)) tops
-    → AreTwo tops → IsEmptied call (changed call.state.tables call.now (allowed.Trash deed.Nothing tops report)) tops
+    → AreDistinct tops → IsEmptied call (changed call.state.tables call.now (allowed.Trash deed.Nothing tops report)) tops
 emptied_rows call tops report sound own once = here tops own once
   where
     t : Tables
     t = call.state.tables
 
     -- without them, at whatever moment
-    without : (tops : List ℕ) (moment : ℕ) → All (IsItemOf t (asker_of call)) tops → AreTwo tops
+    without : (tops : List ℕ) (moment : ℕ) → All (IsItemOf t (asker_of call)) tops → AreDistinct tops
         → IsEmptied call (stamp (purged_all t tops) moment) tops
     without tops moment own once =
         let items = items_are t (asker_of call) tops own in
@@ -56,7 +57,7 @@ emptied_rows call tops report sound own once = here tops own once
               });
         }
 
-    here : (tops : List ℕ) → All (IsItemOf t (asker_of call)) tops → AreTwo tops
+    here : (tops : List ℕ) → All (IsItemOf t (asker_of call)) tops → AreDistinct tops
         → IsEmptied call (changed t call.now (allowed.Trash deed.Nothing tops report)) tops
     here [] own once = without [] t.meta.last own once
     here (top ∷ rest) own once =
@@ -125,7 +126,7 @@ module _ (t : Tables) (item : ItemRow) (sound : AreSound t) (known : KnownRestor
   back_present = restored_below t item.node home name item.node sound known (climb_under 0 t.nodes item.node item.node (omega arith) refl)
 
   -- items that go meanwhile
-  module _ (gone : List ℕ) (items : All (IsItem t) gone) (others : All (λ (node : ℕ). item.node ≢ node) gone) (once : AreTwo gone) where
+  module _ (gone : List ℕ) (items : All (IsItem t) gone) (others : All (λ (node : ℕ). item.node ≢ node) gone) (once : AreDistinct gone) where
     abbrev left : Tables
     left = purged_all back gone
 
@@ -152,7 +153,7 @@ module _ (t : Tables) (item : ItemRow) (sound : AreSound t) (known : KnownRestor
 pub restored_rows : (call : Call) (item : ItemRow) (gone : List ℕ) → AreSound call.state.tables
     → item_row call.state.tables.items item.node ≡ Some item
     → KnownRestore call.state.tables item.node (home_of call.state.tables item) (name_back call.state.tables item) → item.owner ≡ asker_of call
-    → All (IsItemOf call.state.tables (asker_of call)) gone → All (λ (node : ℕ). item.node ≢ node) gone → AreTwo gone
+    → All (IsItemOf call.state.tables (asker_of call)) gone → All (λ (node : ℕ). item.node ≢ node) gone → AreDistinct gone
     → IsRestored call item.node
     (stamp (purged_all (restored call.state.tables item.node (home_of call.state.tables item) (name_back call.state.tables item)) gone) call.now)
 restored_rows call item gone sound there known own theirs others once = record {

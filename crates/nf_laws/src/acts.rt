@@ -1,4 +1,4 @@
-//! What DELETE, MKCOL, PUT and MOVE change, and nothing else.
+//! What DELETE, MKCOL, PUT and MOVE change, and what is asked about the trash, and nothing else.
 
 ghost use Rattle.nf_laws.specs.Acts.{CrossesMove, CutBodiesKeep, DeletesKeep, DropsKeep, EmptyingKeeps, FoldersAreMade, ItemsComeBack, MountsAreLeft, MountsAreRenamed, PutsAreGranted, PutsKeep};
 
