@@ -1,5 +1,5 @@
 -- Where a step makes a row another, who acts may do all that is needed, and what became of the node follows from it.
-use Rattle.std.proofs.Common.{ℕ, ◌≡◌, ◌≢◌, ◌⊎◌, ◌≤◌, Bool, true, false, not, List, [], ◌∷◌, ◌++◌, Option, None, Some, Ok, option_map, inl, inr, refl, sym, ap, subst, ◌∙◌, arith}
+use Rattle.std.proofs.Common.{ℕ, zero, suc, ◌≡◌, ◌≢◌, ◌⊎◌, ◌≤◌, Bool, true, false, not, List, [], ◌∷◌, ◌++◌, Option, None, Some, Ok, option_map, inl, inr, refl, sym, ap, subst, ◌∙◌, arith}
 use Rattle.std.specs.List.{All}
 use Rattle.std.specs.Option.{IfSome, option_and_then, option_map_or}
 use Rattle.nf_access.specs.Shares.{ground_of}
@@ -12,28 +12,31 @@ use Rattle.nf_defs.specs.declared.Seeker.{Seeker}
 use Rattle.nf_laws.proofs.Acting.{put_rows}
 use Rattle.nf_laws.proofs.Entries.{entry_has}
 use Rattle.nf_laws.proofs.Fitting.{begin_fits, first_needed, Fits, is_apart, KeepsRest, need_of, OneOther, put_fits}
+use Rattle.nf_laws.proofs.Leaving.{same_items}
 use Rattle.nf_laws.proofs.Providing.{people_provide}
 use Rattle.nf_laws.proofs.Remaining.{gone_present}
 use Rattle.nf_laws.proofs.Rows.{row_id}
-use Rattle.nf_laws.proofs.Settling.{delete_allowed, none_settled, same_allowed, same_items, same_nodes, trash_allowed}
+use Rattle.nf_laws.proofs.Settling.{delete_allowed, none_settled, same_allowed, same_nodes, trash_allowed}
 use Rattle.nf_laws.proofs.Stays.{sound_after}
-use Rattle.nf_laws.specs.Access.{ChangesAllowed, ChangesWhatMayBeChanged, IsAllowed, IsNeeded, IsRemounted, IsSharing, ItemsFollow, KeepsShares, NodesAllowed, MayDo, needs_of, needs_of_goal, seeker_at, seeker_of_goal}
+use Rattle.nf_laws.specs.Access.{by_asking, by_delete, by_quota, ChangesAllowed, ChangesWhatMayBeChanged, IsAllowed, IsNeeded, IsProviding, IsRemounted, IsRestoring, IsSharing, ItemsFollow, KeepsShares, MayDo, needs_of, needs_of_goal, NodesAllowed, seeker_at, seeker_of_goal, Settles}
 use Rattle.nf_words.proofs.Begins.{places_at, wanted_known, wanted_passes, WantedPasses}
 use Rattle.nf_words.proofs.Ends.{known_change, goal_held}
 use Rattle.nf_words.proofs.Known.{Known}
 use Rattle.nf_words.proofs.Passing.{acts_pass, call_passes, end_passes, needs_pass, not_refused, Passes}
 use Rattle.nf_words.proofs.Starts.{has_asker, IsAsking}
 use Rattle.nf_words.proofs.Ways.{node_present, way_there}
-use Rattle.nf_words.specs.Prelude.{access_of, allowed_of, AreSound, asked_of, blob_for, Call, call_of, call_decision, changed, content_in, decision_of, deleted, discard, end_refusal, ends_at, found, given, goal_at, IsSound, IsStorable, LeadsToRoot, MayAsk, MayEnd, MayWant, mounted, Need, needed, needed_by, needs, needs_at, needs_between, node_found, nothing_done, places_of, root_of, seeker_of, State, stored_at, way_of}
+use Rattle.nf_words.specs.Prelude.{access_of, allowed_of, AreSound, asked_of, blob_for, Call, call_of, call_decision, changed, content_in, decision_of, deleted, discard, end_refusal, ends_at, found, given, goal_at, IsSound, IsStorable, LeadsToRoot, MayAsk, MayEnd, MayWant, mounted, Need, needed, needed_by, needs, needs_at, needs_between, node_found, nothing_done, places_of, purged_all, root_of, seeker_of, State, stored_at, way_of}
 use Rattle.nf_words.specs.declared.answer.Allowed.{Allowed}
 use Rattle.nf_words.specs.declared.answer.Allowed.TheVariants as allowed
 use Rattle.nf_words.specs.declared.answer.Goal.{Goal}
-use Rattle.nf_words.specs.declared.answer.Goal.TheVariants.{Store}
+use Rattle.nf_words.specs.declared.answer.Goal.TheVariants.{Serve, Store}
+use Rattle.nf_words.specs.declared.answer.LockKey.TheVariants.{Node, Slot}
 use Rattle.nf_words.specs.declared.history.Entry.{Entry}
 use Rattle.nf_words.specs.declared.history.Event.{Event}
 use Rattle.nf_words.specs.declared.history.Event.TheVariants.{Begin, End}
 use Rattle.nf_words.specs.declared.history.Outcome.{Outcome}
 use Rattle.nf_words.specs.declared.history.Outcome.TheVariants.{Body}
+use Rattle.nf_words.specs.declared.request.PeopleAsk.{PeopleAsk}
 use Rattle.nf_words.specs.declared.request.Request.{Request}
 use Rattle.nf_words.specs.declared.request.Spot.{Spot}
 use Rattle.nf_words.specs.declared.request.Wanted.{Wanted}
@@ -173,7 +176,7 @@ module _ (s : State) (e : Entry) (words : Words) (request : Request) (decided : 
       asked : needed call ≡ needs_at act.Delete (way_of call spot) ++ []
       asked =
           ap (λ (w : Wanted). needs_between t.nodes (root_of call) (asked_of w) (option_map (way_of call) (asked_of w).source)
-              (option_map (way_of call) (asked_of w).target)) wanted
+          (option_map (way_of call) (asked_of w).target)) wanted
           ∙ rw itself refl
 
       here : (place : Found) → found call spot ≡ place → ChangesAllowed s e (changed t e.moment (deleted t e.moment (node_found place)))
@@ -201,51 +204,54 @@ module _ (s : State) (e : Entry) (words : Words) (request : Request) (decided : 
           (subst (Known t e.moment) discards known))
       here nowhere leads = same_allowed s e sound
 
-  -- what is given to a request that isn't of the plain ones
-  begin_fine : IsFine s e (changed s.tables e.moment decided)
-  begin_fine = here request.wanted refl
-    where
-      does : (wanted : Wanted) → request.wanted ≡ wanted → given (access_of s) call (places_of call) wanted ≡ decided
-      does wanted e = ap (given (access_of s) call (places_of call)) (sym e) ∙ passes.1
+  abbrev does : (wanted : Wanted) → request.wanted ≡ wanted → given (access_of s) call (places_of call) wanted ≡ decided
+  does wanted same = ap (given (access_of s) call (places_of call)) (sym same) ∙ passes.1
 
-      plain : (wanted : Wanted) → request.wanted ≡ wanted → is_apart call wanted ≡ false → IsFine s e (changed s.tables e.moment decided)
-      plain wanted same other = plain_fine (ap (is_apart call) same ∙ other)
+  plain : (wanted : Wanted) → request.wanted ≡ wanted → is_apart call wanted ≡ false → IsFine s e (changed s.tables e.moment decided)
+  plain wanted same other = plain_fine (ap (is_apart call) same ∙ other)
 
-      deletes : (spot : Spot) → request.wanted ≡ Delete spot → (b : Bool) → (way_of call spot).itself ≡ b → IsFine s e (changed s.tables e.moment decided)
-      deletes spot wanted true itself fine = plain (Delete spot) wanted (ap not itself) fine
-      deletes spot wanted false itself fine =
-          subst (λ (a : Allowed). ChangesAllowed s e (changed s.tables e.moment a)) (given_so ∙ does (Delete spot) wanted)
-          (deletes_allowed spot wanted itself)
-        where
-          given_so : deleted s.tables e.moment (node_found (found call spot)) ≡ given (access_of s) call (places_of call) (Delete spot)
-          given_so = rw (wanted, itself) refl
+  -- a DELETE, of a mount's own path or of a node
+  deletes_fine : (spot : Spot) → request.wanted ≡ Delete spot → (b : Bool) → (way_of call spot).itself ≡ b
+      → IsFine s e (changed s.tables e.moment decided)
+  deletes_fine spot wanted true itself fine = plain (Delete spot) wanted (ap not itself) fine
+  deletes_fine spot wanted false itself fine =
+      let node : deleted s.tables e.moment (node_found (found call spot)) ≡ given (access_of s) call (places_of call) (Delete spot) =
+      rw (wanted, itself) refl in
+      subst (λ (a : Allowed). ChangesAllowed s e (changed s.tables e.moment a)) (node ∙ does (Delete spot) wanted)
+      (deletes_allowed spot wanted itself)
 
-      here : (wanted : Wanted) → request.wanted ≡ wanted → IsFine s e (changed s.tables e.moment decided)
-      here (Delete spot) wanted fine = deletes spot wanted (way_of call spot).itself refl fine
-      here (People asked) wanted fine =
-          let provided = people_provide s e words request begins sound may passes.0 asked wanted in
-          subst (λ (a : Allowed). ChangesAllowed s e (changed s.tables e.moment a)) (does (People asked) wanted)
-          (record {
-            between = provided.between;
-            allowed = elim provided.provides [
-              | inl same ↦ inl (subst (NodesAllowed s e) (sym same) (same_nodes s e sound))
-              | inr one ↦ inr (inl one)
-            ];
-            settled = provided.settled;
-          })
-      here (Trash asked) wanted fine =
-          subst (λ (a : Allowed). ChangesAllowed s e (changed s.tables e.moment a)) (does (Trash asked) wanted)
-          (trash_allowed s e sound words request begins asked wanted)
-      here (Get spot) wanted fine = plain (Get spot) wanted refl fine
-      here (Put spot size) wanted fine = plain (Put spot size) wanted refl fine
-      here (Mkcol spot) wanted fine = plain (Mkcol spot) wanted refl fine
-      here (Move source target overwrite) wanted fine = plain (Move source target overwrite) wanted refl fine
-      here (Copy source target overwrite) wanted fine = plain (Copy source target overwrite) wanted refl fine
-      here (Share asks) wanted fine = plain (Share asks) wanted refl fine
+  -- what is asked about users and groups
+  people_fine : (asked : PeopleAsk) → request.wanted ≡ People asked → ChangesAllowed s e (changed s.tables e.moment decided)
+  people_fine asked wanted =
+      let provided = people_provide s e words request begins sound may passes.0 asked wanted in
+      subst (λ (a : Allowed). ChangesAllowed s e (changed s.tables e.moment a)) (does (People asked) wanted)
+      (record {
+        between = provided.between;
+        allowed = elim provided.provides [
+          | inl same ↦ inl (subst (NodesAllowed s e) (sym same) (same_nodes s e sound))
+          | inr one ↦ inr (inl one)
+        ];
+        settled = provided.settled;
+      })
+
+  -- and whatever a request asks
+  begin_fine : (wanted : Wanted) → request.wanted ≡ wanted → IsFine s e (changed s.tables e.moment decided)
+  begin_fine (Get spot) is fine = plain (Get spot) is refl fine
+  begin_fine (Put spot size) is fine = plain (Put spot size) is refl fine
+  begin_fine (Mkcol spot) is fine = plain (Mkcol spot) is refl fine
+  begin_fine (Delete spot) is fine = deletes_fine spot is (way_of call spot).itself refl fine
+  begin_fine (Move source target overwrite) is fine = plain (Move source target overwrite) is refl fine
+  begin_fine (Copy source target overwrite) is fine = plain (Copy source target overwrite) is refl fine
+  begin_fine (Share asked) is fine = plain (Share asked) is refl fine
+  begin_fine (People asked) is fine = people_fine asked is
+  begin_fine (Trash asked) is fine =
+      subst (λ (a : Allowed). ChangesAllowed s e (changed s.tables e.moment a)) (does (Trash asked) is)
+      (trash_allowed s e sound words request begins asked is)
 
 act_fine : (s : State) (e : Entry) (event : Event) (act : Allowed) → e.event ≡ event → IsSound s → s.tables.meta.last ≤ e.moment
     → MayAsk s e.seat event → decision_of s e.seat e.moment event ≡ Ok act → IsFine s e (changed s.tables e.moment act)
-act_fine s e (Begin words request) act begins sound later may is = begin_fine s e words request act begins sound later may.1 is
+act_fine s e (Begin words request) act begins sound later may is =
+    begin_fine s e words request act begins sound later may.1 is request.wanted refl
 act_fine s e (End outcome) act ends sound later may is = here (goal_at s e.seat) refl may is (goal_held s e.seat sound)
   where
     here : (goal : Option Goal) → goal_at s e.seat ≡ goal → MayEnd goal outcome → ends_at (access_of s) s.tables e.moment outcome goal ≡ Ok act
@@ -259,3 +265,40 @@ changes_allowed n s e sound may =
     entry_has (λ t tickets blob. IsFine s e t) s e e.mark (λ fine. same_allowed s e sound)
     (λ act is. act_fine s e e.event act refl sound (omega (arith, sound.seen, may.not_before)) may.asked is)
     (sound_after n s e sound may).rows
+
+-- ---- an End
+
+-- it is no Begin
+both_events : (outcome : Outcome) (words : Words) (request : Request) → End outcome ≡ Begin words request → ⊥
+both_events outcome words request same = cc
+
+-- it settles no trash
+end_settles : (s : State) (e : Entry) (outcome : Outcome) (user : ℕ) → e.event ≡ End outcome → Settles s e user → ⊥
+end_settles s e outcome _ ends (by_delete node needed) =
+    here (goal_at s e.seat) (subst (λ (event : Event). IsNeeded (needs_of s e.seat e.moment event) act.Delete node) ends needed)
+  where
+    one : (need : Need) → need.act ≢ act.Delete → IsNeeded (need ∷ []) act.Delete node → ⊥
+    one need other (mount, (zero, within, same)) = other (ap (λ (n : Need). n.act) same)
+    one need other (mount, (suc k, within, same)) = omega (arith, within)
+
+    here : (goal : Option Goal) → IsNeeded (option_map_or needs_of_goal goal []) act.Delete node → ⊥
+    here None (mount, (k, within, same)) = omega (arith, within)
+    here (Some (Serve content)) (mount, (k, within, same)) = omega (arith, within)
+    here (Some (Store by (Node key) length)) is = one (need_of act.Update key by.mount) (λ same. cc) is
+    here (Some (Store by (Slot folder name) length)) is = one (need_of act.Create folder by.mount) (λ same. cc) is
+end_settles s e outcome _ ends (by_asking words request asked begins wanted) = both_events outcome words request (sym ends ∙ begins)
+end_settles s e outcome _ ends (by_quota words request user quota row begins wanted named) = both_events outcome words request (sym ends ∙ begins)
+
+-- so the nodes that it makes are allowed as they stand
+pub end_allowed : (s : State) (e : Entry) (made : Tables) (outcome : Outcome) → e.event ≡ End outcome → ChangesAllowed s e made → NodesAllowed s e made
+end_allowed s e made outcome ends changes =
+    subst (NodesAllowed s e) (sym (same changes.settled.tops changes.settled.settles changes.settled.gone)) (nodes changes.allowed)
+  where
+    nodes : NodesAllowed s e changes.between ⊎ (IsProviding s e changes.between ⊎ IsRestoring s e changes.between) → NodesAllowed s e changes.between
+    nodes (inl allowed) = allowed
+    nodes (inr (inl one)) = absurd (both_events outcome one.words one.request (sym ends ∙ one.begins))
+    nodes (inr (inr one)) = absurd (both_events outcome one.words one.request (sym ends ∙ one.begins))
+
+    same : (tops : List ℕ) → (tops ≢ [] → Settles s e changes.settled.user) → made ≡ purged_all changes.between tops → made ≡ changes.between
+    same [] settles gone = gone
+    same (top ∷ tops) settles gone = absurd (end_settles s e outcome changes.settled.user ends (settles (λ none. cc)))

@@ -21,11 +21,13 @@ pub mod Fitting
 pub mod Following
 pub mod Free
 pub mod Given
+pub mod Going
 pub mod Gone
 pub mod Held
 pub mod Lines
 pub mod Links
 pub mod Leaning
+pub mod Leaving
 pub mod Lists
 pub mod Locking
 pub mod May
@@ -37,7 +39,6 @@ pub mod OneRow
 pub mod Opening
 pub mod Others
 pub mod Peopled
-pub mod Owed
 pub mod Owned
 pub mod Paths
 pub mod Presence
@@ -49,9 +50,10 @@ pub mod Quotas
 pub mod Reached
 pub mod Reaching
 pub mod Reading
-pub mod Recharged
 pub mod Remaining
+pub mod Recharged
 pub mod Replaced
+pub mod Restoring
 pub mod Rows
 pub mod Settling
 pub mod Sharing

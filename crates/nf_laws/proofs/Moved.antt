@@ -168,7 +168,7 @@ module _ (u : Tables) (items : List ItemRow) (node folder : ℕ) (name : List �
       (outside_leads u.nodes node (relinked folder name) keeps folder (never_climbs u folder node sound fits.outside) fits.folder_present))
 
   -- and what was present is so
-  pub moved_leads : (other : ℕ) → LeadsToRoot u.nodes other → LeadsToRoot rows_moved other
+  moved_leads : (other : ℕ) → LeadsToRoot u.nodes other → LeadsToRoot rows_moved other
   moved_leads other up =
       elim (cases_Bool (is_under u.nodes other node)) [
         | inl under ↦ below_leads other under

@@ -55,7 +55,7 @@ present_climbs t node sound is =
     below_present up.0 t.nodes node any.1.root up.2 (root_leads t.nodes any.1.root (rw root.there (ap is_root_place root.place)))
 
 -- what climbs to a root is there
-climbs_there : (rows : List NodeRow) (node : ℕ) → LeadsToRoot rows node → is_some (node_row rows node) ≡ true
+pub climbs_there : (rows : List NodeRow) (node : ℕ) → LeadsToRoot rows node → is_some (node_row rows node) ≡ true
 climbs_there rows node up = ap is_some (present_row rows node up).1
 
 -- and isn't in the trash

@@ -16,7 +16,7 @@ use Rattle.nf_laws.proofs.Copied.{copied_sound}
 use Rattle.nf_laws.proofs.Following.{is_gone_from, shares_by, shares_gone}
 use Rattle.nf_laws.proofs.Gone.{cleared_leads, kept_cleared, left_leads}
 use Rattle.nf_laws.proofs.Moved.{transferred_leads}
-use Rattle.nf_laws.proofs.Presence.{leads_present, present_there}
+use Rattle.nf_laws.proofs.Presence.{climbs_there, leads_present, present_there}
 use Rattle.nf_laws.proofs.Present.{kept_leads}
 use Rattle.nf_laws.proofs.Rows.{AreKept, kept_joined, kept_row, stamp}
 use Rattle.nf_laws.proofs.Sources.{was_given}
@@ -25,7 +25,6 @@ use Rattle.nf_laws.specs.Access.{shares_without}
 use Rattle.nf_laws.specs.Acts.{IsAdded, IsRefilled}
 use Rattle.nf_laws.specs.Transfers.{is_replaced}
 use Rattle.nf_words.proofs.Known.{KnownCopies, KnownMove}
-use Rattle.nf_words.proofs.Ways.{present_row}
 use Rattle.nf_words.specs.Prelude.{AreSound, cleared, ended_row, joined, LeadsToRoot, removed, transferred}
 use Rattle.nf_words.specs.declared.request.Transfer.{Transfer}
 
@@ -38,10 +37,6 @@ rooted_is t node sound up = present_there.rooted t node sound ∙ (leads_present
 -- and what is rooted is present
 rooted_leads : (t : Tables) (node : ℕ) → AreSound t → is_rooted t.nodes node ≡ true → LeadsToRoot t.nodes node
 rooted_leads t node sound is = (leads_present t node sound).1 (sym (present_there.rooted t node sound) ∙ is)
-
--- what is present is there
-pub leads_there : (rows : List NodeRow) (node : ℕ) → LeadsToRoot rows node → is_some (node_row rows node) ≡ true
-leads_there rows node up = ap is_some (present_row rows node up).1
 
 -- where of what is present just what passes a test isn't present afterwards, the shares of what passes end
 pub shares_present : (t made : Tables) (goes : ℕ → Bool) → AreSound t → AreSound made
@@ -85,10 +80,10 @@ gone_present t made sound later keeps =
     shares_present t made (is_gone_from t.nodes made.nodes) sound later
     (λ node up goes still.
     let both = and_parts (is_some (node_row t.nodes node)) (not (is_some (node_row made.nodes node))) goes in
-    both_ways (is_some (node_row made.nodes node)) (not-true (is_some (node_row made.nodes node)) both.1) (leads_there made.nodes node still))
+    both_ways (is_some (node_row made.nodes node)) (not-true (is_some (node_row made.nodes node)) both.1) (climbs_there made.nodes node still))
     (λ node up stays.
     elim (and_cases (is_some (node_row t.nodes node)) (not (is_some (node_row made.nodes node))) stays) [
-      | inl none ↦ absurd (both_ways (is_some (node_row t.nodes node)) none (leads_there t.nodes node up))
+      | inl none ↦ absurd (both_ways (is_some (node_row t.nodes node)) none (climbs_there t.nodes node up))
       | inr there ↦ keeps node up (not-false (is_some (node_row made.nodes node)) there)
     ])
 

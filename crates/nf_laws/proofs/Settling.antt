@@ -1,27 +1,29 @@
 -- A DELETE, and what is asked about the trash: what goes for good is of the trash of one user.
-use Rattle.std.proofs.Common.{ℕ, zero, suc, ◌==◌, ◌≡◌, ◌≢◌, ◌⊎◌, ◌≤◌, Bool, true, false, not, List, [], ◌∷◌, Option, None, Some, filter, map, get_or, if◌then◌else◌, refl, sym, ap, subst, ◌∙◌, inl, inr, arith}
+use Rattle.std.proofs.Common.{ℕ, ◌==◌, ◌≡◌, ◌≢◌, ◌⊎◌, ◌≤◌, Bool, true, false, not, List, [], ◌∷◌, Option, None, Some, filter, map, if◌then◌else◌, refl, sym, ap, subst, ◌∙◌, inl, inr}
 use Rattle.std.specs.List.{All, list_any}
 use Rattle.std.specs.Option.{option_and_then, option_map_or}
-use Rattle.std.proofs.lemmas.Bool.{eq-eqb, eqb-true, false≢true, ne_eqb}
+use Rattle.std.proofs.lemmas.Bool.{eqb-true, false≢true}
 use Rattle.std.proofs.lemmas.List.{map-id}
-use Rattle.std.proofs.lemmas.List.Elements.{All-cons, All-contains_itself, All-filter, All-map, All-nil, All-weaker, filter_passes}
+use Rattle.std.proofs.lemmas.List.Elements.{All-cons, All-filter, All-nil}
 use Rattle.std.proofs.lemmas.Option.{none-some}
 use Rattle.nf_base.specs.declared.perms.Act.TheVariants.{Delete}
 use Rattle.nf_base.specs.declared.rows.ItemRow.{ItemRow}
 use Rattle.nf_base.specs.declared.rows.NodeRow.{NodeRow}
-use Rattle.nf_defs.proofs.Puts.{below_one, tail_rising}
-use Rattle.nf_defs.specs.Prelude.{IsRising, item_key, item_row, node_row, Tables}
+use Rattle.nf_defs.specs.Prelude.{item_row, node_row, Tables}
 use Rattle.nf_defs.specs.declared.Seeker.{Seeker}
-use Rattle.nf_laws.proofs.Climbs.{some_there}
-use Rattle.nf_laws.proofs.Discarding.{discarded_follow, discarded_items, discarded_shares, no_item, purged_follow, purged_items, purged_shares}
+use Rattle.nf_laws.proofs.Discarding.{beside_own, discard_own, emptied_own, items_own}
 use Rattle.nf_laws.proofs.Following.{AllFollow}
-use Rattle.nf_laws.proofs.Owed.{home_fits, purged_stamped}
+use Rattle.nf_laws.proofs.Going.{item_is, present_off}
+use Rattle.nf_laws.proofs.Leaving.{discarded_follow, discarded_items, discarded_shares, purged_follow, purged_items, purged_shares, same_items}
 use Rattle.nf_laws.proofs.Remaining.{shares_present}
-use Rattle.nf_laws.proofs.Rows.{found_is, stamp, stamped_has}
-use Rattle.nf_laws.specs.Access.{by_asking, by_delete, ChangesAllowed, IsNeeded, IsSettled, ItemsFollow, MayDo, NodesAllowed, needs_of, seeker_at, Settles, shares_without}
+use Rattle.nf_laws.proofs.Rows.{stamp, stamped_has}
+use Rattle.nf_laws.proofs.Trashed.{home_fits, purged_stamped}
+use Rattle.nf_laws.proofs.Upwards.{derived}
+use Rattle.nf_laws.specs.Access.{by_asking, by_delete, ChangesAllowed, IsNeeded, IsSettled, ItemsFollow, MayDo, needs_of, NodesAllowed, seeker_at, Settles, shares_without}
+use Rattle.nf_laws.specs.Acts.{IsItemOf}
 use Rattle.nf_words.proofs.Known.{IsItem, Known, KnownGone}
 use Rattle.nf_words.proofs.Trashing.{gone_has, own_there}
-use Rattle.nf_words.specs.Prelude.{altered, AreSound, asker_of, Call, call_of, changed, deed_done, discard, gone_beside, gone_of, home_of, IsSound, item_dropped, item_for, item_if_of, item_restored, items_but, items_of, LeadsToRoot, name_back, Need, nothing_done, own_item, purged, purged_all, quota_of, restored, State, told, trash_done}
+use Rattle.nf_words.specs.Prelude.{altered, AreSound, asker_of, Call, call_of, changed, deed_done, discard, gone_beside, gone_of, home_of, IsSound, item_dropped, item_for, item_if_of, item_restored, items_of, LeadsToRoot, name_back, Need, nothing_done, own_item, purged, purged_all, quota_of, restored, State, told, trash_done}
 use Rattle.nf_words.specs.declared.answer.Allowed.{Allowed}
 use Rattle.nf_words.specs.declared.answer.Allowed.TheVariants as allowed
 use Rattle.nf_words.specs.declared.answer.Deed.TheVariants as deed
@@ -36,61 +38,25 @@ use Rattle.nf_words.specs.declared.request.Words.{Words}
 
 -- ---- the items of a user
 
--- the node is an item in the trash of a user
-abbrev pub IsOf : Tables → ℕ → ℕ → Type 0
-IsOf t user top = (item : ItemRow) × (item_row t.items top ≡ Some item) × (item.owner ≡ user)
-
--- each item is found by its node
-item_each : (items : List ItemRow) → IsRising item_key items → All (λ (item : ItemRow). item_row items item.node ≡ Some item) items
-item_each [] rising k d within = absurd (omega arith)
-item_each (x ∷ items) rising zero d within = rw (eq-eqb x.node x.node refl) refl
-item_each (x ∷ items) rising (suc k) d within =
-    let below = below_one x.node (get_or items k d).node (rising 0 (suc k) d (omega arith) within) in
-    rw (ne_eqb x.node (get_or items k d).node (λ e. absurd (omega (arith, below, e))))
-    (item_each items (tail_rising item_key x items rising) k d (omega (arith, within)))
-
 module _ (t : Tables) (sound : AreSound t) where
-  of_user : (user : ℕ) → All (λ (item : ItemRow). IsOf t user item.node) (items_of t user)
-  of_user user k d within =
-      let mine : ItemRow → Bool = λ item. item.owner == user in
-      let item = get_or (items_of t user) k d in (
-        item,
-        All-filter mine (λ (item : ItemRow). item_row t.items item.node ≡ Some item) t.items (item_each t.items sound.others.items_rise) k d within,
-        eqb-true item.owner user (filter_passes mine t.items k d within),
-      )
-
   -- those that go of a user's are the user's
-  pub gone_of_user : (now quota user : ℕ) → All (IsOf t user) (gone_of t now quota (items_of t user))
-  gone_of_user now quota user = gone_has (IsOf t user) t now quota (items_of t user) (of_user user)
-
-  -- and so beside an item of theirs
-  beside_of_user : (now : ℕ) (item : ItemRow) → All (IsOf t item.owner) (gone_beside t now item)
-  beside_of_user now item =
-      gone_has (IsOf t item.owner) t now (quota_of t item.owner) (items_but t item.owner item.node)
-      (All-filter (λ (other : ItemRow). not (other.node == item.node)) (λ (other : ItemRow). IsOf t item.owner other.node) (items_of t item.owner)
-      (of_user item.owner))
+  pub gone_of_user : (now quota user : ℕ) → All (IsItemOf t user) (gone_of t now quota (items_of t user))
+  gone_of_user now quota user = gone_has (IsItemOf t user) t now quota (items_of t user) (items_own t user sound)
 
   -- the item of a user, found by its node
   own_of : (user node : ℕ) (item : ItemRow) → option_and_then (item_if_of user) (item_row t.items node) ≡ Some item
       → (item_row t.items node ≡ Some item) × (item.node ≡ node) × (item.owner ≡ user)
   own_of user node item is =
       let there = own_there t sound user node item is in
-      let found = found_is (λ (item : ItemRow). item.node ≡ item.node) (λ (item : ItemRow). item.node == node) t.items item (λ k d within. refl) there in
-      (there, eqb-true item.node node found.0, owned (item.owner == user) refl (sym (ap (option_and_then (item_if_of user)) there) ∙ is))
+      (there, (item_is t node sound item there).0, owned (item.owner == user) refl (sym (ap (option_and_then (item_if_of user)) there) ∙ is))
     where
       owned : (b : Bool) → (item.owner == user) ≡ b → (if b then Some item else None) ≡ Some item → item.owner ≡ user
       owned true e is = eqb-true item.owner user e
       owned false e is = absurd (none-some item is)
 
-  -- what is present is no item
-  present_no_item : (node : ℕ) → LeadsToRoot t.nodes node → IsItem t node → ⊥
-  present_no_item node up is =
-      let item = some_there (item_row t.items node) is in
-      let found = found_is (λ (item : ItemRow). item.node ≢ node) (λ (item : ItemRow). item.node == node) t.items item.0 (no_item t node sound up) item.1 in
-      found.1 (eqb-true item.0.node node found.0)
-
+  -- what is present goes as no item
   present_goes : (node : ℕ) → LeadsToRoot t.nodes node → IsItem t node ⊎ KnownGone t node → KnownGone t node
-  present_goes node up (inl item) = absurd (present_no_item node up item)
+  present_goes node up (inl item) = absurd (present_off t node node sound item up (derived 0 t.nodes node node refl))
   present_goes node up (inr goes) = goes
 
 -- ---- what goes then
@@ -98,18 +64,15 @@ module _ (t : Tables) (sound : AreSound t) where
 -- nothing does
 pub none_settled : (s : State) (e : Entry) (made : Tables) → IsSettled s e made made
 none_settled s e made =
-    record { user = 0; tops = []; items = All-nil (IsOf s.tables 0); settles = λ some. absurd (some refl); gone = refl }
+    record { user = 0; tops = []; items = All-nil (IsItemOf s.tables 0); settles = λ some. absurd (some refl); gone = refl }
 
 -- some of the trash of a user does
-pub some_settled : (s : State) (e : Entry) (made : Tables) (user : ℕ) (tops : List ℕ) → All (IsOf s.tables user) tops → Settles s e user
+pub some_settled : (s : State) (e : Entry) (made : Tables) (user : ℕ) (tops : List ℕ) → All (IsItemOf s.tables user) tops → Settles s e user
     → IsSettled s e (stamp made e.moment) (stamp (purged_all made tops) e.moment)
 some_settled s e made user tops items settles =
     record { user = user; tops = tops; items = items; settles = λ some. settles; gone = sym (purged_stamped made e.moment tops) }
 
 -- ---- where nothing else is done
-
-pub same_items : (needs : List Need) (now : ℕ) (items : List ItemRow) → ItemsFollow needs now items items
-same_items needs now items = (λ k d within. inl (All-contains_itself items k d within), λ item is. is)
 
 pub same_shares : (t : Tables) → AreSound t → t.shares ≡ shares_without t.nodes t.shares
 same_shares t sound =
@@ -168,20 +131,13 @@ module _ (s : State) (e : Entry) (sound : IsSound s) where
 
     -- what goes is the node, or of its owner's trash
     abbrev EitherOf : ℕ → Type 0
-    EitherOf node = (node ≡ row.id) ⊎ IsOf t row.owner node
-
-    either_gone : All EitherOf gone
-    either_gone =
-        gone_has EitherOf t now (quota_of t row.owner) (item ∷ items_of t row.owner)
-        (All-cons (λ (other : ItemRow). EitherOf other.node) item (items_of t row.owner) (inl refl)
-        (All-weaker (λ (other : ItemRow). IsOf t row.owner other.node) (λ (other : ItemRow). EitherOf other.node) (λ other is. inr is)
-        (items_of t row.owner) (of_user t sound.rows row.owner)))
+    EitherOf node = (node ≡ row.id) ⊎ IsItemOf t row.owner node
 
     -- so the items among them are of it
-    items_gone : (nodes : List ℕ) → All EitherOf nodes → All (IsItem t) nodes → All (IsOf t row.owner) nodes
+    items_gone : (nodes : List ℕ) → All EitherOf nodes → All (IsItem t) nodes → All (IsItemOf t row.owner) nodes
     items_gone nodes either items k d within =
         elim (either k d within) [
-          | inl same ↦ absurd (present_no_item t sound.rows row.id present (subst (IsItem t) same (items k d within)))
+          | inl same ↦ absurd (present_off t row.id row.id sound.rows (subst (IsItem t) same (items k d within)) present (derived 0 t.nodes row.id row.id refl))
           | inr of ↦ of
         ]
 
@@ -219,7 +175,7 @@ module _ (s : State) (e : Entry) (sound : IsSound s) where
               allowed = inl (between_allowed made (purged_follow t now row.id sound.rows later goes needs needed)
                   (purged_shares t now row.id sound.rows later goes) refl (purged_items t now row.id sound.rows later goes needs) refl);
               settled = some_settled s e (purged t row.id) row.owner rest
-                  (items_gone rest (All-filter off EitherOf gone either_gone) known.goes.1) settles;
+                  (items_gone rest (All-filter off EitherOf gone (discard_own t now row sound.rows)) known.goes.1) settles;
             })
         here false known =
             let made = stamp (deed_done t (deed.Discard item)) now in
@@ -230,7 +186,7 @@ module _ (s : State) (e : Entry) (sound : IsSound s) where
                   (discarded_shares t now item sound.rows later known.known) refl
                   (discarded_items t now item sound.rows later known.known needs needed) refl);
               settled = some_settled s e (deed_done t (deed.Discard item)) row.owner gone
-                  (items_gone gone either_gone (known.items (λ same. cc))) settles;
+                  (items_gone gone (discard_own t now row sound.rows) (known.items (λ same. cc))) settles;
             })
 
   -- ---- what is asked about the trash
@@ -247,7 +203,7 @@ module _ (s : State) (e : Entry) (sound : IsSound s) where
       asking = by_asking words request asked begins wanted
 
       -- some of the asker's items go, and nothing else is done
-      only_goes : (tops : List ℕ) → All (IsOf t asker) tops → IsAllowed (changed t now (allowed.Trash deed.Nothing tops report.Done))
+      only_goes : (tops : List ℕ) → All (IsItemOf t asker) tops → IsAllowed (changed t now (allowed.Trash deed.Nothing tops report.Done))
       only_goes tops items =
           by_stamp (allowed.Trash deed.Nothing tops report.Done)
           (record { between = stamp t now; allowed = inl stamped_nodes; settled = some_settled s e t asker tops items asking })
@@ -257,8 +213,8 @@ module _ (s : State) (e : Entry) (sound : IsSound s) where
       drop_allowed node (Some item) is =
           let own = own_of t sound.rows asker node item is in
           only_goes (item.node ∷ gone_beside t now item)
-          (All-cons (IsOf t asker) item.node (gone_beside t now item) (item, ap (item_row t.items) own.1 ∙ own.0, own.2)
-          (subst (λ (user : ℕ). All (IsOf t user) (gone_beside t now item)) own.2 (beside_of_user t sound.rows now item)))
+          (All-cons (IsItemOf t asker) item.node (gone_beside t now item) (item, ap (item_row t.items) own.1 ∙ own.0, own.2)
+          (subst (λ (user : ℕ). All (IsItemOf t user) (gone_beside t now item)) own.2 (beside_own t now item sound.rows)))
 
     restore_allowed : (user : List ℕ) (node : ℕ) → request.wanted ≡ Trash (trash.Restore user node) → (o : Option ItemRow) → own_item call node ≡ o
         → IsAllowed (changed t now (option_map_or (item_restored t now) o nothing_done))
@@ -267,7 +223,7 @@ module _ (s : State) (e : Entry) (sound : IsSound s) where
         let own = own_of t sound.rows asker node item is in
         let home = home_of t item in
         let name = name_back t item in
-        let fits = home_fits t item sound.rows (ap (item_row t.items) own.1 ∙ own.0) in
+        let at = home_fits t item sound.rows (ap (item_row t.items) own.1 ∙ own.0) in
         let made = restored t item.node home name in
         by_stamp (item_restored t now item)
         (record {
@@ -281,13 +237,13 @@ module _ (s : State) (e : Entry) (sound : IsSound s) where
             wanted = wanted;
             item = item;
             own = is;
-            folds = fits.0;
-            owner = fits.1;
-            free = fits.2;
+            folds = at.0;
+            owner = at.1;
+            free = at.2;
             rows = ap (λ (n : ℕ). stamp (restored t n home name) now) own.1;
           }));
           settled = some_settled s e made asker (gone_beside t now item)
-              (subst (λ (user : ℕ). All (IsOf t user) (gone_beside t now item)) own.2 (beside_of_user t sound.rows now item))
+              (subst (λ (user : ℕ). All (IsItemOf t user) (gone_beside t now item)) own.2 (beside_own t now item sound.rows))
               (asking (trash.Restore user node) wanted);
         })
 
@@ -296,5 +252,5 @@ module _ (s : State) (e : Entry) (sound : IsSound s) where
     trash_allowed (trash.Drop user node) wanted = drop_allowed (trash.Drop user node) wanted node (own_item call node) refl
     trash_allowed (trash.Empty user) wanted =
         only_goes (trash.Empty user) wanted (map (λ item. item.node) (items_of t asker))
-        (All-map (IsOf t asker) (λ (item : ItemRow). item.node) (items_of t asker) (of_user t sound.rows asker))
+        (emptied_own t asker sound.rows)
     trash_allowed (trash.Restore user node) wanted = restore_allowed user node wanted (own_item call node) refl

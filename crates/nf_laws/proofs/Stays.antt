@@ -119,8 +119,7 @@ granted_ticket t now seat act sound known =
 -- what stays held by a ticket that a step leaves alone
 spared_held : (t : Tables) (now : ℕ) (act : Allowed) (o : Option Hold) → AreSound t → t.meta.last ≤ now → Known t now act
     → IfSome o (λ (hold : Hold). IsHeld t hold.key) → IfSome o (λ (hold : Hold). LeadsToRoot t.nodes (node_of_key hold.key))
-    → IfSome o (λ (hold : Hold). Spares t now hold act)
-    → IfSome o (λ (hold : Hold). IsHeld (changed t now act) hold.key)
+    → IfSome o (λ (hold : Hold). Spares t now hold act) → IfSome o (λ (hold : Hold). IsHeld (changed t now act) hold.key)
 spared_held t now act None sound later known held present spares = tt
 spared_held t now act (Some hold) sound later known held present spares =
     held_on t (changed t now act) hold.key (act_stays t hold sound held now act later known spares present) held

@@ -22,7 +22,7 @@ use Rattle.nf_defs.specs.Prelude.{child_of, dropped, is_folder, is_folder_kind, 
 use Rattle.nf_defs.specs.Tree.{trashed}
 use Rattle.nf_laws.proofs.Climbs.{node_row_each, some_there}
 use Rattle.nf_laws.proofs.Gone.{folder_left, root_left, those_sound}
-use Rattle.nf_laws.proofs.Moved.{below_leads, climb_below, deep_below, Fits, moved_leads, names_turned, no_root_row, others_same, outside_leads, outside_rooted, relinked_sound, root_turned}
+use Rattle.nf_laws.proofs.Moved.{below_leads, climb_below, deep_below, Fits, names_turned, no_root_row, others_same, outside_leads, outside_rooted, relinked_sound, root_turned}
 use Rattle.nf_laws.proofs.OneRow.{KeepsId, length_with, pieces_with, rising_with, row_itself, value_with, with_each}
 use Rattle.nf_laws.proofs.Others.{item_other, items_all, items_dropped, items_left, IsSeenSo, off_with, others_ended, stamp_sound, was_with}
 use Rattle.nf_laws.proofs.Paths.{climb_own}
@@ -34,7 +34,7 @@ use Rattle.nf_laws.proofs.Upwards.{climb_short, never_climbs, owners_there}
 use Rattle.nf_words.proofs.Ensured.{free_in_root}
 use Rattle.nf_words.proofs.Known.{IsItem, KnownDeed, KnownGoes, KnownGone, KnownRestore, KnownTrash}
 use Rattle.nf_words.specs.Others.{IsItemSound}
-use Rattle.nf_words.specs.Prelude.{AreSound, deed_done, discarded, HasRoot, home_of, IsNodeSound, IsPlaceSound, IsUnmounted, LeadsToRoot, names_taken_in, purged, purged_all, restored, root_of_user}
+use Rattle.nf_words.specs.Prelude.{AreSound, deed_done, discarded, HasRoot, home_of, IsNodeSound, IsPlaceSound, IsUnmounted, LeadsToRoot, name_back, names_taken_in, purged, purged_all, restored, root_of_user}
 use Rattle.nf_words.specs.declared.answer.Deed.{Deed}
 use Rattle.nf_words.specs.declared.answer.Deed.TheVariants as deed
 
@@ -194,10 +194,10 @@ module _ (t : Tables) (item : ItemRow) (row : NodeRow) (folder : ℕ) (sound : A
 -- ---- what comes back
 
 -- where it comes back to: a folder of its owner's that is present
-record IsHome (t : Tables) (owner folder : ℕ) : Type 0 where
-  in_folder : is_folder t.nodes folder ≡ true
-  present : LeadsToRoot t.nodes folder
-  owned : owner_of t.nodes folder ≡ owner
+pub record IsHome (t : Tables) (owner folder : ℕ) : Type 0 where
+  pub in_folder : is_folder t.nodes folder ≡ true
+  pub present : LeadsToRoot t.nodes folder
+  pub owned : owner_of t.nodes folder ≡ owner
 
 -- the root of a user who is there is one
 root_home : (t : Tables) (user : UserRow) → HasRoot t user → IsHome t user.id user.root
@@ -220,7 +220,7 @@ under_home t user folder sound root is under =
           ∙ climb_own c.0 t user.id folder user.root row.0 sound c.2 (record { row = root.row; there = root.there; owner = root.owner }) row.1;
     }
 
--- of an item, whose owner is there
+-- so is the home of an item, whose owner is there
 home_there : (t : Tables) (item : ItemRow) (user : UserRow) → AreSound t → user_row t.users item.owner ≡ Some user → IsHome t item.owner (home_of t item)
 home_there t item user sound there =
     subst (λ (n : ℕ). IsHome t n (home_of t item)) (eqb-true user.id item.owner found.0)
@@ -243,6 +243,13 @@ home_there t item user sound there =
     here true false e f = top
     here false b e f = top
 
+pub item_home : (t : Tables) (node : ℕ) (item : ItemRow) → AreSound t → item_row t.items node ≡ Some item → IsHome t item.owner (home_of t item)
+item_home t node item sound there =
+    let is = (found_is (IsItemSound t) (λ (item : ItemRow). item.node == node) t.items item sound.others.items there).1 in
+    let user = some_there (user_row t.users is.of.owner)
+    (found_is (λ (r : NodeRow). is_some (user_row t.users r.owner) ≡ true) (λ (r : NodeRow). r.id == item.node) t.nodes is.of (owners_there t sound) is.there).1 in
+    home_there t item user.0 sound (ap (user_row t.users) (sym is.owner) ∙ user.1)
+
 -- a root of a user's is that of the user
 owner_root : (t : Tables) (folder : ℕ) → AreSound t → is_root t.nodes folder ≡ true → folder ≡ root_folder t.users (owner_of t.nodes folder)
 owner_root t folder sound is = here (node_row t.nodes folder) refl is
@@ -263,7 +270,7 @@ none_there None is = refl
 none_there (Some x) is = absurd (cc)
 
 -- the name under which it does is free there, also of mounts
-name_free : (t : Tables) (user folder : ℕ) (name : List ℕ) → AreSound t → owner_of t.nodes folder ≡ user
+pub name_free : (t : Tables) (user folder : ℕ) (name : List ℕ) → AreSound t → owner_of t.nodes folder ≡ user
     → let free = free_name_of name (names_taken_in t user folder) in (child_of t.nodes folder free ≡ None) × IsUnmounted t folder free
 name_free t user folder name sound owner = here (folder == root_folder t.users user) refl
   where
@@ -293,7 +300,15 @@ name_free t user folder name sound owner = here (folder == root_folder t.users u
               (eq-eqb folder (root_folder t.users user) (owner_root t folder sound root ∙ ap (root_folder t.users) owner))),
         )
 
--- so it fits there
+-- so the folder of an item is its owner's, and its name is free there
+pub home_fits : (t : Tables) (item : ItemRow) → AreSound t → item_row t.items item.node ≡ Some item
+    → (is_folder t.nodes (home_of t item) ≡ true) × (owner_of t.nodes (home_of t item) ≡ item.owner)
+    × (child_of t.nodes (home_of t item) (name_back t item) ≡ None)
+home_fits t item sound there =
+    let home = item_home t item.node item sound there in
+    (home.in_folder, home.owned, (name_free t item.owner (home_of t item) item.name sound home.owned).0)
+
+-- what comes back fits there
 pub restored_fits : (t : Tables) (node folder : ℕ) (name : List ℕ) → AreSound t → KnownRestore t node folder name
     → (row : NodeRow) × Fits t (dropped item_key (node ∷ []) t.items) node folder name row
 restored_fits t node folder name sound known =
@@ -303,10 +318,7 @@ restored_fits t node folder name sound known =
     let there : node_row t.nodes node ≡ Some row =
     subst (λ (n : ℕ). node_row t.nodes n ≡ Some row) (eqb-true item.node node found.0) found.1.there in
     let place = found.1.place in
-    let user = some_there (user_row t.users row.owner)
-    (found_is (λ (r : NodeRow). is_some (user_row t.users r.owner) ≡ true) (λ (r : NodeRow). r.id == node) t.nodes row (owners_there t sound) there).1 in
-    let home = subst (IsHome t item.owner) (sym known.home)
-    (home_there t item user.0 sound (ap (user_row t.users) (sym found.1.owner) ∙ user.1)) in
+    let home = subst (IsHome t item.owner) (sym known.home) (item_home t node item sound known.there) in
     let free : (child_of t.nodes folder name ≡ None) × IsUnmounted t folder name =
     subst (λ (n : List ℕ). (child_of t.nodes folder n ≡ None) × IsUnmounted t folder n)
     (ap (λ (n : ℕ). free_name_of item.name (names_taken_in t item.owner n)) known.home ∙ sym known.named)
@@ -334,14 +346,7 @@ restored_sound t node folder name sound known =
     let fits = restored_fits t node folder name sound known in
     relinked_sound t (dropped item_key (node ∷ []) t.items) node folder name fits.0 sound fits.1
 
--- what was present is so
-pub restored_leads : (t : Tables) (node folder : ℕ) (name : List ℕ) (other : ℕ) → AreSound t → KnownRestore t node folder name
-    → LeadsToRoot t.nodes other → LeadsToRoot (restored t node folder name).nodes other
-restored_leads t node folder name other sound known =
-    let fits = restored_fits t node folder name sound known in
-    moved_leads t (dropped item_key (node ∷ []) t.items) node folder name fits.0 sound fits.1 other
-
--- and so is what is under what comes back
+-- what is under what comes back is present
 pub restored_below : (t : Tables) (node folder : ℕ) (name : List ℕ) (other : ℕ) → AreSound t → KnownRestore t node folder name
     → is_under t.nodes other node ≡ true → LeadsToRoot (restored t node folder name).nodes other
 restored_below t node folder name other sound known =

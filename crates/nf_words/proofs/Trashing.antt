@@ -123,7 +123,7 @@ module _ (t : Tables) (sound : AreSound t) where
       items (item_there items))
 
   -- each is an item, and they are of different nodes
-  of_user : (user : ℕ) → All (λ (item : ItemRow). IsItem t item.node) (items_of t user)
+  pub of_user : (user : ℕ) → All (λ (item : ItemRow). IsItem t item.node) (items_of t user)
   of_user user = All-filter (λ (item : ItemRow). item.owner == user) (λ (item : ItemRow). IsItem t item.node) t.items (item_there t.items)
 
   all_two : AllPairs AreTwo t.items
