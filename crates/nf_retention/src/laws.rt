@@ -1,6 +1,6 @@
 //! The walks give what the rules say without a walk, and the rules mean nothing else.
 
-ghost use Rattle.nf_retention.specs.Laws.{FittingIsOnly, FittingIsRight, IsThinnedSo, KeptIsOnly, KeptIsRight, ThinnedIsRest};
+ghost use Rattle.nf_retention.specs.Laws.{FittingIsOnly, FittingIsRight, GoingIsRest, KeptIsOnly, KeptIsRight, NewestIsRight, ThinnedIsRest};
 
 /// What the walk keeps has the newest version, versions alone, neighbours a step apart, and leaves out none that is a step away.
 pub fn kept_is_right()
@@ -11,11 +11,6 @@ pub fn kept_is_right()
 #[tactic(auto, using(crate::proofs::Only::kept_only))]
 pub fn kept_is_only()
     ensures { KeptIsOnly }
-{}
-
-/// What it keeps in an example: were a gap measured from the version before, kept or not, the last one would go.
-pub fn is_thinned_so()
-    ensures { IsThinnedSo }
 {}
 
 /// What goes is what isn't kept.
@@ -29,4 +24,15 @@ pub fn thinned_is_rest()
 pub fn fitting_is_only()
     ensures there { FittingIsRight }
     ensures only { FittingIsOnly }
+{}
+
+/// What is newest first are the same items in order.
+pub fn newest_is_right()
+    ensures { NewestIsRight }
+{}
+
+/// Of items newest first those go that are there for 30 days, and of the others those behind the longest front within the bound.
+#[tactic(auto, using(crate::proofs::Gone::going_rest))]
+pub fn going_is_rest()
+    ensures { GoingIsRest }
 {}

@@ -7,11 +7,15 @@
 //! - **Bounds.** Of sizes, newest first, the longest front that sums to at most a bound is kept, and the others go. The bound of a user's
 //!   trash is half of the quota, that of a user's old versions half of what the charge leaves of the quota, both rounded down.
 //! - **Age.** What came to the trash goes for good after 30 days.
+//! - **Trash.** Of a user's items, newest first, those stay that haven't been there for 30 days and are in the longest front of such whose
+//!   sizes are within the bound. The others go for good.
 #![tactic(auto)]
 
 mod budget;
 pub mod laws;
 mod thinning;
+mod trash;
 
 pub use budget::{fitting, has_expired, trash_bound, versions_bound};
 pub use thinning::{step, thinned};
+pub use trash::{Trashed, going, newest_first};
