@@ -439,12 +439,19 @@ fn push_mounts(list: &mut RowList, mounts: &[MountRow]) -> Result<(), AllocError
     Ok(())
 }
 
+/// An equal item of the trash.
+fn copy_item(item: &ItemRow) -> Result<ItemRow, AllocError>
+    ensures { IfOk result (λ copy. copy ≡ item.now) }
+{
+    item.clone()
+}
+
 /// Puts items of the trash at the end of a list of rows.
 fn push_items(list: &mut RowList, items: &[ItemRow]) -> Result<(), AllocError>
     ensures { OnOk result (list.new ≡ list.old ++ map kinds.Item items.now) }
 {
     for item in items {
-        list.push(Row::Item(item.clone()?))?;
+        list.push(Row::Item(copy_item(item)?))?;
     }
     Ok(())
 }
