@@ -334,8 +334,7 @@ impl Tables {
         self.people.push_rows(&mut list)?;
         push_nodes(&mut list, self.tree.nodes())?;
         push_shares(&mut list, self.shares.rows())?;
-        push_mounts(&mut list, self.mounts.rows())?;
-        push_items(&mut list, self.items.rows())?;
+        push_mounted(&mut list, self.mounts.rows(), self.items.rows())?;
         Ok(list)
     }
 }
@@ -454,6 +453,14 @@ fn push_items(list: &mut RowList, items: &[ItemRow]) -> Result<(), AllocError>
         list.push(Row::Item(copy_item(item)?))?;
     }
     Ok(())
+}
+
+/// Puts mounts and items of the trash at the end of a list of rows.
+fn push_mounted(list: &mut RowList, mounts: &[MountRow], items: &[ItemRow]) -> Result<(), AllocError>
+    ensures { OnOk result (list.new ≡ list.old ++ (map kinds.Mount mounts.now ++ map kinds.Item items.now)) }
+{
+    push_mounts(list, mounts)?;
+    push_items(list, items)
 }
 
 /// Puts a node at the end, or another content of a file in the place of the old one.
