@@ -51,6 +51,11 @@ abbrev pub puts_mount : Change → Bool
 puts_mount (Put (rows.Mount row)) = true
 puts_mount other = false
 
+-- and an item of the trash
+abbrev pub puts_item : Change → Bool
+puts_item (Put (rows.Item row)) = true
+puts_item other = false
+
 -- a user, new or not
 abbrev pub puts_user : Change → Bool
 puts_user (Put (rows.User row)) = true
@@ -74,6 +79,7 @@ abbrev pub is_counted : Counted → Change → Bool
 is_counted (counted.Fresh next) = is_fresh next
 is_counted counted.Share = puts_share
 is_counted counted.Mount = puts_mount
+is_counted counted.Item = puts_item
 is_counted counted.User = puts_user
 is_counted counted.Token = puts_token
 is_counted counted.Group = puts_group
@@ -89,6 +95,7 @@ added_of next changes = record {
   nodes = count_by (is_fresh next) changes;
   shares = count_by puts_share changes;
   mounts = count_by puts_mount changes;
+  items = count_by puts_item changes;
 }
 
 -- how many rows an act adds at most
@@ -148,10 +155,11 @@ pub record IsFounded (old : List GroupRow) (row : GroupRow) : Type 0 where
   pub unnamed : group_named old row.name ≡ None
   pub few : length old + 1 ≤ MAX_GROUPS
 
--- the key is that of a member
-abbrev pub IsOfMember : RowKey → Type 0
-IsOfMember (keys.Member group user) = Unit {0}
-IsOfMember key = ⊥
+-- the key is that of a member or of an item of the trash
+abbrev pub IsDroppedKey : RowKey → Type 0
+IsDroppedKey (keys.Member group user) = Unit {0}
+IsDroppedKey (keys.Item node) = Unit {0}
+IsDroppedKey key = ⊥
 
 -- a change can be borne by the tables that it meets, where that was the next number of a node at first: a share that is there stays
 -- on its node, and a new token or member is no other's
@@ -160,10 +168,11 @@ IsBorne next t (Put (rows.User row)) = IsAdded t.users row ⊎ IsRequoted t.user
 IsBorne next t (Put (rows.Token row)) = IsNewToken t row
 IsBorne next t (Put (rows.Group row)) = IsFounded t.groups row
 IsBorne next t (Put (rows.Member row)) = IsNewMember t row
-IsBorne next t (Drop key) = IsOfMember key
+IsBorne next t (Drop key) = IsDroppedKey key
 IsBorne next t (Put (rows.Node row)) = ((next ≤ row.id) × IsNew t.nodes row) ⊎ ((row.id < next) × IsRefilled t.nodes row)
 IsBorne next t (Put (rows.Share row)) = (old : ShareRow) → share_row t.shares row.id ≡ Some old → old.node ≡ row.node
 IsBorne next t (Put (rows.Mount row)) = Unit {0}
+IsBorne next t (Put (rows.Item row)) = Unit {0}
 IsBorne next t other = ⊥
 
 abbrev pub AreBorne : ℕ → Tables → List Change → Type 0
@@ -176,10 +185,11 @@ IsCounted meta (Put (rows.User row)) = row.id + 1 ≤ max meta.next_user last_sh
 IsCounted meta (Put (rows.Token row)) = Unit {0}
 IsCounted meta (Put (rows.Group row)) = row.id + 1 ≤ max meta.next_group last_short
 IsCounted meta (Put (rows.Member row)) = Unit {0}
-IsCounted meta (Drop key) = IsOfMember key
+IsCounted meta (Drop key) = IsDroppedKey key
 IsCounted meta (Put (rows.Node row)) = row.id + 1 ≤ max meta.next_node last_number
 IsCounted meta (Put (rows.Share row)) = row.id + 1 ≤ max meta.next_share last_number
 IsCounted meta (Put (rows.Mount row)) = Unit {0}
+IsCounted meta (Put (rows.Item row)) = Unit {0}
 IsCounted meta other = ⊥
 
 pub record BearsChanges (t : Tables) (changes : List Change) (blob : Option ℕ) : Type 0 where

@@ -8,7 +8,7 @@ ghost use Rattle.nf_defs.specs.Tree.{is_leaf, is_under, node_row, relinked};
 ghost use Rattle.nf_words.specs.Changes.{blob_of, changes_of, closed_under, ended_row, gone_for, gone_under, hold_of, is_closing, meta_after, told, transferred_row, with_meta};
 ghost use Rattle.nf_words.specs.declared.answer.LockKey.TheVariants as lock_keys;
 ghost use Rattle.nf_words.specs.declared.answer.Mode.TheVariants.{Exclusive, Shared};
-ghost use Rattle.nf_decide.specs.Current.{BearsAct, added_by, added_of, is_counted, is_fresh, puts_group, puts_member, puts_mount, puts_share, puts_token, puts_user};
+ghost use Rattle.nf_decide.specs.Current.{BearsAct, added_by, added_of, is_counted, is_fresh, puts_group, puts_item, puts_member, puts_mount, puts_share, puts_token, puts_user};
 
 use crate::counts::RowCounts;
 use crate::tables::{copy, raised};
@@ -27,6 +27,7 @@ enum Counted {
     Fresh(NodeId),
     Share,
     Mount,
+    Item,
     User,
     Token,
     Group,
@@ -309,6 +310,7 @@ fn added_of(next: NodeId, changes: &[Change]) -> RowCounts
         nodes: change_count(&Counted::Fresh(next), changes),
         shares: change_count(&Counted::Share, changes),
         mounts: change_count(&Counted::Mount, changes),
+        items: change_count(&Counted::Item, changes),
     }
 }
 
@@ -333,6 +335,7 @@ fn is_counted(counted: &Counted, change: &Change) -> bool
         Counted::Fresh(next) => is_fresh(*next, change),
         Counted::Share => puts_share(change),
         Counted::Mount => puts_mount(change),
+        Counted::Item => puts_item(change),
         Counted::User => puts_user(change),
         Counted::Token => puts_token(change),
         Counted::Group => puts_group(change),
@@ -360,6 +363,12 @@ fn puts_mount(change: &Change) -> bool
     ensures { result ≡ puts_mount change.now }
 {
     matches!(change, Change::Put(Row::Mount(_)))
+}
+
+fn puts_item(change: &Change) -> bool
+    ensures { result ≡ puts_item change.now }
+{
+    matches!(change, Change::Put(Row::Item(_)))
 }
 
 fn puts_user(change: &Change) -> bool
