@@ -11,11 +11,12 @@ use Rattle.nf_base.specs.declared.rows.Place.{Place}
 use Rattle.nf_base.specs.declared.rows.Place.TheVariants.{Root, Inside, Trash}
 use Rattle.nf_defs.proofs.Climbs.{holds_some}
 use Rattle.nf_defs.specs.Prelude.{node_row, Tables}
+use Rattle.nf_laws.proofs.Numbers.{numbers_new}
 use Rattle.nf_laws.proofs.Rows.{found_is}
 use Rattle.nf_laws.specs.Access.{Follows, in_it, in_made, is_gone, is_made, is_moved, is_trashed, is_updated, IsMadeIn, NodesAllowed}
 use Rattle.nf_laws.specs.Numbers.{AreHigher}
 use Rattle.nf_words.specs.Others.{IsItemSound}
-use Rattle.nf_words.specs.Prelude.{Need, State}
+use Rattle.nf_words.specs.Prelude.{after, IsSound, MayCome, Need, State}
 use Rattle.nf_words.specs.declared.history.Entry.{Entry}
 use Rattle.nf_rules.specs.Ruled.{AreRuled, IsGiven, IsItemRuled}
 use Rattle.nf_rules.specs.Rules.{are_item_numbers, is_folder_for, is_from_kept, is_item_kept, is_node, is_trash_place, is_trashed_as, is_user}
@@ -78,22 +79,18 @@ item_placed t row sound own =
 
 -- ---- tables that come after
 
--- an item, where the folder that it was in is gone or is still one of its owner's
-pub item_stays : (t made : Tables) (row : ItemRow) → AreHigher t.meta made.meta
-    → (IsGiven t.meta.next_node row.from → is_from_kept t row ≡ true → is_from_kept made row ≡ true) → IsItemRuled t row → IsItemRuled made row
-item_stays t made row up still own = record {
-  node = still_given t.meta.next_node made.meta.next_node row.node up.nodes own.node;
-  owner = still_given t.meta.next_user made.meta.next_user row.owner up.users own.owner;
-  from = still_given t.meta.next_node made.meta.next_node row.from up.nodes own.from;
-  kept = still own.from own.kept;
-}
-
--- all of them, whichever tables are left without some
+-- where the folder that an item was in is gone or is still one of its owner's, as of all of them
 pub items_stay : (t made : Tables) → AreRuled t → AreHigher t.meta made.meta
     → ((item : ItemRow) → IsGiven t.meta.next_node item.from → is_from_kept t item ≡ true → is_from_kept made item ≡ true)
     → All (IsItemRuled made) t.items
 items_stay t made h up still =
-    All-weaker (IsItemRuled t) (IsItemRuled made) (λ row own. item_stays t made row up (still row) own) t.items h.items
+    All-weaker (IsItemRuled t) (IsItemRuled made)
+    (λ row own. record {
+      node = still_given t.meta.next_node made.meta.next_node row.node up.nodes own.node;
+      owner = still_given t.meta.next_user made.meta.next_user row.owner up.users own.owner;
+      from = still_given t.meta.next_node made.meta.next_node row.from up.nodes own.from;
+      kept = still row own.from own.kept;
+    }) t.items h.items
 
 -- where no item is another
 pub items_ruled : (t made : Tables) → AreRuled t → AreHigher t.meta made.meta → made.items ≡ t.items
@@ -113,29 +110,27 @@ made_new : (before after : List NodeRow) (folder node : ℕ) → IsMadeIn before
 made_new before after folder _ (in_it node none above) = none
 made_new before after folder _ (in_made node parent none above made) = none
 
--- a node that wasn't there has a number that wasn't given
-abbrev pub AreNew : Tables → Tables → Type 0
-AreNew t made = All (λ (row : NodeRow). (is_some (node_row t.nodes row.id) ≡ true) ⊎ (t.meta.next_node ≤ row.id)) made.nodes
-
--- so a number that was given, and of which no node was there, is that of none
-given_gone : (t made : Tables) (node : ℕ) → AreNew t made → node < t.meta.next_node → node_row t.nodes node ≡ None → node_row made.nodes node ≡ None
-given_gone t made node new below none = here (node_row made.nodes node) refl
+-- a number that was given, and of which no node was there, is that of none after an entry
+pub given_gone : (n : ℕ) (s : State) (e : Entry) (node : ℕ) → IsSound s → MayCome n s e → node < s.tables.meta.next_node
+    → node_row s.tables.nodes node ≡ None → node_row (after s e).tables.nodes node ≡ None
+given_gone n s e node sound may below none = here (node_row (after s e).tables.nodes node) refl
   where
-    here : (o : Option NodeRow) → node_row made.nodes node ≡ o → o ≡ None
+    here : (o : Option NodeRow) → node_row (after s e).tables.nodes node ≡ o → o ≡ None
     here None there = refl
     here (Some row) there =
-        let found = found_is (λ (row : NodeRow). (is_some (node_row t.nodes row.id) ≡ true) ⊎ (t.meta.next_node ≤ row.id))
-        (λ row. row.id == node) made.nodes row new there in
+        let found = found_is (λ (row : NodeRow). (is_some (node_row s.tables.nodes row.id) ≡ true) ⊎ (s.tables.meta.next_node ≤ row.id))
+        (λ row. row.id == node) (after s e).tables.nodes row (numbers_new n s (e ∷ []) sound (may, tt)) there in
         let same : row.id ≡ node = eqb-true row.id node found.0 in
         elim found.1 [
-          | inl old ↦ absurd (false≢true (sym (ap is_some (ap (node_row t.nodes) same ∙ none)) ∙ old))
+          | inl old ↦ absurd (false≢true (sym (ap is_some (ap (node_row s.tables.nodes) same ∙ none)) ∙ old))
           | inr new ↦ absurd (omega (arith, same, new, below))
         ]
 
 -- what is allowed leaves each folder that an item was in as it was, or it is gone, or has another name, content or place
-pub from_still : (s : State) (e : Entry) (made : Tables) → AreNew s.tables made → NodesAllowed s e made
+pub from_still : (s : State) (e : Entry) (made : Tables)
+    → ((node : ℕ) → node < s.tables.meta.next_node → node_row s.tables.nodes node ≡ None → node_row made.nodes node ≡ None) → NodesAllowed s e made
     → (item : ItemRow) → IsGiven s.tables.meta.next_node item.from → is_from_kept s.tables item ≡ true → is_from_kept made item ≡ true
-from_still s e made new changes item given kept =
+from_still s e made none changes item given kept =
     elim (cases_Bool (is_from_kept made item)) [
       | inl is ↦ is
       | inr fails ↦ followed _ (changes.nodes item.from (λ same. false≢true (sym fails ∙ ap kept_in same ∙ kept))).follows
@@ -148,7 +143,7 @@ from_still s e made new changes item given kept =
     followed needs (is_updated old row needed was there like) =
         ap kept_in there ∙ ap (is_folder_for item) like ∙ sym (ap kept_in was) ∙ kept
     followed needs (is_made folder needed fresh) =
-        ap kept_in (given_gone s.tables made item.from new given.below (made_new s.tables.nodes made.nodes folder item.from fresh))
+        ap kept_in (none item.from given.below (made_new s.tables.nodes made.nodes folder item.from fresh))
     followed needs (is_trashed old needed was there) = ap kept_in there ∙ sym (ap kept_in was) ∙ kept
     followed needs (is_gone top needed under gone) = ap kept_in gone
     followed needs (is_moved folder old row needed created was there like) =

@@ -29,7 +29,7 @@ use Rattle.nf_laws.specs.Numbers.{AreHigher}
 use Rattle.nf_words.proofs.Asks.{named_there}
 use Rattle.nf_words.proofs.Found.{put_is_found, put_leaves, put_length_over}
 use Rattle.nf_words.proofs.Provided.{membership_there, one_passes, row_there, three_pass}
-use Rattle.nf_words.specs.Prelude.{AreSound, HasRoot, is_member, IsModest, join_limit, last_short, membership, mount_limit, mounts_joined, new_root, new_user, people_limit, row_named, State}
+use Rattle.nf_words.specs.Prelude.{AreSound, HasRoot, is_member, IsModest, join_limit, last_short, membership, mount_limit, mounts_joined, new_root, new_user, people_limit, State}
 use Rattle.nf_words.specs.People.{are_many_groups, are_many_nodes, are_many_tokens, are_many_users}
 use Rattle.nf_words.specs.declared.answer.Limit.TheVariants as limit
 use Rattle.nf_words.specs.declared.history.Entry.{Entry}

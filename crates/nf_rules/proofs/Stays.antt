@@ -1,10 +1,10 @@
 -- Tables that keep the rules keep them by each entry that may come.
-use Rattle.std.proofs.Common.{◌≡◌, ℕ, ◌+◌, ◌≤◌, ◌==◌, ◌||◌, ◌⊎◌, inl, inr, Bool, true, false, if◌then◌else◌, not, List, [], ◌∷◌, map, get_or, refl, sym, ap, ◌∙◌, subst, arith, bytes_eq}
-use Rattle.std.specs.Prelude.{None, Ok, Some}
+use Rattle.std.proofs.Common.{◌≡◌, ℕ, ◌+◌, ◌<◌, ◌≤◌, ◌==◌, ◌||◌, ◌⊎◌, inl, inr, Bool, true, false, if◌then◌else◌, not, List, [], ◌∷◌, map, get_or, refl, sym, ap, ◌∙◌, subst, arith, bytes_eq}
+use Rattle.std.specs.Prelude.{None}
 use Rattle.std.specs.List.{All, AllPairs}
 use Rattle.std.specs.Option.{option_and_then}
 use Rattle.std.proofs.lemmas.List.{map-id}
-use Rattle.std.proofs.lemmas.List.Elements.{All-filter, All-head, All-map, All-weaker}
+use Rattle.std.proofs.lemmas.List.Elements.{All-filter, All-head, All-map}
 use Rattle.std.proofs.lemmas.Option.{none-some}
 use Rattle.nf_access.specs.Mounts.{is_mount_of}
 use Rattle.nf_base.specs.declared.limits.TheConstants.{MAX_QUOTA}
@@ -13,25 +13,24 @@ use Rattle.nf_base.specs.declared.rows.MountRow.{MountRow}
 use Rattle.nf_base.specs.declared.rows.ShareRow.{ShareRow}
 use Rattle.nf_base.specs.declared.rows.UserRow.{UserRow}
 use Rattle.nf_defs.proofs.Puts.{all_put}
-use Rattle.nf_defs.specs.Prelude.{item_key, item_row, put, Tables, user_key}
+use Rattle.nf_defs.specs.Prelude.{item_key, item_row, node_row, put, Tables, user_key}
 use Rattle.nf_defs.specs.Tree.{is_rooted}
 use Rattle.nf_laws.proofs.Allowing.{changes_allowed}
 use Rattle.nf_laws.proofs.Counters.{after_up}
 use Rattle.nf_laws.proofs.Entries.{entry_has}
 use Rattle.nf_laws.proofs.Going.{purged_rest}
 use Rattle.nf_laws.proofs.Lists.{changes_have}
-use Rattle.nf_laws.proofs.Numbers.{numbers_new}
 use Rattle.nf_laws.proofs.Others.{item_gone}
 use Rattle.nf_laws.proofs.Peopled.{people_alone}
 use Rattle.nf_laws.proofs.Purged.{purged_keeps}
-use Rattle.nf_laws.proofs.Rows.{each_fails, finds_none, found_is, stamp, stamped_has}
+use Rattle.nf_laws.proofs.Rows.{each_fails, finds_none, found_is, stamped_has}
 use Rattle.nf_laws.proofs.Stays.{sound_after}
 use Rattle.nf_laws.specs.Access.{ChangesAllowed, has_quota, has_token, is_left, is_renamed, IsProviding, IsRemounted, IsRestoring, IsSharing, joins, KeepsShares, leaves, makes_group, makes_user, NodesAllowed, Provides, Remounts}
 use Rattle.nf_laws.specs.Acts.{IsItemOf}
 use Rattle.nf_laws.specs.Numbers.{AreHigher}
 use Rattle.nf_words.proofs.Ends.{known_change}
 use Rattle.nf_words.proofs.Known.{Known}
-use Rattle.nf_words.specs.Prelude.{after, altered, AreSound, asker_of, Call, call_of, changed, decision_of, ended_row, IsInBounds, IsModest, IsSound, item_if_of, MayAsk, MayCome, new_user, purged, purged_all, State, told}
+use Rattle.nf_words.specs.Prelude.{after, altered, AreSound, asker_of, Call, call_of, changed, ended_row, IsInBounds, IsModest, IsSound, item_if_of, MayAsk, MayCome, new_user, purged, purged_all, State, told}
 use Rattle.nf_words.specs.declared.answer.Allowed.{Allowed}
 use Rattle.nf_words.specs.declared.answer.Allowed.TheVariants as allowed
 use Rattle.nf_words.specs.declared.answer.Deed.{Deed}
@@ -43,7 +42,7 @@ use Rattle.nf_words.specs.declared.request.Request.{Request}
 use Rattle.nf_words.specs.declared.request.Words.{Words}
 use Rattle.nf_rules.specs.Laws.{StaysRuled}
 use Rattle.nf_rules.specs.Ruled.{AreRuled, AreTokensApart, IsGiven, IsItemRuled, IsMountRuled, IsShareRuled}
-use Rattle.nf_rules.proofs.Items.{AreNew, from_still, items_ruled}
+use Rattle.nf_rules.proofs.Items.{from_still, given_gone, items_ruled}
 use Rattle.nf_rules.proofs.Kept.{apart, EndsSome, ends_unless, others_ruled, shares_ruled, still_mounted}
 use Rattle.nf_rules.proofs.OneShare.{mounts_ruled, one_apart, one_ruled}
 use Rattle.nf_rules.proofs.Peopled.{people_ruled}
@@ -131,7 +130,7 @@ others_kept s e made ruled sound up users groups others bounds = elim others [
 record IsAfter (s : State) (e : Entry) (made : Tables) : Type 0 where
   sound : AreSound made
   up : AreHigher s.tables.meta made.meta
-  new : AreNew s.tables made
+  none : (node : ℕ) → node < s.tables.meta.next_node → node_row s.tables.nodes node ≡ None → node_row made.nodes node ≡ None
   allowed : ChangesAllowed s e made
   bounds : (words : Words) (request : Request) → e.event ≡ Begin words request → IsInBounds request.wanted
 
@@ -141,7 +140,7 @@ nodes_ruled : (s : State) (e : Entry) (made : Tables) → AreRuled s.tables → 
 nodes_ruled s e made ruled is same changes =
     let kept = others_kept s e made ruled is.sound is.up (ap (λ (t : Tables). t.users) changes.rest) (ap (λ (t : Tables). t.groups) changes.rest)
     changes.others is.bounds in
-    let items = items_ruled s.tables made ruled is.up same (from_still s e made is.new changes) in
+    let items = items_ruled s.tables made ruled is.up same (from_still s e made is.none changes) in
     subst AreRuled (sym changes.rest)
     (others_ruled s.tables made ruled (subst AreSound changes.rest is.sound) is.up
     (subst (λ (u : Tables). All (IsShareRuled u) u.shares) changes.rest kept.shares) kept.apart
@@ -270,7 +269,7 @@ ruled_after n s e ruled sound may =
     (record {
       sound = (sound_after n s e sound may).rows;
       up = after_up s e e.mark;
-      new = numbers_new n s (e ∷ []) sound (may, tt);
+      none = λ node. given_gone n s e node sound may;
       allowed = changes_allowed n s e sound may;
       bounds = λ words request begins. (subst (MayAsk s e.seat) begins may.asked).1.bounds;
     })

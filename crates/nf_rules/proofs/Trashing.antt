@@ -1,6 +1,6 @@
 -- Tables that keep the rules keep them with what is put in the trash, with what comes back from there, and without what goes for good.
-use Rattle.std.proofs.Common.{◌≡◌, ◌⊎◌, ℕ, ◌≤◌, ◌==◌, inl, inr, Bool, true, false, not, List, [], ◌∷◌, map, Some, refl, sym, ap, ◌∙◌, subst, arith, bytes_eq}
-use Rattle.std.specs.Prelude.{None, Option}
+use Rattle.std.proofs.Common.{◌≡◌, ℕ, ◌≤◌, ◌==◌, inl, inr, Bool, true, not, List, [], ◌∷◌, map, Some, refl, sym, ap, ◌∙◌, subst, arith, bytes_eq}
+use Rattle.std.specs.Prelude.{Option}
 use Rattle.std.specs.List.{All}
 use Rattle.std.specs.Option.{option_map_or}
 use Rattle.std.proofs.lemmas.Bool.{and_from, cases_Bool, eq-eqb}
@@ -12,7 +12,7 @@ use Rattle.nf_base.specs.declared.rows.NodeRow.{NodeRow}
 use Rattle.nf_base.specs.declared.rows.ShareRow.{ShareRow}
 use Rattle.nf_base.specs.declared.rows.UserRow.{UserRow}
 use Rattle.nf_defs.proofs.Puts.{all_put}
-use Rattle.nf_defs.specs.Prelude.{is_under, item_key, node_row, put, relinked, Tables, user_key, user_row}
+use Rattle.nf_defs.specs.Prelude.{is_under, item_key, put, relinked, Tables, user_key, user_row}
 use Rattle.nf_defs.specs.Tree.{trashed}
 use Rattle.nf_laws.proofs.Gone.{row_cleared, row_gone}
 use Rattle.nf_laws.proofs.OneRow.{value_with}
@@ -20,14 +20,14 @@ use Rattle.nf_laws.proofs.Others.{unless_gone}
 use Rattle.nf_laws.proofs.Puts.{number_found}
 use Rattle.nf_laws.proofs.Rows.{folder_there, found_is, none_higher, row_is, stamp}
 use Rattle.nf_laws.proofs.Trashed.{deed_sound, purged_sound, trash_has}
-use Rattle.nf_words.proofs.Known.{IsItem, KnownDeed, KnownDiscard, KnownGone, KnownTrash}
+use Rattle.nf_words.proofs.Known.{KnownDeed, KnownDiscard, KnownTrash}
 use Rattle.nf_words.specs.Prelude.{AreSound, deed_done, discarded, IsPlaceSound, IsRequoted, purged, purged_all, restored}
 use Rattle.nf_words.specs.declared.answer.Deed.{Deed}
 use Rattle.nf_words.specs.declared.answer.Deed.TheVariants as deed
-use Rattle.nf_rules.specs.Ruled.{AreRuled, IsGiven, IsItemRuled}
+use Rattle.nf_rules.specs.Ruled.{AreRuled, IsItemRuled}
 use Rattle.nf_rules.specs.Rules.{is_folder_for, is_from_kept, is_user}
 use Rattle.nf_rules.proofs.After.{user_was}
-use Rattle.nf_rules.proofs.Items.{item_stays, items_stay}
+use Rattle.nf_rules.proofs.Items.{items_stay}
 use Rattle.nf_rules.proofs.Kept.{ended_ruled, ends_if}
 use Rattle.nf_rules.proofs.Peopled.{quota_ruled}
 
