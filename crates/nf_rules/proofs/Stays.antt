@@ -212,41 +212,37 @@ plain_ruled s e made ruled is same =
 
 -- ---- quotas
 
--- no quota that is set is beyond the greatest
+abbrev IsModestRow : UserRow → Type 0
+IsModestRow row = row.quota ≤ MAX_QUOTA
+
+-- where no user is another, no quota is beyond the greatest
+modest_as : (t made : Tables) → AreRuled t → made.users ≡ t.users → AreModest made
+modest_as t made h same = subst (All IsModestRow) (sym same) (λ k d within. (h.users k d within).quota)
+
+-- nor where one is
+modest_put : (t made : Tables) (row : UserRow) → AreRuled t → row.quota ≤ MAX_QUOTA → made.users ≡ put user_key row t.users → AreModest made
+modest_put t made row h modest is =
+    subst (All IsModestRow) (sym is) (all_put user_key IsModestRow row t.users modest (modest_as t t h refl))
+
+provided_modest : (t made : Tables) (now : ℕ) (asked : PeopleAsk) → AreRuled t → IsModest asked → Provides t now made asked → AreModest made
+provided_modest t made now _ h modest (makes_user name token quota free fresh is) =
+    modest_put t made (new_user t name quota) h modest (ap (λ (u : Tables). u.users) is)
+provided_modest t made now _ h modest (makes_group name free is) = modest_as t made h (ap (λ (u : Tables). u.users) is)
+provided_modest t made now _ h modest (joins user group row named none is mounts all) = modest_as t made h (ap (λ (u : Tables). u.users) is)
+provided_modest t made now _ h modest (leaves user group row named there is) = modest_as t made h (ap (λ (u : Tables). u.users) is)
+provided_modest t made now _ h modest (has_quota user quota row named is) =
+    modest_put t made (record row { quota = quota }) h modest (ap (λ (u : Tables). u.users) is)
+provided_modest t made now _ h modest (has_token user token id named free is) = modest_as t made h (ap (λ (u : Tables). u.users) is)
+
+-- nor is one after an entry
 modest_after : (s : State) (e : Entry) (made : Tables) → AreRuled s.tables → ChangesAllowed s e made → AreModest made
 modest_after s e made h changes =
-    subst (λ (users : List UserRow). All IsModestRow users)
-    (sym (ap (λ (u : Tables). u.users) (changes.settled.gone ∙ purged_rest changes.between changes.settled.tops)))
+    subst (All IsModestRow) (sym (ap (λ (u : Tables). u.users) (changes.settled.gone ∙ purged_rest changes.between changes.settled.tops)))
     (elim changes.allowed [
-      | inl nodes ↦ as_was changes.between (ap (λ (u : Tables). u.users) nodes.rest)
-      | inr (inl people) ↦ provided people.asked people.modest people.provides
-      | inr (inr back) ↦ as_was changes.between (ap (λ (u : Tables). u.users) back.rows)
+      | inl nodes ↦ modest_as s.tables changes.between h (ap (λ (u : Tables). u.users) nodes.rest)
+      | inr (inl people) ↦ provided_modest s.tables changes.between e.moment people.asked h people.modest people.provides
+      | inr (inr back) ↦ modest_as s.tables changes.between h (ap (λ (u : Tables). u.users) back.rows)
     ])
-  where
-    t : Tables
-    t = s.tables
-
-    IsModestRow : UserRow → Type 0
-    IsModestRow row = row.quota ≤ MAX_QUOTA
-
-    old : All IsModestRow t.users
-    old k d within = (h.users k d within).quota
-
-    as_was : (u : Tables) → u.users ≡ t.users → All IsModestRow u.users
-    as_was u same = subst (All IsModestRow) (sym same) old
-
-    put_modest : (u : Tables) (row : UserRow) → u.users ≡ put user_key row t.users → row.quota ≤ MAX_QUOTA → All IsModestRow u.users
-    put_modest u row is modest = subst (All IsModestRow) (sym is) (all_put user_key IsModestRow row t.users modest old)
-
-    provided : (asked : PeopleAsk) → IsModest asked → Provides t e.moment changes.between asked → All IsModestRow changes.between.users
-    provided _ modest (makes_user name token quota free fresh is) =
-        put_modest changes.between (new_user t name quota) (ap (λ (u : Tables). u.users) is) modest
-    provided _ modest (makes_group name free is) = as_was changes.between (ap (λ (u : Tables). u.users) is)
-    provided _ modest (joins user group row named none is mounts all) = as_was changes.between (ap (λ (u : Tables). u.users) is)
-    provided _ modest (leaves user group row named there is) = as_was changes.between (ap (λ (u : Tables). u.users) is)
-    provided _ modest (has_quota user quota row named is) =
-        put_modest changes.between (record row { quota = quota }) (ap (λ (u : Tables). u.users) is) modest
-    provided _ modest (has_token user token id named free is) = as_was changes.between (ap (λ (u : Tables). u.users) is)
 
 -- ---- histories
 
