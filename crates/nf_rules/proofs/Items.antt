@@ -13,7 +13,7 @@ use Rattle.nf_defs.proofs.Climbs.{holds_some}
 use Rattle.nf_defs.specs.Prelude.{node_row, Tables}
 use Rattle.nf_laws.proofs.Numbers.{numbers_new}
 use Rattle.nf_laws.proofs.Rows.{found_is}
-use Rattle.nf_laws.specs.Access.{Follows, in_it, in_made, is_gone, is_made, is_moved, is_updated, IsMadeIn, NodesAllowed}
+use Rattle.nf_laws.specs.Access.{Follows, in_it, in_made, is_gone, is_made, is_moved, is_trashed, is_updated, IsMadeIn, NodesAllowed}
 use Rattle.nf_laws.specs.Numbers.{AreHigher}
 use Rattle.nf_words.specs.Others.{IsItemSound}
 use Rattle.nf_words.specs.Prelude.{after, IsSound, MayCome, Need, State}
@@ -79,19 +79,24 @@ item_placed t row sound own =
 
 -- ---- tables that come after
 
--- where no item is another, and the folder of each is gone or is still one of its owner's
-pub items_ruled : (t made : Tables) → AreRuled t → AreHigher t.meta made.meta → made.items ≡ t.items
+-- where the folder that an item was in is gone or is still one of its owner's, as of all of them
+pub items_stay : (t made : Tables) → AreRuled t → AreHigher t.meta made.meta
     → ((item : ItemRow) → IsGiven t.meta.next_node item.from → is_from_kept t item ≡ true → is_from_kept made item ≡ true)
-    → All (IsItemRuled made) made.items
-items_ruled t made h up same still =
-    subst (All (IsItemRuled made)) (sym same)
-    (All-weaker (IsItemRuled t) (IsItemRuled made)
+    → All (IsItemRuled made) t.items
+items_stay t made h up still =
+    All-weaker (IsItemRuled t) (IsItemRuled made)
     (λ row own. record {
       node = still_given t.meta.next_node made.meta.next_node row.node up.nodes own.node;
       owner = still_given t.meta.next_user made.meta.next_user row.owner up.users own.owner;
       from = still_given t.meta.next_node made.meta.next_node row.from up.nodes own.from;
       kept = still row own.from own.kept;
-    }) t.items h.items)
+    }) t.items h.items
+
+-- where no item is another
+pub items_ruled : (t made : Tables) → AreRuled t → AreHigher t.meta made.meta → made.items ≡ t.items
+    → ((item : ItemRow) → IsGiven t.meta.next_node item.from → is_from_kept t item ≡ true → is_from_kept made item ≡ true)
+    → All (IsItemRuled made) made.items
+items_ruled t made h up same still = subst (All (IsItemRuled made)) (sym same) (items_stay t made h up still)
 
 -- as where no node is another
 pub items_as_were : (t made : Tables) → AreRuled t → AreHigher t.meta made.meta → made.items ≡ t.items → made.nodes ≡ t.nodes
@@ -106,7 +111,7 @@ made_new before after folder _ (in_it node none above) = none
 made_new before after folder _ (in_made node parent none above made) = none
 
 -- a number that was given, and of which no node was there, is that of none after an entry
-given_gone : (n : ℕ) (s : State) (e : Entry) (node : ℕ) → IsSound s → MayCome n s e → node < s.tables.meta.next_node
+pub given_gone : (n : ℕ) (s : State) (e : Entry) (node : ℕ) → IsSound s → MayCome n s e → node < s.tables.meta.next_node
     → node_row s.tables.nodes node ≡ None → node_row (after s e).tables.nodes node ≡ None
 given_gone n s e node sound may below none = here (node_row (after s e).tables.nodes node) refl
   where
@@ -121,11 +126,12 @@ given_gone n s e node sound may below none = here (node_row (after s e).tables.n
           | inr new ↦ absurd (omega (arith, same, new, below))
         ]
 
--- an entry leaves each folder that an item was in as it was, or it is gone, or has another name, content or place
-pub from_still : (n : ℕ) (s : State) (e : Entry) → IsSound s → MayCome n s e → NodesAllowed s e (after s e).tables
-    → (item : ItemRow) → IsGiven s.tables.meta.next_node item.from → is_from_kept s.tables item ≡ true → is_from_kept (after s e).tables item ≡ true
-from_still n s e sound may changes item given kept =
-    elim (cases_Bool (is_from_kept (after s e).tables item)) [
+-- what is allowed leaves each folder that an item was in as it was, or it is gone, or has another name, content or place
+pub from_still : (s : State) (e : Entry) (made : Tables)
+    → ((node : ℕ) → node < s.tables.meta.next_node → node_row s.tables.nodes node ≡ None → node_row made.nodes node ≡ None) → NodesAllowed s e made
+    → (item : ItemRow) → IsGiven s.tables.meta.next_node item.from → is_from_kept s.tables item ≡ true → is_from_kept made item ≡ true
+from_still s e made none changes item given kept =
+    elim (cases_Bool (is_from_kept made item)) [
       | inl is ↦ is
       | inr fails ↦ followed _ (changes.nodes item.from (λ same. false≢true (sym fails ∙ ap kept_in same ∙ kept))).follows
     ]
@@ -133,11 +139,12 @@ from_still n s e sound may changes item given kept =
     kept_in : Option NodeRow → Bool
     kept_in o = option_map_or (is_folder_for item) o true
 
-    followed : (needs : List Need) → Follows needs s.tables.nodes (after s e).tables.nodes item.from → is_from_kept (after s e).tables item ≡ true
+    followed : (needs : List Need) → Follows needs s.tables.nodes made.nodes item.from → is_from_kept made item ≡ true
     followed needs (is_updated old row needed was there like) =
         ap kept_in there ∙ ap (is_folder_for item) like ∙ sym (ap kept_in was) ∙ kept
-    followed needs (is_made folder needed made) =
-        ap kept_in (given_gone n s e item.from sound may given.below (made_new s.tables.nodes (after s e).tables.nodes folder item.from made))
+    followed needs (is_made folder needed fresh) =
+        ap kept_in (none item.from given.below (made_new s.tables.nodes made.nodes folder item.from fresh))
+    followed needs (is_trashed old needed was there) = ap kept_in there ∙ sym (ap kept_in was) ∙ kept
     followed needs (is_gone top needed under gone) = ap kept_in gone
     followed needs (is_moved folder old row needed created was there like) =
         ap kept_in there ∙ ap (is_folder_for item) like ∙ sym (ap kept_in was) ∙ kept

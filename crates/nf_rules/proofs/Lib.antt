@@ -3,6 +3,7 @@ pub mod Among
 pub mod Apart
 pub mod Firsts
 pub mod Items
+pub mod Kept
 pub mod Later
 pub mod Leading
 pub mod OneShare
@@ -14,4 +15,5 @@ pub mod Shared
 pub mod Shares
 pub mod Stacked
 pub mod Stays
+pub mod Trashing
 pub mod Unbroken

@@ -29,13 +29,13 @@ use Rattle.nf_laws.specs.Numbers.{AreHigher}
 use Rattle.nf_words.proofs.Asks.{named_there}
 use Rattle.nf_words.proofs.Found.{put_is_found, put_leaves, put_length_over}
 use Rattle.nf_words.proofs.Provided.{membership_there, one_passes, row_there, three_pass}
-use Rattle.nf_words.specs.Prelude.{AreSound, HasRoot, is_member, IsModest, join_limit, last_short, membership, mount_limit, mounts_joined, new_root, new_user, people_limit, row_named, State}
+use Rattle.nf_words.specs.Prelude.{AreSound, HasRoot, is_member, IsModest, join_limit, last_short, membership, mount_limit, mounts_joined, new_root, new_user, people_limit, State}
 use Rattle.nf_words.specs.People.{are_many_groups, are_many_nodes, are_many_tokens, are_many_users}
 use Rattle.nf_words.specs.declared.answer.Limit.TheVariants as limit
 use Rattle.nf_words.specs.declared.history.Entry.{Entry}
 use Rattle.nf_words.specs.declared.request.PeopleAsk.{PeopleAsk}
 use Rattle.nf_words.specs.declared.request.PeopleAsk.TheVariants as people
-use Rattle.nf_rules.proofs.After.{share_ruled, still_given}
+use Rattle.nf_rules.proofs.After.{share_ruled, still_given, user_was}
 use Rattle.nf_rules.proofs.Items.{items_as_were, items_ruled}
 use Rattle.nf_rules.proofs.OneShare.{node_given}
 use Rattle.nf_rules.proofs.Pairs.{pairs_put}
@@ -125,15 +125,8 @@ module _ (t made : Tables) (h : AreRuled t) (sound : AreSound made) (up : AreHig
       (sound.others.shares k d within) (share_row_each made.shares sound.others.shares_rise k d within)
 
   -- a user who is there was given
-  user_given : (user : ℕ) → is_user t user ≡ true → IsGiven made.meta.next_user user
-  user_given user is = here (user_row t.users user) refl is
-    where
-      here : (o : Option UserRow) → user_row t.users user ≡ o → is_some o ≡ true → IsGiven made.meta.next_user user
-      here None e is = absurd (cc)
-      here (Some row) e is =
-          let found = found_is (IsUserRuled t) (λ (row : UserRow). row.id == user) t.users row h.users e in
-          still_given t.meta.next_user made.meta.next_user user up.users
-          (subst (IsGiven t.meta.next_user) (eqb-true row.id user found.0) found.1.id)
+  still_user : (user : ℕ) → is_user t user ≡ true → IsGiven made.meta.next_user user
+  still_user user is = still_given t.meta.next_user made.meta.next_user user up.users (user_was t user h is)
 
   -- ---- by the kinds of rows
 
@@ -331,11 +324,10 @@ module _ (t made : Tables) (now : ℕ) (h : AreRuled t) (sound : AreSound made) 
       (same_mounts t made h sound up items stays kept (ap (λ (u : Tables). u.mounts) is))
 
   -- a user with another quota has the number and the name that it had
-  quota_ruled : (name : List ℕ) (quota : ℕ) (row : UserRow) → row_named t name ≡ Some row → quota ≤ MAX_QUOTA
+  pub quota_ruled : (quota : ℕ) (row : UserRow) → user_row t.users row.id ≡ Some row → quota ≤ MAX_QUOTA
       → made ≡ record t { meta = made.meta; users = put user_key (record row { quota = quota }) t.users } → AreRuled made
-  quota_ruled name quota row named modest is =
+  quota_ruled quota row there modest is =
       let new : UserRow = record row { quota = quota } in
-      let there = row_there t now h.sound name row named in
       let users : made.users ≡ put user_key new t.users = ap (λ (u : Tables). u.users) is in
       let stays : UsersStay = users_put new users in
       let kept : GroupsStay = groups_as_were (ap (λ (u : Tables). u.groups) is) in
@@ -384,7 +376,7 @@ module _ (t made : Tables) (now : ℕ) (h : AreRuled t) (sound : AreSound made) 
       let there = named_there t.users name user named in
       ruled_by t made h sound up items stays kept (same_users t made h sound up items stays kept (ap (λ (u : Tables). u.users) is))
       (more_tokens t made h sound up items stays kept row (ap (λ (u : Tables). u.tokens) is)
-      (record { given = user_given t made h sound up items stays kept user there; user = stays user there }) (one_passes _ limit.Tokens few))
+      (record { given = still_user t made h sound up items stays kept user there; user = stays user there }) (one_passes _ limit.Tokens few))
       (same_groups t made h sound up items stays kept (ap (λ (u : Tables). u.groups) is))
       (same_members t made h sound up items stays kept (ap (λ (u : Tables). u.members) is)) (ap (λ (u : Tables). u.shares) is)
       (same_mounts t made h sound up items stays kept (ap (λ (u : Tables). u.mounts) is))
@@ -408,7 +400,7 @@ module _ (t made : Tables) (now : ℕ) (h : AreRuled t) (sound : AreSound made) 
             (all_put member_key (IsMemberRuled made) row t.members
             (record {
               given_group = group_given row.group any_group;
-              given_user = user_given t made h sound up items stays kept row.user there.user;
+              given_user = still_user t made h sound up items stays kept row.user there.user;
               group = kept row.group any_group;
               user = stays row.user there.user;
             })
@@ -425,7 +417,7 @@ module _ (t made : Tables) (now : ℕ) (h : AreRuled t) (sound : AreSound made) 
       (λ k d within. elim (mounts.each k d within) [
         | inl among ↦ All-contains (IsMountRuled made) t.mounts (get_or made.mounts k d) (old_mounts t made h sound up items stays kept) among
         | inr of ↦ record {
-          user = subst (IsGiven made.meta.next_user) (sym of.user) (user_given t made h sound up items stays kept row.user there.user);
+          user = subst (IsGiven made.meta.next_user) (sym of.user) (still_user t made h sound up items stays kept row.user there.user);
           node = subst (IsGiven made.meta.next_node) (sym of.node)
               (still_given t.meta.next_node made.meta.next_node of.share.node up.nodes
               (given t.meta.next_node of.share.node
@@ -479,7 +471,7 @@ module _ (t made : Tables) (now : ℕ) (h : AreRuled t) (sound : AreSound made) 
   provided_ruled _ modest few (makes_group name free is) = group_ruled name free few is
   provided_ruled _ modest few (joins user group row named none is mounts all) = joins_ruled user group row named none few is mounts
   provided_ruled _ modest few (leaves user group row named there is) = leaves_ruled row is
-  provided_ruled _ modest few (has_quota user quota row named is) = quota_ruled user quota row named modest is
+  provided_ruled _ modest few (has_quota user quota row named is) = quota_ruled quota row (row_there t now h.sound user row named) modest is
   provided_ruled _ modest few (has_token user token id named free is) = token_ruled token user id named few is
 
 -- of what is asked, no item is another, nor is a node that was there
