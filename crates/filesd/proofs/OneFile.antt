@@ -127,6 +127,7 @@ response_input manner response.Done a b result says = writes_input a b (says_onl
 response_input manner (response.Listing lines) a b result says = writes_input a b (says_only a b (listing_reply manner.close lines) result says)
 response_input manner (response.Share line) a b result says = writes_input a b (says_only a b (share_reply manner.close line) result says)
 response_input manner (response.Shares lines) a b result says = writes_input a b (says_only a b (shares_reply manner.close lines) result says)
+response_input manner (response.Items lines) a b result says = writes_input a b (says_only a b (items_reply manner.close lines) result says)
 response_input manner response.Plain a b result says = writes_input a b (says_only a b (plain_reply manner.close) result says)
 
 responds_input : {C : Type 0} (last : Bool) (way : Way) (v : Response) (a b : Scene C) (result : Result (Option Ended) Ended)

@@ -147,6 +147,7 @@ writes_said manner response.Done a b result writes = inl tt
 writes_said manner (response.Listing lines) a b result says = inr (says_other a b _ result (listing_mark manner.close lines) says)
 writes_said manner (response.Share line) a b result says = inr (says_other a b _ result (share_mark manner.close line) says)
 writes_said manner (response.Shares lines) a b result says = inr (says_other a b _ result (shares_mark manner.close lines) says)
+writes_said manner (response.Items lines) a b result says = inr (says_other a b _ result (items_mark manner.close lines) says)
 writes_said manner response.Plain a b result says = inr (says_other a b _ result (plain_mark manner.close) says)
 writes_said manner (response.Denied refusal) a b result says = inr (says_other a b _ result (refusal_mark manner refusal) says)
 writes_said manner (response.Lost why) a b result says = inr (says_other a b _ result (refusal_mark manner (denial_of_piece why)) says)

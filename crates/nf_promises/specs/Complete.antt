@@ -86,6 +86,7 @@ Says head close (Ok reply.Done) a b = Appends a.output b.output (done_reply clos
 Says head close (Ok (reply.Listing lines)) a b = Appends a.output b.output (listing_reply close lines)
 Says head close (Ok (reply.Share line)) a b = Appends a.output b.output (share_reply close line)
 Says head close (Ok (reply.Shares lines)) a b = Appends a.output b.output (shares_reply close lines)
+Says head close (Ok (reply.Items lines)) a b = Appends a.output b.output (items_reply close lines)
 Says head close (Ok reply.Plain) a b = Appends a.output b.output (plain_reply close)
 Says head close (Ok (reply.Granted (Serve content))) a b = SaysFile close content a b
 Says head close (Ok (reply.Granted (Store by key size))) a b = SaysStored head close size a b
