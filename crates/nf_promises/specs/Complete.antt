@@ -7,7 +7,7 @@ use Rattle.nf_base.specs.declared.limits.TheConstants.{MAX_ENTRIES}
 use Rattle.nf_base.specs.Content.{size_of}
 use Rattle.nf_base.specs.declared.content.Piece.{Piece}
 use Rattle.nf_dav.specs.Asked.{request_of}
-use Rattle.nf_dav.specs.Reply.{done_reply, file_head, listing_reply, made_reply, plain_reply, refusal_reply, share_reply, shares_reply}
+use Rattle.nf_dav.specs.Reply.{done_reply, file_head, items_reply, listing_reply, made_reply, plain_reply, refusal_reply, share_reply, shares_reply}
 use Rattle.nf_dav.specs.declared.replies.Manner.{Manner}
 use Rattle.nf_http.specs.Bodies.{TakesBody}
 use Rattle.nf_http.specs.Head.{Head, closes_session}
