@@ -38,8 +38,8 @@ plain_only last way (response.Listing lines) a b (Err by) plain responds = says_
 plain_only last way (response.Share line) a b (Ok end) plain responds = says_only {T = Unit {0}} a b _ (Ok tt) responds.1
 plain_only last way (response.Share line) a b (Err by) plain responds = says_only {T = Unit {0}} a b _ (Err by) responds
 plain_only last way (response.Shares lines) a b (Ok end) plain responds = says_only {T = Unit {0}} a b _ (Ok tt) responds.1
-plain_only last way (response.Items lines) a b (Ok end) plain responds = says_only {T = Unit {0}} a b _ (Ok tt) responds.1
 plain_only last way (response.Shares lines) a b (Err by) plain responds = says_only {T = Unit {0}} a b _ (Err by) responds
+plain_only last way (response.Items lines) a b (Ok end) plain responds = says_only {T = Unit {0}} a b _ (Ok tt) responds.1
 plain_only last way (response.Items lines) a b (Err by) plain responds = says_only {T = Unit {0}} a b _ (Err by) responds
 plain_only last way response.Plain a b (Ok end) plain responds = says_only {T = Unit {0}} a b _ (Ok tt) responds.1
 plain_only last way response.Plain a b (Err by) plain responds = says_only {T = Unit {0}} a b _ (Err by) responds
