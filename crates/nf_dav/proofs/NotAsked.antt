@@ -15,6 +15,7 @@ use Rattle.nf_words.specs.declared.answer.Parameter.TheVariants as parameter
 use Rattle.nf_words.specs.declared.request.Request.{Request}
 use Rattle.nf_words.specs.declared.request.Wanted.{Wanted}
 use Rattle.nf_words.specs.declared.route.Route.{Route}
+use Rattle.nf_words.specs.declared.route.Route.TheVariants as route
 use Rattle.nf_ocs.specs.Asked.{is_ocs_route, ocs_request_of}
 use Rattle.nf_ocs.specs.Read.{and_then}
 use Rattle.nf_ocs.proofs.Asks.{AsksWell, IsFine, fine_request, is_of_ocs}

@@ -239,11 +239,14 @@ abbrev pub trash_refusal : Route → Method → Head → Option Denial
 trash_refusal route m head = option_or (trash_parameter_refusal route m head) (option_map denial.BadName (name_fault (trash_user head)))
 
 -- what is asked about it
+abbrev pub trash_ask : Route → Method → List ℕ → ℕ → TrashAsk
+trash_ask route.Trash method.Delete user item = trash.Empty user
+trash_ask route.TrashItem method.Delete user item = trash.Drop user item
+trash_ask route.TrashItem method.Move user item = trash.Restore user item
+trash_ask route m user item = trash.List user
+
 abbrev pub trash_asked : Route → Method → Head → TrashAsk
-trash_asked route.Trash method.Delete head = trash.Empty (trash_user head)
-trash_asked route.TrashItem method.Delete head = trash.Drop (trash_user head) (unwrap_or (trash_item head) 0)
-trash_asked route.TrashItem method.Move head = trash.Restore (trash_user head) (unwrap_or (trash_item head) 0)
-trash_asked route m head = trash.List (trash_user head)
+trash_asked route m head = trash_ask route m (trash_user head) (unwrap_or (trash_item head) 0)
 
 abbrev pub trash_request : Route → Method → Head → Result Request Denial
 trash_request route m head =

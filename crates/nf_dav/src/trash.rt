@@ -1,13 +1,14 @@
 //! Requests about the trash bin.
 
-ghost use Rattle.std.specs.Prelude.{◌≡◌, None, Some, Ok, IfOk, OnOk, if◌then◌else◌, map, option_and_then, option_copied, slice_get, unwrap_or};
+ghost use Rattle.std.specs.Prelude.{◌≡◌, None, Some, IfOk, codes, false, if◌then◌else◌, is_some, map, option_and_then, option_copied, slice_get, unwrap_or};
+ghost use Rattle.std.specs.Option.{option_map_or, option_or};
 ghost use Rattle.nf_base.specs.Naming.{name_fault};
 ghost use Rattle.nf_ocs.specs.Parameters.{number_in as number_of};
 ghost use Rattle.nf_routes.specs.Targets.{trash_segments as segments_of};
 ghost use Rattle.nf_words.specs.History.{MayWant};
 ghost use Rattle.nf_words.specs.declared.answer.Denial.TheVariants.{BadParameter};
 ghost use Rattle.nf_words.specs.declared.answer.Parameter.TheVariants as parameter;
-ghost use Rattle.nf_dav.specs.Asked.{Gives, IsGiven, Tells, back_refusal, is_back, is_trash_route as is_of_trash, trash_asked, trash_item, trash_parameter_refusal, trash_refusal, trash_request as request_of_trash, trash_user};
+ghost use Rattle.nf_dav.specs.Asked.{Gives, IsGiven, Tells, back_refusal, depth_refusal, field, is_back as is_there, is_trash_route as is_of_trash, item_refusal, trash_ask, trash_item, trash_parameter_refusal, trash_refusal, trash_request as request_of_trash, trash_user};
 
 use crate::Unasked;
 use crate::fields::{has_bad_depth, has_bad_overwrite, has_query, unread};
@@ -39,15 +40,15 @@ pub(crate) fn trash_request(
     ensures may_want { IfOk result MayWant }
 {
     let segments = trash_segments(alloc, message.target())?;
-    let user = first(&segments);
     let item = item(&segments);
-    if let Some(bad) = bad_parameter(alloc, route, method, message, user, item)? {
+    let numbered = item.is_some();
+    if let Some(bad) = bad_parameter(alloc, route, method, message, first(&segments), numbered)? {
         return Err(unread(bad));
     }
-    let user = name(alloc, user)?;
+    let user = name(alloc, first(&segments))?;
     Ok(Request {
         caller: caller(message.field(b"Authorization")),
-        wanted: Wanted::Trash(asked(route, method, user, item)),
+        wanted: Wanted::Trash(asked(route, method, user, item.unwrap_or(NodeId::new(0)))),
     })
 }
 
@@ -71,29 +72,39 @@ fn bad_parameter(
     method: Method,
     message: &Message,
     user: &[u8],
-    item: Option<NodeId>,
+    numbered: bool,
 ) -> Result<Option<Parameter>, AllocError>
     requires user { user.now ≡ trash_user message.now }
-    requires item { item ≡ trash_item message.now }
+    requires numbered { numbered ≡ is_some (trash_item message.now) }
     ensures { IfOk result (λ bad. trash_parameter_refusal route method message.now ≡ option_and_then (λ bad. Some (BadParameter bad)) bad) }
 {
     match (route, method) {
         (Route::Trash, Method::Delete) if has_bad_depth(message) => Ok(Some(Parameter::Depth)),
-        (Route::TrashItem, Method::Delete) if has_bad_depth(message) => Ok(Some(Parameter::Depth)),
-        (Route::TrashItem, Method::Delete) => Ok(bad_item(item)),
+        (Route::TrashItem, Method::Delete) => Ok(bad_drop(message, numbered)),
         (Route::TrashItem, Method::Move) => match bad_back(alloc, message, user)? {
             Some(bad) => Ok(Some(bad)),
-            None => Ok(bad_item(item)),
+            None => Ok(bad_item(numbered)),
         },
         _ => Ok(None),
     }
 }
 
-fn bad_item(item: Option<NodeId>) -> Option<Parameter> {
-    match item {
-        Some(_) => None,
-        None => Some(Parameter::Id),
+// The first of an item to drop.
+fn bad_drop(message: &Message, numbered: bool) -> Option<Parameter>
+    requires { numbered ≡ is_some (trash_item message.now) }
+    ensures { option_or (depth_refusal message.now) (item_refusal message.now) ≡ option_and_then (λ bad. Some (BadParameter bad)) result }
+{
+    if has_bad_depth(message) {
+        Some(Parameter::Depth)
+    } else {
+        bad_item(numbered)
     }
+}
+
+fn bad_item(numbered: bool) -> Option<Parameter>
+    ensures { (if numbered then None else Some (BadParameter parameter.Id)) ≡ option_and_then (λ bad. Some (BadParameter bad)) result }
+{
+    if numbered { None } else { Some(Parameter::Id) }
 }
 
 // The first field of a restoration that can't be read.
@@ -114,7 +125,9 @@ fn bad_back(alloc: Global, message: &Message, user: &[u8]) -> Result<Option<Para
 }
 
 // Whether there is a destination, and the user's items come back there.
-fn has_back(alloc: Global, message: &Message, user: &[u8]) -> Result<bool, AllocError> {
+fn has_back(alloc: Global, message: &Message, user: &[u8]) -> Result<bool, AllocError>
+    ensures { IfOk result (λ has. has ≡ option_map_or (is_there user.now) (field (codes "Destination") message.now) false) }
+{
     match message.field(b"Destination") {
         Some(value) => is_back(alloc, user, value),
         None => Ok(false),
@@ -122,7 +135,7 @@ fn has_back(alloc: Global, message: &Message, user: &[u8]) -> Result<bool, Alloc
 }
 
 fn is_back(alloc: Global, user: &[u8], value: &[u8]) -> Result<bool, AllocError>
-    ensures { IfOk result (λ is. is ≡ is_back user.now value.now) }
+    ensures { IfOk result (λ is. is ≡ is_there user.now value.now) }
 {
     if has_query(value) {
         Ok(false)
@@ -132,8 +145,9 @@ fn is_back(alloc: Global, user: &[u8], value: &[u8]) -> Result<bool, AllocError>
 }
 
 // What is asked. An item that has no number is refused before.
-fn asked(route: Route, method: Method, user: Name, item: Option<NodeId>) -> TrashAsk {
-    let item = item.unwrap_or(NodeId::new(0));
+fn asked(route: Route, method: Method, user: Name, item: NodeId) -> TrashAsk
+    ensures { result ≡ trash_ask route method user item }
+{
     match (route, method) {
         (Route::Trash, Method::Delete) => TrashAsk::Empty(user),
         (Route::TrashItem, Method::Delete) => TrashAsk::Drop { user, item },

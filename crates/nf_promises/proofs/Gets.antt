@@ -88,6 +88,7 @@ serves_nothing : (t : Tables) (now : ℕ) (d : Result Allowed Denial) (content :
     → changes_by t now d ≡ []
 serves_nothing t now (Ok (allowed.Get node other)) content is = refl
 serves_nothing t now (Ok (allowed.Change changes blob report)) content is = absurd (reports_nothing report (Serve content) (cc))
+serves_nothing t now (Ok (allowed.Trash did gone report)) content is = absurd (reports_nothing report (Serve content) (cc))
 serves_nothing t now (Ok (allowed.Move transfer name)) content is = absurd (put_grants_nothing transfer.replaced (Serve content) (cc))
 serves_nothing t now (Ok (allowed.Copy rows replaced)) content is = absurd (put_grants_nothing replaced (Serve content) (cc))
 serves_nothing t now (Ok (allowed.Cross rows replaced node)) content is = absurd (put_grants_nothing replaced (Serve content) (cc))

@@ -32,7 +32,7 @@ use Rattle.nf_words.specs.declared.answer.Goal.TheVariants.{Serve, Store}
 use Rattle.nf_words.specs.declared.answer.LockKey.{LockKey}
 use Rattle.nf_words.specs.declared.answer.LockKey.TheVariants.{Node, Slot}
 use Rattle.nf_words.specs.declared.answer.Reply.{Reply}
-use Rattle.nf_words.specs.declared.answer.Reply.TheVariants.{Made, Done, Closed, Granted, Listing, Share, Shares, Plain}
+use Rattle.nf_words.specs.declared.answer.Reply.TheVariants.{Made, Done, Closed, Granted, Items, Listing, Share, Shares, Plain}
 use Rattle.nf_words.specs.declared.history.Entry.{Entry}
 use Rattle.nf_words.specs.declared.history.Event.{Event}
 use Rattle.nf_words.specs.declared.history.Event.TheVariants.{Begin, End}
@@ -69,6 +69,7 @@ put_only : (d : Result Allowed Denial) (by : By) (key : LockKey) (size : ℕ) �
     → d ≡ Ok (allowed.Put by key size)
 put_only (Ok (allowed.Put who at length)) by key size is = cc
 put_only (Ok (allowed.Change changes blob report)) by key size is = absurd (reports_nothing report (Store by key size) (cc))
+put_only (Ok (allowed.Trash did gone report)) by key size is = absurd (reports_nothing report (Store by key size) (cc))
 put_only (Ok (allowed.Move transfer name)) by key size is = absurd (put_grants_nothing transfer.replaced (Store by key size) (cc))
 put_only (Ok (allowed.Copy rows replaced)) by key size is = absurd (put_grants_nothing replaced (Store by key size) (cc))
 put_only (Ok (allowed.Cross rows replaced node)) by key size is = absurd (put_grants_nothing replaced (Store by key size) (cc))
@@ -83,6 +84,7 @@ IsOfPut Done = ⊥
 IsOfPut (Listing lines) = ⊥
 IsOfPut (Share line) = ⊥
 IsOfPut (Shares lines) = ⊥
+IsOfPut (Items lines) = ⊥
 IsOfPut Plain = ⊥
 
 stored_replies : (by : By) (name : List ℕ) (n : ℕ) (place : Found) → IsOfPut (reply_to (stored by name n (Some place)))
