@@ -21,6 +21,7 @@ use Rattle.nf_words.specs.declared.answer.Deed.{Deed}
 use Rattle.nf_words.specs.declared.answer.Deed.TheVariants as deed
 use Rattle.nf_words.specs.declared.request.Transfer.{Transfer}
 use Rattle.nf_decide.specs.Counts.{FitsRows, only_nodes}
+use Rattle.nf_decide.specs.Gone.{TellsTrash}
 use Rattle.nf_decide.specs.declared.counts.RowCounts.{RowCounts}
 use Rattle.nf_decide.specs.declared.telling.Counted.{Counted}
 use Rattle.nf_decide.specs.declared.telling.Counted.TheVariants as counted
@@ -232,9 +233,10 @@ BearsDeed t (deed.Discard item) = IsSome (node_row t.nodes item.node)
 BearsDeed t (deed.Restore node folder name) = BearsRestore t node folder name
 BearsDeed t (deed.Requote row) = IsRequoted t.users row
 
--- a deed can be borne; what goes for good may be anything
+-- a deed can be borne, and what goes for good is told of the tables before
 pub record BearsTrash (t : Tables) (did : Deed) (gone : List ℕ) : Type 0 where
   pub borne : BearsDeed t did
+  pub tells : TellsTrash t did gone
 
 -- nothing is done, and nothing goes
 abbrev pub does_nothing : Deed → List ℕ → Bool
