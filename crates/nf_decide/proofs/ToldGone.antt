@@ -1,5 +1,5 @@
 -- What goes for good: each is told of the tables before all of it, since nothing of one is under another.
-use Rattle.std.proofs.Common.{◌≡◌, ◌≢◌, ◌⊎◌, inl, inr, ℕ, suc, ◌≤◌, ◌&&◌, max, Bool, true, false, not, List, [], ◌∷◌, ◌++◌, None, Some, filter, get_or, if◌then◌else◌, map, refl, sym, ap, subst, ◌∙◌, arith}
+use Rattle.std.proofs.Common.{◌≡◌, ◌≢◌, ◌⊎◌, inl, inr, ℕ, suc, ◌&&◌, max, Bool, false, not, List, [], ◌∷◌, ◌++◌, None, Some, get_or, if◌then◌else◌, map, refl, sym, ap, subst, ◌∙◌, arith}
 use Rattle.std.specs.Prelude.{is_some}
 use Rattle.std.specs.List.{All, AllPairs, Contains, flat_map}
 use Rattle.std.proofs.lemmas.Bool.{cases_Bool, false_from_ne_true, ne_eqb, not-false}
@@ -25,7 +25,7 @@ use Rattle.nf_laws.proofs.Rows.{stamp}
 use Rattle.nf_laws.proofs.Sources.{filter_left, walk_by}
 use Rattle.nf_laws.proofs.Trashed.{deed_sound_at, item_home, item_top, purged_sound}
 use Rattle.nf_laws.proofs.Upwards.{climb_short}
-use Rattle.nf_words.proofs.Known.{IsItem, KnownDeed, KnownGone, KnownTrash, node_of_deed}
+use Rattle.nf_words.proofs.Known.{IsItem, KnownDeed, KnownGone, KnownTrash}
 use Rattle.nf_words.specs.Prelude.{AreSound, closed_under, deed_done, dropped_under, gone_under, is_closing, LeadsToRoot, purged, told_item, told_purge, told_purges}
 use Rattle.nf_words.specs.declared.answer.Deed.{Deed}
 use Rattle.nf_words.specs.declared.answer.Deed.TheVariants as deed
@@ -147,9 +147,9 @@ deed_same t now (deed.Discard item) top sound known is j folder up =
     ap (λ (rows : List NodeRow). map (λ row. row.id) (by_name rows))
     (filter_with (is_in folder) t.nodes item.node trashed (λ row there. (
       false_from_ne_true (is_in folder row) (λ in_it.
-      let above = parent_at t.nodes item.node folder row there (inside_of folder row.place in_it) in
-      let tops = item_top t top sound is in
-      never_trash (suc j) t.nodes item.node top tops.0 known.present (rw above up) tops.1 tops.2),
+          let above = parent_at t.nodes item.node folder row there (inside_of folder row.place in_it) in
+          let tops = item_top t top sound is in
+          never_trash (suc j) t.nodes item.node top tops.0 known.present (rw above up) tops.1 tops.2),
       refl,
     )))
 deed_same t now (deed.Restore node home name) top sound known is j folder up =
@@ -157,9 +157,9 @@ deed_same t now (deed.Restore node home name) top sound known is j folder up =
     (filter_with (is_in folder) t.nodes node (relinked home name) (λ row there. (
       ap (λ (row : NodeRow). is_in folder row) (same_Some row own.0 (sym there ∙ own.1)) ∙ ap (is_place_in folder) own.2,
       ne_eqb home folder (λ same.
-      let tops = item_top t top sound is in
-      let present = subst (λ (n : ℕ). LeadsToRoot t.nodes n) (sym known.home ∙ same) (item_home t node known.item sound known.there).present in
-      never_trash j t.nodes folder top tops.0 present up tops.1 tops.2),
+          let tops = item_top t top sound is in
+          let present = subst (λ (n : ℕ). LeadsToRoot t.nodes n) (sym known.home ∙ same) (item_home t node known.item sound known.there).present in
+          never_trash j t.nodes folder top tops.0 present up tops.1 tops.2),
     )))
   where
     own : (row : NodeRow) × (node_row t.nodes node ≡ Some row) × (row.place ≡ Trash)
