@@ -14,3 +14,5 @@ pub mod Askers
 pub mod Faults
 pub mod Letters
 pub mod Sizes
+pub mod ToldGone
+pub mod Trashing

@@ -1,16 +1,16 @@
 //! The rows of the site in memory.
 
-ghost use Rattle.std.specs.Prelude.{◌≡◌, ◌⊎◌, ℕ, ◌+◌, ◌<◌, ◌≤◌, ◌∷◌, ◌++◌, [], false, is_some, All, AllPairs, length, map, max, slice_get, IfOk, OnOk, None, Some};
+ghost use Rattle.std.specs.Prelude.{◌≡◌, ◌⊎◌, ℕ, ◌+◌, ◌<◌, ◌≤◌, ◌∷◌, ◌++◌, [], false, is_some, All, AllPairs, length, map, max, slice_get, IfOk, IsSome, OnOk, None, Some};
 ghost use Rattle.nf_base.specs.declared.changes.Change.TheVariants.{Put};
 ghost use Rattle.nf_base.specs.declared.limits.TheConstants.{MAX_NODES};
 ghost use Rattle.nf_base.specs.declared.rows.NodeRow.{NodeRow};
 ghost use Rattle.nf_base.specs.declared.rows.Row.TheVariants as kinds;
 ghost use Rattle.nf_base.specs.declared.rows.MetaRow.{MetaRow};
-ghost use Rattle.nf_defs.specs.Prelude.{drop_row, made, node_key, node_row, put, put_all, rows_of};
-ghost use Rattle.nf_words.specs.Prelude.{above, blob_after, changed, cleared, counted, ended_for, goal_of, joined, last_number, removed};
+ghost use Rattle.nf_defs.specs.Prelude.{drop_row, dropped, item_key, made, node_key, node_row, put, put_all, rows_of};
+ghost use Rattle.nf_words.specs.Prelude.{above, blob_after, changed, cleared, counted, deed_done, discarded, ended_for, goal_of, joined, last_number, purged_all, removed, restored};
 ghost use Rattle.nf_words.specs.declared.answer.Report.TheVariants.{Done};
 ghost use Rattle.nf_words.specs.declared.answer.Allowed.TheVariants as allowed;
-ghost use Rattle.nf_decide.specs.Current.{AreBorne, AreGiven, BearsAct, BearsChanges, BearsCopies, BearsMove, IsBorne, IsCounted, IsDroppedKey, IsNew, IsRefilled, LeadUpBehind, added_by, added_of};
+ghost use Rattle.nf_decide.specs.Current.{AreBorne, AreGiven, BearsAct, BearsChanges, BearsCopies, BearsDeed, BearsMove, BearsRestore, IsBorne, IsCounted, IsDroppedKey, IsNew, IsRefilled, LeadUpBehind, added_by, added_deed, added_of, does_nothing};
 ghost use Rattle.nf_rules.specs.Ruled.{AreRuled};
 ghost use Rattle.nf_decide.specs.Counts.{FitsNodes, FitsRows, IsNoSmaller, only_nodes};
 
@@ -27,7 +27,7 @@ use nf_people::{People, PeopleRows};
 use nf_shares::Shares;
 use nf_table::{ItemKey, Table};
 use nf_tree::Tree;
-use nf_words::{Allowed, Goal, NodeRows, Ticket, Transfer};
+use nf_words::{Allowed, Deed, Goal, NodeRows, Ticket, Transfer};
 use std::alloc::{AllocError, Global};
 use std::marker::Model;
 
@@ -148,8 +148,8 @@ impl Tables {
                 self.change(moment, changes, blob);
                 None
             }
-            Allowed::Delete(node) => {
-                self.remove(moment, node);
+            Allowed::Trash { deed, gone, .. } => {
+                self.trash(moment, deed, gone.ids());
                 None
             }
             Allowed::Move { transfer, name } => {
@@ -244,12 +244,69 @@ impl Tables {
         }
     }
 
-    /// Takes a node out for good, with all under it.
-    fn remove(&mut self, moment: Moment, node: NodeId)
-        ensures { self.new.tables ≡ changed self.old.tables moment (allowed.Delete node) }
+    /// Does a deed, and then takes out what goes for good.
+    fn trash(&mut self, moment: Moment, deed: Deed, gone: &[NodeId])
+        requires room { FitsRows self.old.tables self.old.room (added_deed deed) }
+        requires bears { BearsDeed self.old.tables deed }
+        ensures { self.new.tables ≡ changed self.old.tables moment (allowed.Trash deed gone.now Done) }
     {
-        self.purge(node);
+        if does_nothing(&deed, gone) {
+            return;
+        }
+        self.perform(deed);
+        self.purge_all(gone);
         self.stamp(moment);
+    }
+
+    fn perform(&mut self, deed: Deed)
+        requires room { FitsRows self.old.tables self.old.room (added_deed deed) }
+        requires bears { BearsDeed self.old.tables deed }
+        ensures { self.new.tables ≡ deed_done self.old.tables deed }
+    {
+        match deed {
+            Deed::Nothing => {}
+            Deed::Discard(item) => self.discard(item),
+            Deed::Restore { node, folder, name } => self.restore(node, folder, name),
+            Deed::Requote(row) => put_user(&mut self.people, row),
+        }
+    }
+
+    /// Puts a node in the trash with all under it, as that item, and ends the shares there.
+    fn discard(&mut self, item: ItemRow)
+        requires room { length self.old.tables.items < self.old.room.items }
+        requires there { IsSome (node_row self.old.tables.nodes item.node) }
+        ensures { self.new.tables ≡ discarded self.old.tables item }
+    {
+        self.shares.end_under(&self.tree, item.node);
+        self.tree.detach(item.node);
+        self.items.put(item);
+    }
+
+    /// Puts the node of an item into that folder, under that name.
+    fn restore(&mut self, node: NodeId, folder: NodeId, name: Name)
+        requires { BearsRestore self.old.tables node folder name }
+        ensures { self.new.tables ≡ restored self.old.tables node folder name }
+    {
+        self.tree.attach(node, folder, name);
+        self.drop_item(node);
+    }
+
+    /// Takes nodes out for good, one after the other, each with all under it and with its item.
+    fn purge_all(&mut self, nodes: &[NodeId])
+        ensures { self.new.tables ≡ purged_all self.old.tables nodes.now }
+    {
+        for node in nodes {
+            self.purge(*node);
+            self.drop_item(*node);
+        }
+    }
+
+    /// Drops the item of a node, if there is one.
+    fn drop_item(&mut self, node: NodeId)
+        ensures tables { self.new.tables ≡ record self.old.tables { items = dropped item_key (node ∷ []) self.old.tables.items } }
+        ensures room { self.new.room ≡ self.old.room }
+    {
+        let _ = self.items.drop(&ItemKey { node });
     }
 
     /// Puts a node into another folder, under that name. What is to be replaced there goes.
@@ -336,6 +393,16 @@ impl Tables {
         push_shares(&mut list, self.shares.rows())?;
         push_mounted(&mut list, self.mounts.rows(), self.items.rows())?;
         Ok(list)
+    }
+}
+
+/// Whether nothing is done, and nothing goes.
+fn does_nothing(deed: &Deed, gone: &[NodeId]) -> bool
+    ensures { result ≡ does_nothing deed.now gone.now }
+{
+    match deed {
+        Deed::Nothing => gone.is_empty(),
+        Deed::Discard(_) | Deed::Restore { .. } | Deed::Requote(_) => false,
     }
 }
 
