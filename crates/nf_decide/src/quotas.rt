@@ -89,7 +89,7 @@ fn is_over(charge: u64, quota: u64, old: u64, new: u64) -> bool
 }
 
 /// What the files of a user may take up, in bytes.
-fn quota_of(view: &View<'_>, user: UserId) -> u64
+pub(crate) fn quota_of(view: &View<'_>, user: UserId) -> u64
     ensures { result ≡ quota_of view.now.tables user }
 {
     match view.people().row(user) {
