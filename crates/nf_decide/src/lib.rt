@@ -8,6 +8,8 @@ mod copying;
 mod counts;
 mod deciding;
 mod ending;
+mod homes;
+mod items;
 mod limits;
 mod listing;
 mod locking;
