@@ -14,3 +14,4 @@ pub mod Askers
 pub mod Faults
 pub mod Letters
 pub mod Sizes
+pub mod Homes

@@ -11,12 +11,13 @@ ghost use Rattle.nf_decide.specs.Deciding.{Follows, IsNamed, IsThere, asking_of,
 
 use crate::acting::{copied, deleted, made_folder, moved, stored};
 use crate::asked::{is_forbidden, is_kept, is_transfer, node_at};
-use crate::limits::{carry_limit, copy_limit, limit_at, offer_limit, pieces_of};
+use crate::items::item_row;
+use crate::limits::{carry_limit, copy_limit, limit_at, offer_limit, pieces_of, restore_limit};
 use crate::locking::locked;
 use crate::mounting::mount_itself;
 use crate::nodes::is_folder;
 use crate::people::{people_done, people_limit};
-use crate::quotas::{carry_excess, copy_excess, excess_at};
+use crate::quotas::{carry_excess, copy_excess, excess_at, restore_excess};
 use crate::transferring::{transfer_of, unfit};
 use crate::view::View;
 use nf_base::{Moment, NodeId, ShareRow};
@@ -148,7 +149,8 @@ impl<'a> Call<'a> {
         match &self.request.wanted {
             Wanted::Share(_) => self.offer_room(alloc, offer),
             Wanted::People(ask) => people_limit(alloc, &self.view, ask),
-            Wanted::Get(_)
+            Wanted::Trash(_)
+            | Wanted::Get(_)
             | Wanted::Put { .. }
             | Wanted::Mkcol(_)
             | Wanted::Delete(_)
@@ -170,6 +172,7 @@ impl<'a> Call<'a> {
     }
 
     fn locked(&self, alloc: Global, places: &Places) -> Result<Option<Denial>, AllocError>
+        requires { AreSound self.now.state.tables }
         ensures { IfOk result (λ refusal. refusal ≡ locked_at self.entry.now places.now) }
     {
         let asked = self.request.wanted.asked();
@@ -280,8 +283,12 @@ impl<'a> Call<'a> {
         let is_taken = match self.request.wanted.asked().makes {
             Making::File { .. } => is_folder_at(self.tree(), places.target),
             Making::Folder => node_at(places.target).is_some(),
-            Making::Nothing | Making::Moved | Making::Copied | Making::Shared | Making::Told =>
-                false,
+            Making::Nothing
+            | Making::Moved
+            | Making::Copied
+            | Making::Shared
+            | Making::Told
+            | Making::Restored { .. } => false,
         };
         if is_taken {
             Err(Denial::Exists(Route::Files))
@@ -333,6 +340,10 @@ impl<'a> Call<'a> {
                 Some(transfer) => copy_limit(alloc, view, &transfer),
                 None => Ok(None),
             },
+            Making::Restored { item } => match item_row(view, item) {
+                Some(item) => restore_limit(alloc, view, item),
+                None => Ok(None),
+            },
         }
     }
 
@@ -347,6 +358,7 @@ impl<'a> Call<'a> {
             Making::File { length } => excess_there(view, places.target, length),
             Making::Moved => carry_excess(view, &transfer_of(view.tree(), places)?),
             Making::Copied => copy_excess(view, &transfer_of(view.tree(), places)?),
+            Making::Restored { item } => restore_excess(view, item_row(view, item)?),
         }
     }
 

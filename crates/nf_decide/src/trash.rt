@@ -10,13 +10,12 @@ ghost use Rattle.nf_decide.specs.Listed.{line_at};
 
 use crate::deciding::Call;
 use crate::discarding::{emptied, item_dropped, item_restored, trash_of};
-use crate::items::own_item;
+use crate::items::{item_row, own_item};
 use crate::shared::nothing_done;
 use crate::view::View;
 use nf_base::{Changes, ItemRow, Moment, NodeId, UserId};
 use nf_reach::Asker;
 use nf_retention::newest_first;
-use nf_table::ItemKey;
 use nf_words::{Allowed, ItemLine, Items, Report, TrashAsk};
 use std::alloc::{AllocError, Global};
 
@@ -119,7 +118,7 @@ fn push_line(
     requires { AreSound view.now.tables }
     ensures { OnOk result (lines.new.items ≡ lines.old.items ++ filter_map (line_at view.now.tables) (node ∷ [])) }
 {
-    let Some(item) = view.items().find(&ItemKey { node }) else {
+    let Some(item) = item_row(view, node) else {
         return Ok(());
     };
     if let Some(line) = item_line(view, item)? {
