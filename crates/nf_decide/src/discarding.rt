@@ -243,12 +243,8 @@ pub(crate) fn item_restored(
 }
 
 /// All items of a user's go for good.
-pub(crate) fn emptied(
-    alloc: Global,
-    view: &View<'_>,
-    user: UserId,
-) -> Result<Allowed, AllocError>
-    ensures { IfOk result (λ allowed. allowed ≡ allowed.Trash deed.Nothing (map (λ item. item.node) (items_of view.now.tables user)) report.Done) }
+pub(crate) fn emptied(alloc: Global, view: &View<'_>, user: UserId) -> Result<Allowed, AllocError>
+    ensures { IfOk result (λ act. act ≡ allowed.Trash deed.Nothing (map (λ item. item.node) (items_of view.now.tables user)) report.Done) }
 {
     let gone = nodes_of(alloc, view, user)?;
     Ok(done(Deed::Nothing, gone, Report::Done))

@@ -1,6 +1,6 @@
 //! What is asked about the trash of a user.
 
-ghost use Rattle.std.specs.Prelude.{◌≡◌, ◌∷◌, ◌++◌, filter_map, option_copied, IfOk, OnOk};
+ghost use Rattle.std.specs.Prelude.{◌≡◌, [], ◌∷◌, ◌++◌, None, filter_map, option_copied, IfOk, OnOk};
 ghost use Rattle.std.specs.Option.{option_map_or};
 ghost use Rattle.nf_words.specs.Prelude.{AreSound, item_dropped, item_line, item_lines, item_restored, nothing_done, trash_done};
 ghost use Rattle.nf_words.specs.declared.answer.Allowed.TheVariants as allowed;
@@ -15,7 +15,7 @@ use crate::shared::nothing_done;
 use crate::view::View;
 use nf_base::{Changes, ItemRow, Moment, NodeId, UserId};
 use nf_reach::Asker;
-use nf_retention::newest_first;
+use nf_retention::{Trashed, newest_first};
 use nf_words::{Allowed, ItemLine, Items, Report, TrashAsk};
 use std::alloc::{AllocError, Global};
 
@@ -102,19 +102,23 @@ fn item_lines(alloc: Global, view: &View<'_>, user: UserId) -> Result<Vec<ItemLi
     ensures { IfOk result (λ lines. lines.items ≡ item_lines view.now.tables user) }
 {
     let sorted = newest_first(trash_of(alloc, view, user)?)?;
+    lines_of(alloc, view, &sorted)
+}
+
+/// The lines of the items of some nodes.
+fn lines_of(alloc: Global, view: &View<'_>, sorted: &[Trashed]) -> Result<Vec<ItemLine>, AllocError>
+    requires { AreSound view.now.tables }
+    ensures { IfOk result (λ lines. lines.items ≡ filter_map (λ one. line_at view.now.tables one.node) sorted.now) }
+{
     let mut lines = Vec::new(alloc);
-    for one in &sorted {
+    for one in sorted {
         push_line(view, one.node, &mut lines)?;
     }
     Ok(lines)
 }
 
 /// Puts the line of the item of a node at the end, where both are there.
-fn push_line(
-    view: &View<'_>,
-    node: NodeId,
-    lines: &mut Vec<ItemLine>,
-) -> Result<(), AllocError>
+fn push_line(view: &View<'_>, node: NodeId, lines: &mut Vec<ItemLine>) -> Result<(), AllocError>
     requires { AreSound view.now.tables }
     ensures { OnOk result (lines.new.items ≡ lines.old.items ++ filter_map (line_at view.now.tables) (node ∷ [])) }
 {
