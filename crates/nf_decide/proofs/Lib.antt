@@ -15,3 +15,4 @@ pub mod Faults
 pub mod Letters
 pub mod Sizes
 pub mod Homes
+pub mod ItemLines
