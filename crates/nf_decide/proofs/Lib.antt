@@ -14,4 +14,4 @@ pub mod Askers
 pub mod Faults
 pub mod Letters
 pub mod Sizes
-pub mod Homes
+pub mod Returning
