@@ -14,5 +14,5 @@ pub mod Askers
 pub mod Faults
 pub mod Letters
 pub mod Sizes
-pub mod Homes
+pub mod Returning
 pub mod ItemLines

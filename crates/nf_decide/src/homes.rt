@@ -62,6 +62,7 @@ fn free_in(
 }
 
 /// Whether no child of a folder of a user's has that name, and where it is the root no mount either.
+#[tactic(auto, using(nf_access::proofs::Naming::taken_child))]
 fn is_free_in(view: &View<'_>, user: UserId, folder: NodeId, name: &Name) -> bool
     ensures { result ≡ not (is_taken name.now (names_taken_in view.now.tables user folder)) }
 {

@@ -1,6 +1,6 @@
 //! What a request touches, and whether another seat holds it.
 
-ghost use Rattle.std.specs.Prelude.{◌≡◌, [], ◌∷◌, ◌++◌, IfOk, option_copied, option_map};
+ghost use Rattle.std.specs.Prelude.{◌≡◌, [], ◌∷◌, ◌++◌, None, IfOk, option_copied, option_map};
 ghost use Rattle.std.specs.Option.{option_map_or};
 ghost use Rattle.nf_words.specs.Prelude.{key_in_way, last_name, source_touches, target_name, target_touches, touches, transfer_touches};
 ghost use Rattle.nf_words.specs.Holds.{touch_key};
@@ -23,6 +23,7 @@ use nf_words::{Asked, Denial, LockKey, Making, Mode, Places, Spot, Transfer};
 use std::alloc::{AllocError, Global};
 
 /// `locked`: another seat holds what would be touched. It copies the key.
+#[tactic(auto, using(crate::proofs::Returning::back_touched))]
 pub(crate) fn locked(
     alloc: Global,
     view: &View<'_>,
@@ -33,9 +34,17 @@ pub(crate) fn locked(
     requires { AreSound view.now.tables }
     ensures { IfOk result (λ refusal. refusal ≡ option_map Locked (key_in_way view.now.tables.nodes seat (touches view.now.tables asked.now places.now) view.now.tickets)) }
 {
-    let back = slot_back(alloc, view, &asked.makes)?;
-    let touches = touches(alloc, view, asked, places, &back)?;
-    refusal(key_in_way(view.tree(), view.tickets(), seat, &touches))
+    let (tree, tickets) = (view.tree(), view.tickets());
+    match slot_back(alloc, view, &asked.makes)? {
+        Some(key) => {
+            let touches = key_touches(alloc, &key)?;
+            refusal(key_in_way(tree, tickets, seat, &touches))
+        }
+        None => {
+            let touches = touches(alloc, view, asked, places)?;
+            refusal(key_in_way(tree, tickets, seat, &touches))
+        }
+    }
 }
 
 /// The refusal by the key that is in the way.
@@ -88,15 +97,15 @@ fn slot_of(
     }))
 }
 
-/// What a request touches, by the name that what comes back takes.
+/// What a request touches, where nothing comes back.
+#[tactic(auto, using(crate::proofs::Returning::none_touched))]
 fn touches<'a>(
     alloc: Global,
     view: &View<'_>,
     asked: &Asked<'a>,
     places: &Places,
-    back: &'a Option<LockKey>,
 ) -> Result<Vec<Touch<'a>>, AllocError>
-    requires { back.now ≡ slot_back view.now.tables asked.now.makes }
+    requires { slot_back view.now.tables asked.now.makes ≡ None }
     ensures { IfOk result (λ list. list.items ≡ touches view.now.tables asked.now places.now) }
 {
     let tree = view.tree();
@@ -113,26 +122,21 @@ fn touches<'a>(
             let transfer = transfer_of(tree, places);
             transfer_touches(alloc, Mode::Shared, target_name(asked), transfer)
         }
-        Making::Shared | Making::Told => Ok(Vec::new(alloc)),
-        Making::Restored { .. } => key_touches(alloc, back),
+        Making::Shared | Making::Told | Making::Restored { .. } => Ok(Vec::new(alloc)),
     }
 }
 
 /// A key that is taken.
-fn key_touches<'a>(
-    alloc: Global,
-    key: &'a Option<LockKey>,
-) -> Result<Vec<Touch<'a>>, AllocError>
-    ensures { IfOk result (λ list. list.items ≡ option_map_or (λ key. touch_key key Exclusive ∷ []) key.now []) }
+fn key_touches<'a>(alloc: Global, key: &'a LockKey) -> Result<Vec<Touch<'a>>, AllocError>
+    ensures { IfOk result (λ list. list.items ≡ touch_key key.now Exclusive ∷ []) }
 {
-    match key {
-        Some(LockKey::Node(node)) => only(alloc, Touch::node(*node, Mode::Exclusive)),
-        Some(LockKey::Slot { folder, name }) => only(
-            alloc,
-            Touch::slot(*folder, name.as_bytes(), Mode::Exclusive),
-        ),
-        None => Ok(Vec::new(alloc)),
-    }
+    let touch = match key {
+        LockKey::Node(node) => Touch::node(*node, Mode::Exclusive),
+        LockKey::Slot { folder, name } => {
+            Touch::slot(*folder, name.as_bytes(), Mode::Exclusive)
+        }
+    };
+    only(alloc, touch)
 }
 
 /// The name under which something is put, by its bytes; none has the bytes of no name.

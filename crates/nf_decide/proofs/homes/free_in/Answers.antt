@@ -3,7 +3,7 @@ use Rattle.nf_base.specs.FreeNames.{candidate, is_taken}
 use Rattle.nf_base.proofs.FreeNames.{AreTakenBelow-more, AreTakenBelow-two}
 use Rattle.nf_mounts.proofs.Naming.{first_free}
 use Rattle.nf_words.specs.Prelude.{names_taken_in}
-use Rattle.nf_decide.proofs.Homes.{taken_few}
+use Rattle.nf_decide.proofs.Returning.{taken_few}
 use Rattle.nf_decide.proofs.homes.free_in.Goals as goal
 
 pub loop-free-init : goal.loop-free-init
