@@ -95,6 +95,13 @@ impl<'a> View<'a> {
         self.mounts
     }
 
+    /// The items of the trash, by rising node.
+    pub(crate) fn items(&self) -> &Table<ItemRow>
+        ensures { result.now.rows ≡ self.now.tables.items }
+    {
+        self.items
+    }
+
     pub(crate) fn tickets(&self) -> &[Ticket]
         ensures { result.now ≡ self.now.tickets }
     {
