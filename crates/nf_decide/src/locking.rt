@@ -23,7 +23,6 @@ use nf_words::{Asked, Denial, LockKey, Making, Mode, Places, Spot, Transfer};
 use std::alloc::{AllocError, Global};
 
 /// `locked`: another seat holds what would be touched. It copies the key.
-#[tactic(auto, using(crate::proofs::Returning::back_touched))]
 pub(crate) fn locked(
     alloc: Global,
     view: &View<'_>,
@@ -34,17 +33,28 @@ pub(crate) fn locked(
     requires { AreSound view.now.tables }
     ensures { IfOk result (λ refusal. refusal ≡ option_map Locked (key_in_way view.now.tables.nodes seat (touches view.now.tables asked.now places.now) view.now.tickets)) }
 {
-    let (tree, tickets) = (view.tree(), view.tickets());
-    match slot_back(alloc, view, &asked.makes)? {
+    let back = slot_back(alloc, view, &asked.makes)?;
+    match back {
         Some(key) => {
-            let touches = key_touches(alloc, &key)?;
-            refusal(key_in_way(tree, tickets, seat, &touches))
+            let taken = key_touches(alloc, &key)?;
+            in_way(view, seat, &taken)
         }
         None => {
             let touches = touches(alloc, view, asked, places)?;
-            refusal(key_in_way(tree, tickets, seat, &touches))
+            in_way(view, seat, &touches)
         }
     }
+}
+
+/// The refusal, where another seat holds some of that.
+fn in_way(
+    view: &View<'_>,
+    seat: u64,
+    touches: &[Touch<'_>],
+) -> Result<Option<Denial>, AllocError>
+    ensures { IfOk result (λ refusal. refusal ≡ option_map Locked (key_in_way view.now.tables.nodes seat touches.now view.now.tickets)) }
+{
+    refusal(key_in_way(view.tree(), view.tickets(), seat, touches))
 }
 
 /// The refusal by the key that is in the way.
@@ -98,7 +108,6 @@ fn slot_of(
 }
 
 /// What a request touches, where nothing comes back.
-#[tactic(auto, using(crate::proofs::Returning::none_touched))]
 fn touches<'a>(
     alloc: Global,
     view: &View<'_>,
@@ -122,7 +131,8 @@ fn touches<'a>(
             let transfer = transfer_of(tree, places);
             transfer_touches(alloc, Mode::Shared, target_name(asked), transfer)
         }
-        Making::Shared | Making::Told | Making::Restored { .. } => Ok(Vec::new(alloc)),
+        Making::Restored { .. } => Ok(Vec::new(alloc)),
+        Making::Shared | Making::Told => Ok(Vec::new(alloc)),
     }
 }
 
