@@ -5,7 +5,7 @@ use Rattle.std.specs.Option.{option_map_or}
 use Rattle.std.proofs.Math.Bool.{and-true}
 use Rattle.std.proofs.lemmas.List.Folds.{list_all-append}
 use Rattle.nf_base.specs.declared.rows.UserRow.{UserRow}
-use Rattle.nf_words.specs.Prelude.{asked_by, Call, caller_row, is_caller, named_at, named_in, users_of}
+use Rattle.nf_words.specs.Prelude.{Asked, Call, caller_row, is_caller, named_at, named_in, users_of}
 use Rattle.nf_words.specs.declared.request.Spot.{Spot}
 use Rattle.nf_decide.specs.Asked.{is_called, names_caller}
 
@@ -34,10 +34,9 @@ module _ (test : List ℕ → Bool) where
       ∙ ap (λ (b : Bool). passes_at source && b) (at_passes target))
 
 -- no other user than the caller is named where none is of whom the trash is, and none in a place
-pub names_pass : (call : Call) (row : Option UserRow) → row ≡ caller_row call
-    → list_all (is_caller call) (users_of (asked_by call))
-    ≡ (option_map_or (is_called row) (asked_by call).user true && (names_caller row (asked_by call).source && names_caller row (asked_by call).target))
-names_pass call row same =
-    let asked = asked_by call in
+pub names_pass : (call : Call) (row : Option UserRow) (asked : Asked) → row ≡ caller_row call
+    → list_all (is_caller call) (users_of asked)
+    ≡ (option_map_or (is_called row) asked.user true && (names_caller row asked.source && names_caller row asked.target))
+names_pass call row asked same =
     all_pass (is_caller call) asked.user asked.source asked.target
     ∙ ap (λ (row : Option UserRow). option_map_or (is_called row) asked.user true && (names_caller row asked.source && names_caller row asked.target)) (sym same)

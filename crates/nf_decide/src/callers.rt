@@ -3,7 +3,7 @@
 ghost use Rattle.std.specs.Prelude.{◌≡◌, ◌&&◌, ℕ, option_copied};
 ghost use Rattle.std.specs.List.{list_all};
 ghost use Rattle.std.specs.Option.{option_map_or};
-ghost use Rattle.nf_words.specs.Prelude.{access_of, AreSound, asked_by, asker_of, asks_by_link, caller_row, is_about_files, is_by_link, link_of, linked_of, not_you_rule, root_of, seeker_of, token_rule, unlinked, user_of, users_of};
+ghost use Rattle.nf_words.specs.Prelude.{access_of, AreSound, asker_of, asks_by_link, caller_row, is_about_files, is_by_link, link_of, linked_of, not_you_rule, root_of, seeker_of, token_rule, unlinked, user_of, users_of};
 ghost use Rattle.nf_words.specs.Callers.{is_caller, may_ask};
 ghost use Rattle.nf_decide.specs.Asked.{names_caller};
 ghost use Rattle.nf_decide.specs.Deciding.{Follows, asking_of};
@@ -101,7 +101,8 @@ impl<'a> Call<'a> {
         requires { option_copied caller ≡ caller_row self.now }
         ensures { Follows (not_you_rule (access_of self.entry.now.state)) self.entry.now result }
     {
-        if self.names_no_other(caller) && self.may_ask(caller) {
+        let asked = self.request.wanted.asked();
+        if self.names_no_other(caller, &asked) && self.may_ask(caller) {
             Ok(())
         } else {
             Err(Denial::NotYou)
@@ -109,12 +110,11 @@ impl<'a> Call<'a> {
     }
 
     /// Whether no other user than the caller is named.
-    fn names_no_other(&self, caller: Option<&UserRow>) -> bool
+    fn names_no_other(&self, caller: Option<&UserRow>, asked: &Asked<'_>) -> bool
         requires { option_copied caller ≡ caller_row self.now }
-        ensures { result ≡ list_all (is_caller self.entry.now) (users_of (asked_by self.entry.now)) }
+        ensures { result ≡ list_all (is_caller self.entry.now) (users_of asked.now) }
     {
-        let asked = self.request.wanted.asked();
-        is_no_other(caller, asked.user) && are_callers(caller, &asked)
+        is_no_other(caller, asked.user) && are_callers(caller, asked)
     }
 
     /// Whether the caller may ask that: users and groups are asked about by members of the group `admin` alone.
