@@ -12,7 +12,7 @@ ghost use Rattle.nf_decide.specs.Deciding.{Follows, IsNamed, IsThere, asking_of,
 use crate::acting::{copied, deleted, made_folder, moved, stored};
 use crate::asked::{is_forbidden, is_kept, is_transfer, node_at};
 use crate::items::item_row;
-use crate::limits::{carry_limit, copy_limit, limit_at, offer_limit, pieces_of, restore_limit};
+use crate::limits::{carry_limit, copy_limit, limit_at, offer_limit, pieces_of, restored_limit};
 use crate::locking::locked;
 use crate::mounting::mount_itself;
 use crate::nodes::is_folder;
@@ -340,10 +340,7 @@ impl<'a> Call<'a> {
                 Some(transfer) => copy_limit(alloc, view, &transfer),
                 None => Ok(None),
             },
-            Making::Restored { item } => match item_row(view, item) {
-                Some(item) => restore_limit(alloc, view, item),
-                None => Ok(None),
-            },
+            Making::Restored { item: node } => restored_limit(alloc, view, item_row(view, node)),
         }
     }
 

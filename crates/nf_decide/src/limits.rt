@@ -1,6 +1,6 @@
 //! The limits of the site.
 
-ghost use Rattle.std.specs.Prelude.{◌≡◌, ◌+◌, ◌≤◌, ◌||◌, filter, is_none, length, nat_lt, IfOk, IsSome};
+ghost use Rattle.std.specs.Prelude.{◌≡◌, ◌+◌, ◌≤◌, ◌||◌, filter, is_none, length, nat_lt, option_and_then, option_copied, IfOk, IsSome};
 ghost use Rattle.nf_base.specs.declared.limits.TheConstants.{MAX_DEPTH, MAX_PIECES};
 ghost use Rattle.nf_access.specs.Mounts.{mount_row};
 ghost use Rattle.nf_defs.specs.Tree.{content_of, node_row, walk_of};
@@ -65,7 +65,7 @@ fn move_limit(
 }
 
 /// The limit that is passed by what comes back: it is moved there.
-pub(crate) fn restore_limit(
+fn restore_limit(
     alloc: Global,
     view: &View<'_>,
     item: &ItemRow,
@@ -78,6 +78,20 @@ pub(crate) fn restore_limit(
         replaced: None,
     };
     move_limit(alloc, view, &transfer)
+}
+
+/// The same of an item, if there is one.
+pub(crate) fn restored_limit(
+    alloc: Global,
+    view: &View<'_>,
+    item: Option<&ItemRow>,
+) -> Result<Option<Limit>, AllocError>
+    ensures { IfOk result (λ limit. limit ≡ option_and_then (restore_limit view.now.tables) (option_copied item.entry)) }
+{
+    match item {
+        Some(row) => restore_limit(alloc, view, row),
+        None => Ok(None),
+    }
 }
 
 /// The limit that a copy passes. What it replaces still counts.
