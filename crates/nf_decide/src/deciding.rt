@@ -328,9 +328,10 @@ impl<'a> Call<'a> {
         ensures { IfOk result (λ limit. limit ≡ limited self.entry.now.state.tables places.now (asked_by self.entry.now).makes) }
     {
         let view = &self.view;
-        match self.request.wanted.asked().makes {
+        let asked = self.request.wanted.asked();
+        match &asked.makes {
             Making::Nothing | Making::Shared | Making::Told => Ok(None),
-            Making::File { length } => Ok(limit_there(view, places.target, pieces_of(length))),
+            Making::File { length } => Ok(limit_there(view, places.target, pieces_of(*length))),
             Making::Folder => Ok(limit_there(view, places.target, 0)),
             Making::Moved => match transfer_of(view.tree(), places) {
                 Some(transfer) => carry_limit(alloc, view, &transfer),
@@ -340,7 +341,7 @@ impl<'a> Call<'a> {
                 Some(transfer) => copy_limit(alloc, view, &transfer),
                 None => Ok(None),
             },
-            Making::Restored { item: node } => restored_limit(alloc, view, item_row(view, node)),
+            Making::Restored { item } => restored_limit(alloc, view, item_row(view, *item)),
         }
     }
 
@@ -350,12 +351,13 @@ impl<'a> Call<'a> {
         ensures { result ≡ exceeded self.entry.now.state.tables places.now (asked_by self.entry.now).makes }
     {
         let view = &self.view;
-        match self.request.wanted.asked().makes {
+        let asked = self.request.wanted.asked();
+        match &asked.makes {
             Making::Nothing | Making::Folder | Making::Shared | Making::Told => None,
-            Making::File { length } => excess_there(view, places.target, length),
+            Making::File { length } => excess_there(view, places.target, *length),
             Making::Moved => carry_excess(view, &transfer_of(view.tree(), places)?),
             Making::Copied => copy_excess(view, &transfer_of(view.tree(), places)?),
-            Making::Restored { item } => restore_excess(view, item_row(view, item)?),
+            Making::Restored { item } => restore_excess(view, item_row(view, *item)?),
         }
     }
 

@@ -277,7 +277,18 @@ pub(crate) fn requoted(
         return Ok(nothing_done(alloc));
     }
     let gone = gone_by(alloc, view, moment, quota, row.id)?;
-    let mut row = row.clone()?;
-    row.quota = quota;
-    Ok(done(Deed::Requote(row), gone, Report::Plain))
+    let other = with_quota(row, quota)?;
+    Ok(done(Deed::Requote(other), gone, Report::Plain))
+}
+
+/// The row of a user with another quota.
+fn with_quota(row: &UserRow, quota: u64) -> Result<UserRow, AllocError>
+    ensures { IfOk result (λ other. other ≡ record row.now { quota = quota }) }
+{
+    Ok(UserRow {
+        id: row.id,
+        name: row.name.copy()?,
+        quota,
+        root: row.root,
+    })
 }

@@ -39,9 +39,8 @@ impl<'a> Call<'a> {
     {
         match ask {
             TrashAsk::List(_) | TrashAsk::Empty(_) => None,
-            TrashAsk::Drop { item, .. } | TrashAsk::Restore { item, .. } => {
-                self.lacks_item(asker, *item)
-            }
+            TrashAsk::Drop { item, .. } => self.lacks_item(asker, *item),
+            TrashAsk::Restore { item, .. } => self.lacks_item(asker, *item),
         }
     }
 

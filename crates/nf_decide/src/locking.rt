@@ -47,11 +47,7 @@ pub(crate) fn locked(
 }
 
 /// The refusal, where another seat holds some of that.
-fn in_way(
-    view: &View<'_>,
-    seat: u64,
-    touches: &[Touch<'_>],
-) -> Result<Option<Denial>, AllocError>
+fn in_way(view: &View<'_>, seat: u64, touches: &[Touch<'_>]) -> Result<Option<Denial>, AllocError>
     ensures { IfOk result (λ refusal. refusal ≡ option_map Locked (key_in_way view.now.tables.nodes seat touches.now view.now.tickets)) }
 {
     refusal(key_in_way(view.tree(), view.tickets(), seat, touches))

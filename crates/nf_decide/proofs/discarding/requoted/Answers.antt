@@ -12,5 +12,5 @@ returns c =
     let quota = c.args.quota in
     rw (ne_eqb row.quota quota c.if-row-quota.false)
     (c.done.ensures
-    ∙ ap (λ (copy : UserRow). allowed.Trash (deed.Requote (record copy { quota = quota })) c.in_ok-gone.gone.items report.Plain) c.in_ok-row.ensures.cases
+    ∙ ap (λ (copy : UserRow). allowed.Trash (deed.Requote copy) c.in_ok-gone.gone.items report.Plain) c.in_ok-other.ensures
     ∙ ap (λ (gone : List ℕ). allowed.Trash (deed.Requote (record row { quota = quota })) gone report.Plain) c.in_ok-gone.ensures)
