@@ -1,10 +1,8 @@
 pub mod Askers
 pub mod Bears
-pub mod Callers
 pub mod Copies
 pub mod Faults
 pub mod ItemLines
-pub mod Items
 pub mod Joining
 pub mod Late
 pub mod Leading

@@ -1,5 +1,5 @@
 -- What an item of the trash takes where it comes back, and the names that are taken there.
-use Rattle.std.proofs.Common.{◌≤◌, ◌≡◌, ◌+◌, ◌==◌, ℕ, Bool, true, false, not, List, [], ◌∷◌, filter, map, length, Option, None, Some, option_map, if◌then◌else◌, refl, ap, sym, ◌∙◌, arith}
+use Rattle.std.proofs.Common.{◌≤◌, ◌≡◌, ◌+◌, ◌==◌, ℕ, Bool, true, false, not, List, [], ◌∷◌, filter, map, length, Option, None, Some, option_map, if◌then◌else◌, refl, ap, arith}
 use Rattle.std.specs.Option.{option_map_or}
 use Rattle.std.proofs.lemmas.List.{length-map}
 use Rattle.std.proofs.lemmas.List.Filters.{length-filter_both}
@@ -52,12 +52,6 @@ back_touched t asked places key = here asked.makes
     here making.Told is = absurd (cc)
 
 -- where no item is there to come back, nothing is
-pub none_touched : (t : Tables) (asked : Asked) (places : Places) (item : ℕ) → asked.makes ≡ making.Restored item
-    → slot_back t asked.makes ≡ None → touches t asked places ≡ []
-none_touched t asked places item is none =
-    ap (touched t asked.removes (target_name asked) places) is
-    ∙ here (item_row t.items item) (sym (ap (slot_back t) is) ∙ none)
-  where
-    here : (row : Option ItemRow) → option_map (slot_of t) row ≡ None → option_map_or (restore_touches t) row [] ≡ []
-    here None none = refl
-    here (Some row) none = absurd (cc)
+pub none_touched : (t : Tables) (item : Option ItemRow) → option_map (slot_of t) item ≡ None → option_map_or (restore_touches t) item [] ≡ []
+none_touched t None is = refl
+none_touched t (Some item) is = absurd (cc)

@@ -1,11 +1,9 @@
 //! Who asks, and the rules of that.
 
-ghost use Rattle.std.specs.Prelude.{◌≡◌, ◌&&◌, ℕ, option_copied};
-ghost use Rattle.std.specs.List.{list_all};
+ghost use Rattle.std.specs.Prelude.{◌≡◌, ℕ, option_copied};
 ghost use Rattle.std.specs.Option.{option_map_or};
-ghost use Rattle.nf_words.specs.Prelude.{access_of, AreSound, asker_of, asks_by_link, caller_row, is_about_files, is_by_link, link_of, linked_of, not_you_rule, root_of, seeker_of, token_rule, unlinked, user_of, users_of};
-ghost use Rattle.nf_words.specs.Callers.{is_caller, may_ask};
-ghost use Rattle.nf_decide.specs.Asked.{names_caller};
+ghost use Rattle.nf_words.specs.Prelude.{access_of, AreSound, asker_of, asks_by_link, caller_row, is_about_files, is_by_link, link_of, linked_of, not_you_rule, root_of, seeker_of, token_rule, unlinked, user_of};
+ghost use Rattle.nf_words.specs.Callers.{may_ask};
 ghost use Rattle.nf_decide.specs.Deciding.{Follows, asking_of};
 
 use crate::asked::{is_no_other, names_caller};
@@ -13,7 +11,7 @@ use crate::deciding::Call;
 use nf_base::{NodeId, ShareId, ShareRow, UserId, UserRow};
 use nf_defs::Seeker;
 use nf_reach::Asker;
-use nf_words::{Asked, Caller, Denial, Wanted};
+use nf_words::{Caller, Denial, Wanted};
 
 impl<'a> Call<'a> {
     /// The row of the user whose token the caller shows.
@@ -102,19 +100,12 @@ impl<'a> Call<'a> {
         ensures { Follows (not_you_rule (access_of self.entry.now.state)) self.entry.now result }
     {
         let asked = self.request.wanted.asked();
-        if self.names_no_other(caller, &asked) && self.may_ask(caller) {
+        let are_callers = names_caller(caller, asked.source) && names_caller(caller, asked.target);
+        if is_no_other(caller, asked.user) && are_callers && self.may_ask(caller) {
             Ok(())
         } else {
             Err(Denial::NotYou)
         }
-    }
-
-    /// Whether no other user than the caller is named.
-    fn names_no_other(&self, caller: Option<&UserRow>, asked: &Asked<'_>) -> bool
-        requires { option_copied caller ≡ caller_row self.now }
-        ensures { result ≡ list_all (is_caller self.entry.now) (users_of asked.now) }
-    {
-        is_no_other(caller, asked.user) && are_callers(caller, asked)
     }
 
     /// Whether the caller may ask that: users and groups are asked about by members of the group `admin` alone.
@@ -160,13 +151,6 @@ fn is_about_files(wanted: &Wanted) -> bool
         | Wanted::Move { .. }
         | Wanted::Copy { .. } => true,
     }
-}
-
-/// Whether both places name no other user than the caller.
-fn are_callers(caller: Option<&UserRow>, asked: &Asked<'_>) -> bool
-    ensures { result ≡ (names_caller (option_copied caller.entry) asked.now.source && names_caller (option_copied caller.entry) asked.now.target) }
-{
-    names_caller(caller, asked.source) && names_caller(caller, asked.target)
 }
 
 /// The number of the user who asks.

@@ -1,9 +1,8 @@
 //! Where an item of the trash comes back to.
 
 ghost use Rattle.std.specs.Prelude.{◌≡◌, not, IfOk};
-ghost use Rattle.nf_access.specs.Mounts.{free_name_of, names_in_root, root_folder};
+ghost use Rattle.nf_access.specs.Mounts.{free_name_of, root_folder};
 ghost use Rattle.nf_base.specs.FreeNames.{is_taken};
-ghost use Rattle.nf_defs.specs.Prelude.{taken_names};
 ghost use Rattle.nf_words.specs.Homes.{home_of, name_back, names_taken_in};
 ghost use Rattle.nf_words.specs.Sound.{AreSound};
 
@@ -63,29 +62,16 @@ fn free_in(
 }
 
 /// Whether no child of a folder of a user's has that name, and where it is the root no mount either.
+#[tactic(auto, using(nf_access::proofs::Naming::taken_child))]
 fn is_free_in(view: &View<'_>, user: UserId, folder: NodeId, name: &Name) -> bool
     ensures { result ≡ not (is_taken name.now (names_taken_in view.now.tables user folder)) }
 {
     if folder == root_folder(view, user) {
-        is_free_in_root(view, user, name)
+        view.mounts()
+            .is_name_free(view.people(), view.tree(), user, name)
     } else {
-        is_free_among(view, folder, name)
+        view.tree().child(folder, name).is_none()
     }
-}
-
-/// Whether no child and no mount in a user's root has that name.
-fn is_free_in_root(view: &View<'_>, user: UserId, name: &Name) -> bool
-    ensures { result ≡ not (is_taken name.now (names_in_root view.now.tables.users view.now.tables.nodes view.now.tables.mounts user)) }
-{
-    view.mounts()
-        .is_name_free(view.people(), view.tree(), user, name)
-}
-
-/// Whether no child of a folder has that name.
-fn is_free_among(view: &View<'_>, folder: NodeId, name: &Name) -> bool
-    ensures { result ≡ not (is_taken name.now (taken_names view.now.tables.nodes folder)) }
-{
-    view.tree().child(folder, name).is_none()
 }
 
 /// The root of a user.

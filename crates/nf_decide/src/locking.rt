@@ -23,6 +23,7 @@ use nf_words::{Asked, Denial, LockKey, Making, Mode, Places, Spot, Transfer};
 use std::alloc::{AllocError, Global};
 
 /// `locked`: another seat holds what would be touched. It copies the key.
+#[tactic(auto, using(crate::proofs::Returning::back_touched))]
 pub(crate) fn locked(
     alloc: Global,
     view: &View<'_>,
@@ -33,24 +34,17 @@ pub(crate) fn locked(
     requires { AreSound view.now.tables }
     ensures { IfOk result (λ refusal. refusal ≡ option_map Locked (key_in_way view.now.tables.nodes seat (touches view.now.tables asked.now places.now) view.now.tickets)) }
 {
-    let back = slot_back(alloc, view, &asked.makes)?;
-    match back {
+    let (tree, tickets) = (view.tree(), view.tickets());
+    match slot_back(alloc, view, &asked.makes)? {
         Some(key) => {
-            let taken = key_touches(alloc, &key)?;
-            in_way(view, seat, &taken)
+            let touches = key_touches(alloc, &key)?;
+            refusal(key_in_way(tree, tickets, seat, &touches))
         }
         None => {
             let touches = touches(alloc, view, asked, places)?;
-            in_way(view, seat, &touches)
+            refusal(key_in_way(tree, tickets, seat, &touches))
         }
     }
-}
-
-/// The refusal, where another seat holds some of that.
-fn in_way(view: &View<'_>, seat: u64, touches: &[Touch<'_>]) -> Result<Option<Denial>, AllocError>
-    ensures { IfOk result (λ refusal. refusal ≡ option_map Locked (key_in_way view.now.tables.nodes seat touches.now view.now.tickets)) }
-{
-    refusal(key_in_way(view.tree(), view.tickets(), seat, touches))
 }
 
 /// The refusal by the key that is in the way.
@@ -104,6 +98,7 @@ fn slot_of(
 }
 
 /// What a request touches, where nothing comes back.
+#[tactic(auto, using(crate::proofs::Returning::none_touched))]
 fn touches<'a>(
     alloc: Global,
     view: &View<'_>,
@@ -127,8 +122,7 @@ fn touches<'a>(
             let transfer = transfer_of(tree, places);
             transfer_touches(alloc, Mode::Shared, target_name(asked), transfer)
         }
-        Making::Restored { .. } => Ok(Vec::new(alloc)),
-        Making::Shared | Making::Told => Ok(Vec::new(alloc)),
+        Making::Shared | Making::Told | Making::Restored { .. } => Ok(Vec::new(alloc)),
     }
 }
 
