@@ -25,11 +25,7 @@ pub(crate) fn home_of(view: &View<'_>, item: &ItemRow) -> NodeId
 }
 
 /// The name under which it does.
-pub(crate) fn name_back(
-    alloc: Global,
-    view: &View<'_>,
-    item: &ItemRow,
-) -> Result<Name, AllocError>
+pub(crate) fn name_back(alloc: Global, view: &View<'_>, item: &ItemRow) -> Result<Name, AllocError>
     requires { AreSound view.now.tables }
     ensures { IfOk result (λ name. name ≡ name_back view.now.tables item.now) }
 {

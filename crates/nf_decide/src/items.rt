@@ -20,11 +20,7 @@ pub(crate) fn item_row<'a>(view: &'a View<'_>, node: NodeId) -> Option<&'a ItemR
 }
 
 /// The user's item of a node.
-pub(crate) fn own_item<'a>(
-    view: &'a View<'_>,
-    user: UserId,
-    node: NodeId,
-) -> Option<&'a ItemRow>
+pub(crate) fn own_item<'a>(view: &'a View<'_>, user: UserId, node: NodeId) -> Option<&'a ItemRow>
     ensures { option_copied result ≡ option_and_then (item_if_of user) (item_row view.now.tables.items node) }
 {
     let item = item_row(view, node)?;

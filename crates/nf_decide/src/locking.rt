@@ -58,11 +58,7 @@ fn refusal(key: Option<&LockKey>) -> Result<Option<Denial>, AllocError>
 }
 
 /// The name that what comes back takes, if something does.
-fn slot_back(
-    alloc: Global,
-    view: &View<'_>,
-    makes: &Making,
-) -> Result<Option<LockKey>, AllocError>
+fn slot_back(alloc: Global, view: &View<'_>, makes: &Making) -> Result<Option<LockKey>, AllocError>
     requires { AreSound view.now.tables }
     ensures { IfOk result (λ key. key ≡ slot_back view.now.tables makes.now) }
 {
@@ -132,9 +128,7 @@ fn key_touches<'a>(alloc: Global, key: &'a LockKey) -> Result<Vec<Touch<'a>>, Al
 {
     let touch = match key {
         LockKey::Node(node) => Touch::node(*node, Mode::Exclusive),
-        LockKey::Slot { folder, name } => {
-            Touch::slot(*folder, name.as_bytes(), Mode::Exclusive)
-        }
+        LockKey::Slot { folder, name } => { Touch::slot(*folder, name.as_bytes(), Mode::Exclusive) }
     };
     only(alloc, touch)
 }
