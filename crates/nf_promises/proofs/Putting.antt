@@ -35,7 +35,7 @@ use Rattle.nf_words.specs.declared.answer.Reply.{Reply}
 use Rattle.nf_words.specs.declared.answer.Reply.TheVariants.{Made, Done, Closed, Granted, Items, Listing, Share, Shares, Plain}
 use Rattle.nf_words.specs.declared.history.Entry.{Entry}
 use Rattle.nf_words.specs.declared.history.Event.{Event}
-use Rattle.nf_words.specs.declared.history.Event.TheVariants.{Begin, End}
+use Rattle.nf_words.specs.declared.history.Event.TheVariants.{Begin}
 use Rattle.nf_words.specs.declared.history.Mark.{Mark}
 use Rattle.nf_words.specs.declared.history.Mark.TheVariants as mark
 use Rattle.nf_words.specs.declared.history.Outcome.TheVariants.{Body}
