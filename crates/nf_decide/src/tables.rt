@@ -456,7 +456,11 @@ fn push_items(list: &mut RowList, items: &[ItemRow]) -> Result<(), AllocError>
 }
 
 /// Puts mounts and items of the trash at the end of a list of rows.
-fn push_mounted(list: &mut RowList, mounts: &[MountRow], items: &[ItemRow]) -> Result<(), AllocError>
+fn push_mounted(
+    list: &mut RowList,
+    mounts: &[MountRow],
+    items: &[ItemRow],
+) -> Result<(), AllocError>
     ensures { OnOk result (list.new ≡ list.old ++ (map kinds.Mount mounts.now ++ map kinds.Item items.now)) }
 {
     push_mounts(list, mounts)?;
