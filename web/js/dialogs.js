@@ -42,7 +42,7 @@ export function openDialog(title, { kind = '', closed } = {}) {
 // A question with several answers, each `{ text, value, kind }`. Null where it is closed.
 export function question(title, content, choices) {
   return new Promise((done) => {
-    const self = openDialog(title, { kind: 'small', closed: done });
+    const self = openDialog(title, { kind: 'narrow', closed: done });
     self.content.append(...[content].flat().map((one) => (typeof one === 'string' ? h('p', {}, one) : one)));
     for (const { text, value, kind } of choices) self.actions.append(button(text, () => self.close(value), { class: kind ?? '' }));
     // Nothing is done by the key Enter alone that can't be undone.
@@ -51,7 +51,7 @@ export function question(title, content, choices) {
 }
 
 // A form in a dialog. `act` does it: null where it was done, else what went wrong, in words, and the dialog stays. Meanwhile it can't be sent twice.
-export function formDialog(title, fields, { submit, act, kind = 'small' }) {
+export function formDialog(title, fields, { submit, act, kind = 'narrow' }) {
   return new Promise((done) => {
     const self = openDialog(title, { kind, closed: done });
     const send = h('button', { type: 'submit', class: 'main' }, submit);

@@ -39,12 +39,18 @@ function show(address, arrival) {
   if (arrival && kind !== 'sign-in') main.querySelector('h1')?.focus({ preventScroll: true });
 }
 
+// Who came by a link has nowhere else to go.
+function brand(member) {
+  const inside = [icon('folder'), h('span', {}, 'filesd')];
+  return member ? h('a', { class: 'brand', href: '#/files/', 'aria-label': 'filesd, to your files' }, ...inside) : h('span', { class: 'brand' }, ...inside);
+}
+
 function head(kind) {
   const member = session();
   top.hidden = !member && kind !== 'link';
   const link = (to, text, drawn, mine) => h('a', { href: to, 'aria-current': kind === mine ? 'page' : undefined }, icon(drawn), h('span', {}, text));
   put(top,
-    h('a', { class: 'brand', href: member ? '#/files/' : location.hash, 'aria-label': 'Files, to the top' }, icon('folder'), h('span', {}, 'Files')),
+    brand(member),
     member && h('nav', { 'aria-label': 'Main' },
       link('#/files/', 'Files', 'file', 'files'),
       link('#/shares/given', 'Shared', 'share', 'shares'),

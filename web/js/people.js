@@ -185,7 +185,7 @@ function tokenField(input) {
 
 // The token is shown this once: it isn't kept here, and the server can't tell it.
 function handOver(name, token) {
-  const self = openDialog(`The token of ${visible(name)}`, { kind: 'small' });
+  const self = openDialog(`The token of ${visible(name)}`, { kind: 'narrow' });
   const input = h('input', { type: 'text', readOnly: true, value: token, 'aria-label': 'Token' });
   const status = h('p', { role: 'status', class: 'quiet' });
   self.content.append(h('p', {}, 'Tell it to them by a way that nobody else reads. It can’t be shown again.'), input, status);

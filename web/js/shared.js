@@ -17,8 +17,8 @@ export function openShares(main, place, [which = 'given']) {
   const empty = h('div', { class: 'empty', hidden: true });
   const body = h('tbody');
   const table = h('table', { id: 'shares', hidden: true, 'aria-label': given ? 'Shared by me' : 'Shared with me' },
-    h('thead', {}, h('tr', {}, ...['What', given ? 'With' : 'By', 'May', 'Last day'].map((text, index) => h('th', { scope: 'col', class: ['what', 'whom', 'may', 'until'][index] }, text)),
-      h('th', { scope: 'col', class: 'share-acts' }, h('span', { class: 'unseen' }, 'Actions')))), body);
+    h('thead', {}, h('tr', {}, ...['What', given ? 'With' : 'By', 'May', 'Last day'].map((text, index) => h('th', { scope: 'col', class: ['c-what', 'c-whom', 'c-may', 'c-until'][index] }, text)),
+      h('th', { scope: 'col', class: 'c-acts' }, h('span', { class: 'unseen' }, 'Actions')))), body);
   put(main, h('h1', { tabIndex: -1 }, 'Shared'),
     h('nav', { class: 'tabs', 'aria-label': 'Which shares' }, tab('#/shares/given', 'By me', given), tab('#/shares/received', 'With me', !given)), table, empty);
   load();
@@ -71,24 +71,24 @@ export function openShares(main, place, [which = 'given']) {
   }
 
   function cells(share, kind) {
-    return [h('td', { class: 'may' }, mayInWords(share.permissions, kind)), h('td', { class: isOver(share) ? 'until over' : 'until' }, untilInWords(share))];
+    return [h('td', { class: 'c-may' }, mayInWords(share.permissions, kind)), h('td', { class: isOver(share) ? 'c-until over' : 'c-until' }, untilInWords(share))];
   }
 
   const under = (share, kind) => h('p', { class: 'under' }, `${mayInWords(share.permissions, kind)} · ${untilInWords(share)}`);
 
   function fill(share, sought = false) {
     const row = rowOf(share);
-    if (row) put(row.querySelector('td.what'), what(share, sought));
+    if (row) put(row.querySelector('.c-what'), what(share, sought));
   }
 
   function madeRow(share) {
     const kind = placeOf(share.file_source)?.entry.kind ?? 'folder';
     const to = whomInText(share);
     return h('tr', { data: { share: share.id } },
-      h('td', { class: 'what' }, what(share)),
-      h('td', { class: 'whom' }, withWhom(share), under(share, kind)),
+      h('td', { class: 'c-what' }, what(share)),
+      h('td', { class: 'c-whom' }, withWhom(share), under(share, kind)),
       ...cells(share, kind),
-      h('td', { class: 'share-acts' }, h('div', {},
+      h('td', { class: 'c-acts' }, h('div', { class: 'share-acts' },
         share.token && button('Copy link', async () => {
           if (await copyLink(share, placeOf(share.file_source)?.path.at(-1))) say('The link is copied.');
         }, { drawn: 'copy' }),
@@ -115,11 +115,11 @@ export function openShares(main, place, [which = 'given']) {
       main.querySelector('h1').focus({ preventScroll: true });
     };
     return h('tr', { data: { share: share.id } },
-      h('td', { class: 'what' }, entry ? what(share) : h('span', { class: 'quiet' }, 'It lets you in no more, or you left it.')),
-      h('td', { class: 'whom' }, h('span', { class: 'whom' }, icon('person'), named(share.uid_owner)),
+      h('td', { class: 'c-what' }, entry ? what(share) : h('span', { class: 'quiet' }, 'It lets you in no more, or you left it.')),
+      h('td', { class: 'c-whom' }, h('span', { class: 'whom' }, icon('person'), named(share.uid_owner)),
         share.share_type === 1 && h('span', { class: 'quiet small' }, 'for the group ', named(share.share_with)), under(share, kind)),
       ...cells(share, kind),
-      h('td', { class: 'share-acts' }, h('div', {}, entry && button('Leave', () => removeAll({ place, path: [], entries: [], owner: null, reload }, [entry]), {
+      h('td', { class: 'c-acts' }, h('div', { class: 'share-acts' }, entry && button('Leave', () => removeAll({ place, path: [], entries: [], owner: null, reload }, [entry]), {
         class: 'danger', 'aria-label': `Leave ${visible(entry.name)}`,
       }))));
   }

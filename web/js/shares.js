@@ -40,7 +40,7 @@ const WORDS = [
 
 export function mayInWords(permissions, kind) {
   const words = WORDS.filter(([bit, folder, file]) => permissions & bit && (kind === 'file' ? file : folder)).map(([, folder, file]) => (kind === 'file' ? file : folder));
-  return words.length ? `May read it, ${listed(words)}` : 'May read it';
+  return words.length > 1 ? `Read it, ${listed(words)}` : words.length ? `Read it and ${words[0]}` : 'Read it';
 }
 
 export function untilInWords(share) {
@@ -78,7 +78,7 @@ export const linkAddress = (share, name) => new URL(linkFiles(share.token, name)
 export async function copyLink(share, name) {
   const address = linkAddress(share, name);
   if (await copyText(address)) return true;
-  const self = openDialog('The link', { kind: 'small' });
+  const self = openDialog('The link', { kind: 'narrow' });
   const input = h('input', { type: 'text', readOnly: true, value: address, 'aria-label': 'The link' });
   self.content.append(h('p', {}, 'Copy it from here.'), input);
   const close = h('button', { type: 'button', class: 'main', on: { click: () => self.close() } }, 'Close');

@@ -24,7 +24,7 @@ export function openSharing(place, path, entry) {
   const form = h('form', { noValidate: true, on: { submit: sent } });
   put(self.heading, 'Share ', named(name));
   self.content.append(list, form, status);
-  self.actions.append(button('Done', () => self.close(), { class: 'plain' }));
+  form.id = `${self.heading.id}-form`;
 
   let type = TYPE.member;
   let boxes = null;
@@ -40,6 +40,8 @@ export function openSharing(place, path, entry) {
     day = dayField();
     whom = type === TYPE.link ? null : h('input', { type: 'text', autocomplete: 'off', autocapitalize: 'none', spellcheck: false, list: 'whom' });
     send = h('button', { type: 'submit', class: 'main' }, type === TYPE.link ? 'Make a link' : 'Share');
+    send.setAttribute('form', form.id);
+    put(self.actions, button('Done', () => self.close()), send);
     put(form,
       h('fieldset', { class: 'kinds' }, h('legend', {}, 'Share it with'), ...KINDS.map(([value, text, drawn]) => h('label', {},
         h('input', { type: 'radio', name: 'kind', value: String(value), checked: value === type, on: { change: () => choose(value) } }), icon(drawn), h('span', {}, text)))),
@@ -47,8 +49,7 @@ export function openSharing(place, path, entry) {
       whom && suggestions(type === TYPE.group ? 'group' : 'member', 'whom'),
       type === TYPE.link && h('p', { class: 'hint' }, 'Whoever has the link gets in without signing in. Give it on by a way that nobody else reads.'),
       boxes.element,
-      field('Last day (UTC)', day, DAY_HINT),
-      h('div', { class: 'send' }, send));
+      field('Last day (UTC)', day, DAY_HINT));
   }
 
   function choose(value) {

@@ -1,5 +1,5 @@
 // The view for who isn't signed in.
-import { h, field, check, put } from './dom.js';
+import { h, icon, field, check, put } from './dom.js';
 import { signIn } from './session.js';
 import { told } from './refusals.js';
 
@@ -16,7 +16,7 @@ export function showSignIn(main, why) {
   const remember = check('Remember me on this device');
   const refusal = h('p', { role: 'alert', class: 'refusal' });
   const send = h('button', { type: 'submit', class: 'main wide' }, 'Sign in');
-  put(main, h('div', { class: 'sign-in card' },
+  put(main, h('div', { class: 'sign-in-brand' }, h('span', { class: 'brand' }, icon('folder'), h('span', {}, 'filesd'))), h('div', { class: 'sign-in card' },
     h('h1', { tabIndex: -1 }, 'Sign in'),
     h('p', { class: 'quiet' }, WHY[why] ?? 'With the name and the token that your administrator gave you.'),
     h('form', { on: { submit: sent }, noValidate: true },

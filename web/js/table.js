@@ -23,6 +23,8 @@ function sorted(entries) {
   return [...entries].sort((a, b) => (a.kind !== b.kind ? (a.kind === 'folder' ? -1 : 1) : sign * by(a, b) || compare.name(a, b)));
 }
 
+const alike = (a, b) => ['id', 'kind', 'size', 'changed', 'owner', 'permissions'].every((key) => a[key] === b[key]);
+
 // `addressOf(entry)` is where its name leads, `menuOf(entry, button, point)` opens its acts, `selected(entries)` is told of what is marked, and
 // `press(key, entry)` of the keys F2 and Delete. `isShared(entry)` draws it so.
 export function fileTable({ addressOf, menuOf, selected, press, isShared }) {
@@ -70,7 +72,7 @@ export function fileTable({ addressOf, menuOf, selected, press, isShared }) {
           h('span', { class: 'under' }, `${size(entry.size)} · ${day(entry.changed)} · `, named(entry.owner))))),
       h('td', { class: 'size', title: exactly(entry.size) }, size(entry.size)),
       h('td', { class: 'changed' }, date(entry.changed)),
-      h('td', { class: 'owner' }, named(entry.owner)),
+      h('td', { class: 'owner' }, isShared(entry) && icon('people'), named(entry.owner)),
       h('td', { class: 'acts' }, h('button', {
         type: 'button', class: 'plain only', 'aria-label': `Actions for ${name}`, 'aria-haspopup': 'menu', 'aria-expanded': 'false',
       }, icon('more'))));
@@ -133,16 +135,26 @@ export function fileTable({ addressOf, menuOf, selected, press, isShared }) {
     gap(shown.length - next);
   }
 
-  // What is shown anew keeps the focus where it was, by name, or at the row that took its place.
+  // What is shown anew keeps the rows that say the same, and the focus where it was, by name, or at the row that took its place.
   function refresh() {
-    const before = indexOf(document.activeElement);
-    const name = before >= 0 ? document.activeElement.closest('tr').dataset.name : null;
-    const part = document.activeElement?.matches?.('input') ? 'input' : document.activeElement?.matches?.('td button') ? 'td button' : 'a';
+    const active = document.activeElement;
+    const before = indexOf(active);
+    const name = before >= 0 ? active.closest('tr').dataset.name : null;
     const fold = (text) => text.normalize('NFC').toLowerCase();
     const found = wanted ? entries.filter((entry) => fold(entry.name).includes(fold(wanted))) : entries;
+    const old = [...rows].map(([index, element]) => [shown[index], element]);
     shown = sorted(found);
+    const places = new Map(shown.map((entry, index) => [entry.name, index]));
     rows = new Map();
-    body.replaceChildren();
+    for (const [entry, element] of old) {
+      const index = places.get(entry.name);
+      if (index === undefined || !alike(entry, shown[index])) {
+        element.remove();
+        continue;
+      }
+      element.setAttribute('aria-rowindex', String(index + 2));
+      rows.set(index, element);
+    }
     table.setAttribute('aria-rowcount', String(shown.length + 1));
     COLUMNS.forEach(([by], index) => {
       if (by === order.by) heads[index].setAttribute('aria-sort', order.down ? 'descending' : 'ascending');
@@ -150,12 +162,14 @@ export function fileTable({ addressOf, menuOf, selected, press, isShared }) {
     });
     table.hidden = !shown.length;
     draw();
-    if (name !== null && shown.length) {
-      const same = shown.findIndex((entry) => entry.name === name);
-      focusRow(same >= 0 ? same : Math.min(before, shown.length - 1), part, same >= 0);
+    if (name !== null && shown.length && document.activeElement !== active) {
+      const index = places.get(name);
+      focusRow(index ?? Math.min(before, shown.length - 1), partOf(active), index !== undefined);
     }
     told();
   }
+
+  const partOf = (element) => (element.matches('input') ? 'input' : element.matches('td button') ? 'td button' : 'a');
 
   function told() {
     const names = new Set(entries.map((entry) => entry.name));
@@ -223,8 +237,7 @@ export function fileTable({ addressOf, menuOf, selected, press, isShared }) {
     const page = Math.max(1, Math.floor(innerHeight / height) - 3);
     const next = { ArrowDown: index + 1, ArrowUp: index - 1, Home: 0, End: shown.length - 1, PageDown: index + page, PageUp: index - page }[event.key];
     if (next !== undefined) {
-      const part = event.target.matches('input') ? 'input' : event.target.matches('td button') ? 'td button' : 'a';
-      focusRow(Math.max(0, Math.min(shown.length - 1, next)), part);
+      focusRow(Math.max(0, Math.min(shown.length - 1, next)), partOf(event.target));
     } else if (event.key === 'F2' || event.key === 'Delete') press(event.key, shown[index]);
     else return;
     event.preventDefault();

@@ -66,7 +66,7 @@ export async function upload(where, found) {
   const good = [];
   for (const one of found) {
     const fault = one.path.map(faultOf).find(Boolean)
-      ?? (one.folder ? null : !one.file ? 'It can’t be read.' : one.file.size > LARGEST ? `It has ${size(one.file.size)}. A file may have 16 MiB.` : null);
+      ?? (one.folder ? null : !one.file ? 'It can’t be read.' : one.file.size > LARGEST ? `It is ${size(one.file.size - LARGEST)} larger than a file may be, which is 16 MiB.` : null);
     if (fault) bad.push(failed(one, fault));
     else good.push(one);
   }
@@ -165,14 +165,16 @@ function again(item) {
 
 const due = new Map();
 
-// Whoever shows the folder looks anew: soon after the first file, then not more often than every other second.
+// Whoever shows the folder looks anew: soon behind the last file, and meanwhile not more often than every other second.
 function stored({ place, path }) {
   const key = `${place.base} ${keyOf(path)}`;
-  if (due.has(key)) return;
+  const more = uploadsRunning();
+  if (more && due.has(key)) return;
+  clearTimeout(due.get(key));
   due.set(key, setTimeout(() => {
     due.delete(key);
     watchers.forEach((act) => act(place, path));
-  }, uploadsRunning() ? 2000 : 100));
+  }, more ? 2000 : 50));
 }
 
 function finished() {
