@@ -10,22 +10,35 @@ import { openSharing } from './sharing.js';
 import { go } from './router.js';
 import { kindOf } from './kinds.js';
 
-// What the menu of an entry offers: what the share that leads to it allows, and nothing else.
-export function actsOf(context, entry) {
-  const { place, path } = context;
+// What may be done with an entry: what the share that leads to it allows, and nothing else. By a link a copy goes where the link leads, so it
+// has to allow that something is added.
+export function mayOf({ place, path, permissions }, entry) {
   const may = (what) => (entry.permissions & what) !== 0;
   const mount = place.isMount([...path, entry.name], entry);
+  return {
+    mount,
+    share: place.kind === 'own' && may(MAY.share),
+    rename: mount || may(MAY.update),
+    move: !mount && may(MAY.remove),
+    copy: place.kind === 'own' || (permissions & MAY.create) !== 0,
+    remove: mount || may(MAY.remove),
+  };
+}
+
+export function actsOf(context, entry) {
+  const { place, path } = context;
+  const may = mayOf(context, entry);
   const isFile = entry.kind === 'file';
   return [
     !isFile && { text: 'Open', drawn: 'folder', act: () => go(place.addressOf([...path, entry.name])) },
     isFile && kindOf(entry.name).kind !== 'other' && { text: 'Look at', drawn: 'look', act: () => go(place.addressOf(path, entry.name)) },
     isFile && { text: 'Download', drawn: 'download', act: () => downloadAll(context, [entry]) },
-    place.kind === 'own' && may(MAY.share) && { text: 'Share', drawn: 'share', act: () => openSharing(place, [...path, entry.name], entry) },
-    (mount || may(MAY.update)) && { text: 'Rename', drawn: 'rename', act: () => rename(context, entry) },
-    !mount && may(MAY.remove) && { text: 'Move', drawn: 'move', act: () => transferAll(context, [entry], 'move') },
-    { text: 'Copy', drawn: 'copy', act: () => transferAll(context, [entry], 'copy') },
-    mount && { text: 'Leave', drawn: 'leave', kind: 'danger', act: () => removeAll(context, [entry]) },
-    !mount && may(MAY.remove) && { text: 'Remove', drawn: 'remove', kind: 'danger', act: () => removeAll(context, [entry]) },
+    may.share && { text: 'Share', drawn: 'share', act: () => openSharing(place, [...path, entry.name], entry) },
+    may.rename && { text: 'Rename', drawn: 'rename', act: () => rename(context, entry) },
+    may.move && { text: 'Move', drawn: 'move', act: () => transferAll(context, [entry], 'move') },
+    may.copy && { text: 'Copy', drawn: 'copy', act: () => transferAll(context, [entry], 'copy') },
+    may.mount && { text: 'Leave', drawn: 'leave', kind: 'danger', act: () => removeAll(context, [entry]) },
+    !may.mount && may.remove && { text: 'Remove', drawn: 'remove', kind: 'danger', act: () => removeAll(context, [entry]) },
   ].filter(Boolean);
 }
 

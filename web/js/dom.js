@@ -14,22 +14,27 @@ export function h(tag, given = {}, ...inside) {
     else if (key.includes('-') || ['role', 'for', 'scope', 'list', 'colspan'].includes(key)) element.setAttribute(key, value === true ? 'true' : value);
     else element[key] = value;
   }
-  element.append(...inside.flat().filter((one) => one !== null && one !== undefined && one !== false));
+  element.append(...inside.flat(2).filter((one) => one !== null && one !== undefined && one !== false));
   return element;
 }
 
-// A drawing beside a text or a label: nothing for who listens.
+const drawings = new Map();
+
+// A drawing beside a text or a label: nothing for who listens. Each is made once, and copied.
 export function icon(name) {
-  const drawing = document.createElementNS(SVG, 'svg');
-  drawing.setAttribute('viewBox', '0 0 24 24');
-  drawing.setAttribute('aria-hidden', 'true');
-  drawing.classList.add('icon', `icon-${name}`);
-  for (const d of paths[name]) {
-    const path = document.createElementNS(SVG, 'path');
-    path.setAttribute('d', d);
-    drawing.append(path);
+  if (!drawings.has(name)) {
+    const drawing = document.createElementNS(SVG, 'svg');
+    drawing.setAttribute('viewBox', '0 0 24 24');
+    drawing.setAttribute('aria-hidden', 'true');
+    drawing.classList.add('icon', `icon-${name}`);
+    for (const d of paths[name]) {
+      const path = document.createElementNS(SVG, 'path');
+      path.setAttribute('d', d);
+      drawing.append(path);
+    }
+    drawings.set(name, drawing);
   }
-  return drawing;
+  return drawings.get(name).cloneNode(true);
 }
 
 // A name of a file, a user or a group: its direction doesn't reach what stands beside it, and what is cut can be read whole.
@@ -50,17 +55,19 @@ export function button(text, act, given = {}) {
 }
 
 let silence;
+let coming;
 
 // Says what has come of an act, to who reads and to who listens. A refusal stays until the next word.
 export function say(text, bad = false) {
   const line = document.getElementById('said');
   clearTimeout(silence);
-  // A text that is said twice is read out twice only if it was away meanwhile.
-  line.textContent = '';
+  cancelAnimationFrame(coming);
   line.classList.toggle('bad', bad);
+  // A text that is said twice is read out twice only if it was away meanwhile.
+  put(line);
   if (!text) return;
-  requestAnimationFrame(() => {
-    line.append(h('span', {}, text), button('Close this message', () => say(''), { drawn: 'close', only: true, class: 'plain' }));
+  coming = requestAnimationFrame(() => {
+    put(line, h('span', {}, text), button('Close this message', () => say(''), { drawn: 'close', only: true, class: 'plain' }));
   });
   if (!bad) silence = setTimeout(() => say(''), 6000);
 }

@@ -4,12 +4,13 @@ import { counted, size } from './format.js';
 import { told } from './refusals.js';
 import { fileTable } from './table.js';
 import { openMenu } from './menu.js';
-import { actsOf, makeFolder, removeAll, transferAll, downloadAll, rename } from './acts.js';
+import { actsOf, mayOf, makeFolder, removeAll, transferAll, downloadAll, rename } from './acts.js';
 import { MAY } from './places.js';
 import { go } from './router.js';
 import { openViewer } from './viewer.js';
 import { upload, onStored } from './uploads.js';
 import { dropped, picked } from './drop.js';
+import { learnGivers } from './shares.js';
 
 const same = (a, b) => a.length === b.length && a.every((one, index) => one === b[index]);
 
@@ -28,6 +29,7 @@ export function openFiles(main, place, firstPath, asked, arrival) {
   const marked = h('div', { class: 'selection', role: 'toolbar', 'aria-label': 'Selected', hidden: true });
   const find = h('input', { type: 'search', 'aria-label': 'Find in this folder', placeholder: 'Find in this folder', on: { input: () => look() } });
   const bar = h('div', { class: 'bar' }, acts, marked, h('label', { class: 'find' }, icon('find'), find));
+  const found = h('p', { role: 'status', class: 'unseen' });
   const empty = h('div', { class: 'empty', hidden: true });
   const foot = h('p', { class: 'foot quiet' });
   const files = h('input', { type: 'file', multiple: true, id: 'pick-files', class: 'unseen', tabIndex: -1, 'aria-hidden': true, on: { change: () => chosen(files) } });
@@ -38,18 +40,22 @@ export function openFiles(main, place, firstPath, asked, arrival) {
   const table = fileTable({
     addressOf: (entry) => (entry.kind === 'folder' ? place.addressOf([...path, entry.name]) : place.addressOf(path, entry.name)),
     isShared: (entry) => place.isMount([...path, entry.name], entry),
+    user: place.user,
     menuOf: (entry, anchor, point) => openMenu(anchor, actsOf(context(), entry), point),
-    selected: (found) => {
-      selection = found;
+    selected: (entries_) => {
+      selection = entries_;
       toolbar();
     },
     press: (key, entry) => {
-      if (key === 'Delete' && selection.length) removeAll(context(), selection);
-      else if (key === 'Delete') removeAll(context(), [entry]);
+      const those = key === 'Delete' && selection.length ? selection : [entry];
+      const what = key === 'Delete' ? 'remove' : 'rename';
+      if (!those.every((one) => mayOf(context(), one)[what])) say(`You may not ${what} ${those.length === 1 ? 'this' : 'all of these'}.`, true);
+      else if (key === 'Delete') removeAll(context(), those);
       else rename(context(), entry);
     },
   });
-  put(main, crumbs, heading, bar, table.element, empty, foot, files, folder, veil);
+  const by = place.kind === 'link' && h('p', { class: 'quiet' }, 'Shared with you by a link.');
+  put(main, crumbs, heading, by, bar, found, table.element, empty, foot, files, folder, veil);
 
   const context = () => ({ place, path, entries, permissions, owner, reload, focus: table.focus });
   const may = (what) => (permissions & what) !== 0;
@@ -80,13 +86,14 @@ export function openFiles(main, place, firstPath, asked, arrival) {
       return;
     }
     const onlyFiles = selection.every((entry) => entry.kind === 'file');
+    const allow = (what) => selection.every((entry) => mayOf(context(), entry)[what]);
     const focused = had && document.activeElement.textContent;
     put(marked,
       h('span', { class: 'count', role: 'status' }, `${selection.length} selected`),
-      button('Move', () => transferAll(context(), selection, 'move'), { drawn: 'move', title: 'Move' }),
-      button('Copy', () => transferAll(context(), selection, 'copy'), { drawn: 'copy', title: 'Copy' }),
+      allow('move') && button('Move', () => transferAll(context(), selection, 'move'), { drawn: 'move', title: 'Move' }),
+      allow('copy') && button('Copy', () => transferAll(context(), selection, 'copy'), { drawn: 'copy', title: 'Copy' }),
       onlyFiles && button('Download', () => downloadAll(context(), selection), { drawn: 'download', title: 'Download' }),
-      button('Remove', () => removeAll(context(), selection), { drawn: 'remove', title: 'Remove' }),
+      allow('remove') && button('Remove', () => removeAll(context(), selection), { drawn: 'remove', title: 'Remove' }),
       button('Clear', () => table.clear(), { drawn: 'close', title: 'Clear the selection' }));
     if (focused) [...marked.querySelectorAll('button')].find((one) => one.textContent === focused)?.focus();
   }
@@ -94,7 +101,7 @@ export function openFiles(main, place, firstPath, asked, arrival) {
   function look() {
     const count = table.find(find.value.trim());
     rest(count);
-    if (entries?.length) say(find.value.trim() ? `${counted(count, 'name')} found.` : '');
+    put(found, find.value.trim() && entries?.length ? `${counted(count, 'name')} found.` : '');
   }
 
   // What stands below the table, or in its place.
@@ -102,6 +109,7 @@ export function openFiles(main, place, firstPath, asked, arrival) {
     const none = entries && !entries.length;
     const lost = entries?.length && !count;
     empty.hidden = !none && !lost;
+    empty.classList.remove('refused');
     find.closest('label').hidden = !entries?.length;
     if (lost) put(empty, h('p', {}, 'No name in this folder has that in it.'));
     else if (none) {
@@ -136,6 +144,7 @@ export function openFiles(main, place, firstPath, asked, arrival) {
     ({ permissions, owner } = about);
     show(answer.entries);
     if (fresh && !before) arrive(fresh);
+    if (place.kind === 'own' && !path.length) learnGivers(answer.entries.filter((entry) => entry.owner !== place.user));
   }
 
   function arrive({ height }) {
@@ -144,8 +153,8 @@ export function openFiles(main, place, firstPath, asked, arrival) {
     table.draw();
   }
 
-  function show(found) {
-    entries = found;
+  function show(given) {
+    entries = given;
     head();
     table.show(entries);
     rest(find.value.trim() ? table.find(find.value.trim()) : entries.length);
@@ -160,9 +169,10 @@ export function openFiles(main, place, firstPath, asked, arrival) {
     toolbar();
     rest(0);
     empty.hidden = false;
+    empty.classList.add('refused');
     const missing = place.kind === 'link' && !path.length ? 'There is no such link. Look whether the whole address was copied.' : 'This folder isn’t there. Perhaps somebody moved or removed it.';
     put(empty, h('p', { class: 'large', role: 'alert' }, told(refusal, { missing })),
-      h('p', {}, button('Try again', () => load(null)), ' ', path.length > 0 && h('a', { href: place.addressOf([]) }, 'Go to the top')));
+      h('p', {}, button('Try again', () => load(null)), path.length > 0 && h('a', { href: place.addressOf([]) }, place.kind === 'own' ? 'Go to your files' : 'Go to what is shared')));
   }
 
   async function reload() {
@@ -170,13 +180,13 @@ export function openFiles(main, place, firstPath, asked, arrival) {
   }
 
   function chosen(input) {
-    const found = picked(input.files);
+    const some = picked(input.files);
     input.value = '';
-    send(found);
+    send(some);
   }
 
-  function send(found) {
-    if (found.length) upload({ place, path, owner: owner === place.user ? null : owner }, found);
+  function send(some) {
+    if (some.length) upload({ place, path, owner: owner === place.user ? null : owner }, some);
   }
 
   // Something is dragged over the page: files may be let go anywhere on it.

@@ -38,9 +38,9 @@ export function openLink(main, [token, ...path], asked, arrival) {
 
   function refused(refusal) {
     document.title = 'A shared link – Files';
-    put(main, h('h1', { tabIndex: -1 }, 'This link doesn’t lead anywhere'),
-      h('p', { class: 'large', role: 'alert' }, told(refusal, { missing: 'There is no such link. Look whether the whole address was copied.' })),
-      button('Try again', first));
+    put(main, h('div', { class: 'one-file card' }, icon('link'), h('h1', { tabIndex: -1 }, 'This link leads nowhere'),
+      h('p', { class: 'quiet', role: 'alert' }, told(refusal, { missing: 'There is no such link. Look whether the whole address was copied.' })),
+      h('div', { class: 'acts-bar' }, button('Try again', first))));
   }
 
   function file(bytes) {

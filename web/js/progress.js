@@ -19,11 +19,13 @@ function build() {
   controls = h('div', { class: 'panel-acts' });
   panel = h('section', { class: 'uploads card', 'aria-label': 'Uploads' }, h('div', { class: 'panel-head' }, heading, controls), whole, list);
   document.body.append(panel);
+  document.body.dataset.uploads = '';
 }
 
 export function drawPanel(items, acts) {
   if (!items.length) {
     panel?.remove();
+    delete document.body.dataset.uploads;
     panel = null;
     lines = new Map();
     return;

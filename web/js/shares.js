@@ -2,7 +2,7 @@
 import { h, icon, named, visible, check, copyText, say, put } from './dom.js';
 import { askOcs } from './api.js';
 import { session, leave } from './session.js';
-import { sawShare } from './known.js';
+import { sawShares } from './known.js';
 import { lastDay, listed, todayInUtc } from './format.js';
 import { openDialog } from './dialogs.js';
 import { MAY, linkFiles } from './places.js';
@@ -13,7 +13,7 @@ export const TYPE = { member: 0, group: 1, link: 3 };
 async function asked(method, target, parameters) {
   const answer = await askOcs(method, target, { token: session()?.token, parameters });
   if (!answer.ok && answer.status === 401) leave('token');
-  if (answer.ok) [answer.data].flat().forEach((share) => share?.id && sawShare(share));
+  if (answer.ok) sawShares([answer.data].flat().filter((share) => share?.id));
   return answer;
 }
 
@@ -22,6 +22,17 @@ const written = (path) => `/${path.join('/')}`;
 export const sharesOf = (path) => asked('GET', `${ROUTE}?path=${encodeURIComponent(written(path))}`);
 export const sharesMade = () => asked('GET', ROUTE);
 export const sharesReceived = () => asked('GET', `${ROUTE}?shared_with_me=true`);
+
+let learned = '';
+
+// Who made the shares that lead to these mounts. Once a share is ended nobody tells that any more, and a refusal names its number alone.
+export async function learnGivers(mounts) {
+  const ids = mounts.map((entry) => entry.id).join(' ');
+  if (!ids || ids === learned) return;
+  learned = ids;
+  await sharesReceived();
+}
+
 export const makeShare = (path, { type, name, permissions, day }) => asked('POST', ROUTE, {
   path: written(path), shareType: type, ...(type === TYPE.link ? {} : { shareWith: name }), permissions, ...(day ? { expireDate: day } : {}),
 });

@@ -26,8 +26,9 @@ function sorted(entries) {
 const alike = (a, b) => ['id', 'kind', 'size', 'changed', 'owner', 'permissions'].every((key) => a[key] === b[key]);
 
 // `addressOf(entry)` is where its name leads, `menuOf(entry, button, point)` opens its acts, `selected(entries)` is told of what is marked, and
-// `press(key, entry)` of the keys F2 and Delete. `isShared(entry)` draws it so.
-export function fileTable({ addressOf, menuOf, selected, press, isShared }) {
+// `press(key, entry)` of the keys F2 and Delete. `isShared(entry)` draws it so, and
+// `user` is whose files go without their owner's name where there is little room.
+export function fileTable({ addressOf, menuOf, selected, press, isShared, user }) {
   const all = h('input', { type: 'checkbox', 'aria-label': 'Select all', on: { change: () => selectAll(all.checked) } });
   const heads = COLUMNS.map(([by, text]) => h('th', { scope: 'col', class: by }, button(text, () => sortBy(by), { class: 'plain sort' })));
   const body = h('tbody', { on: { click: clicked, change: changed, keydown: key, contextmenu: context, focusin: () => draw() } });
@@ -69,7 +70,7 @@ export function fileTable({ addressOf, menuOf, selected, press, isShared }) {
         icon(entry.kind === 'folder' ? (isShared(entry) ? 'folder-shared' : 'folder') : kindOf(entry.name).drawn),
         h('div', { class: 'both' },
           h('a', { href: addressOf(entry), draggable: false }, named(entry.name)),
-          h('span', { class: 'under' }, `${size(entry.size)} · ${day(entry.changed)} · `, named(entry.owner))))),
+          h('span', { class: 'under' }, entry.owner !== user && [named(entry.owner), ' · '], `${size(entry.size)} · ${day(entry.changed)}`)))),
       h('td', { class: 'size', title: exactly(entry.size) }, size(entry.size)),
       h('td', { class: 'changed' }, date(entry.changed)),
       h('td', { class: 'owner' }, isShared(entry) && icon('people'), named(entry.owner)),
