@@ -6,6 +6,12 @@ import { kindOf } from './kinds.js';
 const COLUMNS = [['name', 'Name'], ['size', 'Size'], ['changed', 'Changed'], ['owner', 'Owner']];
 const BEYOND = 10;
 
+// Where there is room for one column alone, one choice takes the place of the others' heads.
+const ORDERS = [
+  ['name', 'Name, A to Z'], ['-name', 'Name, Z to A'], ['-changed', 'Newest first'], ['changed', 'Oldest first'], ['-size', 'Largest first'], ['size', 'Smallest first'],
+  ['owner', 'Owner, A to Z'], ['-owner', 'Owner, Z to A'],
+];
+
 const collator = new Intl.Collator(undefined, { numeric: true });
 // How the list is sorted stays while one goes from folder to folder.
 const order = { by: 'name', down: false };
@@ -31,6 +37,9 @@ const alike = (a, b) => ['id', 'kind', 'size', 'changed', 'owner', 'permissions'
 export function fileTable({ addressOf, menuOf, selected, press, isShared, user }) {
   const all = h('input', { type: 'checkbox', 'aria-label': 'Select all', on: { change: () => selectAll(all.checked) } });
   const heads = COLUMNS.map(([by, text]) => h('th', { scope: 'col', class: by }, button(text, () => sortBy(by), { class: 'plain sort' })));
+  const choice = h('select', { class: 'sort-by', 'aria-label': 'Sort by', on: { change: () => sortBy(choice.value.replace('-', ''), choice.value.startsWith('-')) } },
+    ...ORDERS.map(([value, text]) => h('option', { value }, text)));
+  heads[0].append(choice);
   const body = h('tbody', { on: { click: clicked, change: changed, keydown: key, contextmenu: context, focusin: () => draw() } });
   const table = h('table', { id: 'files', 'aria-label': 'Files and folders' },
     h('thead', {}, h('tr', { 'aria-rowindex': '1' }, h('th', { scope: 'col', class: 'pick' }, all), ...heads,
@@ -157,6 +166,7 @@ export function fileTable({ addressOf, menuOf, selected, press, isShared, user }
       rows.set(index, element);
     }
     table.setAttribute('aria-rowcount', String(shown.length + 1));
+    choice.value = `${order.down ? '-' : ''}${order.by}`;
     COLUMNS.forEach(([by], index) => {
       if (by === order.by) heads[index].setAttribute('aria-sort', order.down ? 'descending' : 'ascending');
       else heads[index].removeAttribute('aria-sort');
@@ -200,8 +210,8 @@ export function fileTable({ addressOf, menuOf, selected, press, isShared, user }
     draw();
   }
 
-  function sortBy(by) {
-    order.down = order.by === by ? !order.down : by === 'size' || by === 'changed';
+  function sortBy(by, down) {
+    order.down = down ?? (order.by === by ? !order.down : by === 'size' || by === 'changed');
     order.by = by;
     refresh();
   }

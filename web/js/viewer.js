@@ -35,6 +35,7 @@ export function openViewer(place, path, entry, closed) {
     if (loading.signal.aborted) return;
     self.content.setAttribute('aria-busy', 'false');
     if (!answer.ok) return self.refuse(told(answer.refusal));
+    if (answer.isJson) return self.refuse('That is a folder.');
     bytes = answer.bytes;
     download.disabled = false;
     show(kindOf(name));
