@@ -7,6 +7,7 @@ import struct
 import subprocess
 import sys
 import threading
+import time
 import zlib
 from urllib.parse import quote, urlencode
 
@@ -43,11 +44,14 @@ class Member:
     """Asks filesd as one member, whose token is the name's letters and digits with `-1` behind them."""
 
     def __init__(self, port, name):
-        self.port, self.name, self.client = port, name, None
+        self.port, self.name, self.client, self.last = port, name, None, 0
         self.token = re.sub(r"\W", "", name, flags=re.A) + "-1"
 
     def asked(self, method, target, body=None, **fields):
-        """The status and the body, over one connection as long as that is open."""
+        """The status and the body, over one connection as long as that is open. filesd closes it where nothing came for 30 seconds."""
+        if time.monotonic() - self.last > 20:
+            self.close()
+        self.last = time.monotonic()
         self.client = self.client or http.client.HTTPConnection("127.0.0.1", self.port, timeout=60)
         self.client.request(method, target, body, {"Authorization": f"Bearer {self.token}", **fields})
         answer = self.client.getresponse()

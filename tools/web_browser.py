@@ -12,8 +12,8 @@ from selenium.webdriver.chrome.service import Service
 from selenium.webdriver.common.action_chains import ActionChains
 from selenium.webdriver.common.keys import Keys
 
-# How long something may take that a person waits for, on a busy machine.
-PATIENCE = 12
+# How long something may take that a person waits for, on a machine that is busy with much else.
+PATIENCE = 20
 # Whoever hears the page knows each of these by its name alone.
 NAMED = {"button", "link", "textbox", "searchbox", "checkbox", "radio", "combobox", "listbox", "menuitem", "menuitemcheckbox", "menuitemradio", "tab",
          "slider", "spinbutton", "switch", "progressbar", "dialog", "alertdialog", "menu", "toolbar", "navigation", "table", "grid", "img", "image", "region"}
@@ -80,7 +80,7 @@ class Browser:
         options.set_capability("unhandledPromptBehavior", "ignore")
         options.accept_insecure_certs = True
         self.driver = webdriver.Chrome(service=Service(chromedriver), options=options)
-        self.driver.set_script_timeout(60)
+        self.driver.set_script_timeout(120)
         self.cdp("Browser.setDownloadBehavior", behavior="allow", downloadPath=self.downloads)
         self.asked, self.logged = [], []
 
@@ -132,8 +132,10 @@ class Browser:
                 return one
             except WebDriverException as seen:
                 fault = seen
+                # It may lie below the head of a table, as after a person's scrolling.
+                self.js("arguments[0].scrollIntoView({block: 'center'})", one)
                 time.sleep(0.2)
-        raise Missing(f"the {role} {name!r} can't be clicked: {str(fault.msg).splitlines()[0]}")
+        raise Missing(f"the {role} {name!r} can't be clicked: {fault.msg[-200:]}")
 
     def fill(self, name, text, scope=None):
         one = self.find("field", name, scope)
