@@ -3,15 +3,18 @@ import { paths } from './icons.js';
 
 const SVG = 'http://www.w3.org/2000/svg';
 
-// An element with properties, listeners (`on`), data-fields (`data`) and attributes (whatever has a dash, and `role`, `for`), and what is in it.
+// An element with properties, listeners (`on`), fields of data (`data`) and attributes (whatever has a dash, and some others), and what is in it.
+// What isn't there, as of a condition, is left out.
 export function h(tag, given = {}, ...inside) {
   const element = document.createElement(tag);
   for (const [key, value] of Object.entries(given)) {
-    if (value === undefined || value === null || value === false) continue;
+    if (value === undefined || value === null) continue;
     if (key === 'on') for (const [event, act] of Object.entries(value)) element.addEventListener(event, act);
     else if (key === 'data') Object.assign(element.dataset, value);
     else if (key === 'class') element.className = value;
-    else if (key.includes('-') || ['role', 'for', 'scope', 'list', 'colspan'].includes(key)) element.setAttribute(key, value === true ? 'true' : value);
+    else if (key.includes('-') || ['role', 'for', 'scope', 'list', 'colspan'].includes(key)) {
+      if (value !== false) element.setAttribute(key, value);
+    }
     else element[key] = value;
   }
   element.append(...inside.flat(2).filter((one) => one !== null && one !== undefined && one !== false));

@@ -40,6 +40,9 @@ export const giverOf = (share) => givers.get(share);
 
 export const sawPlace = (node, path, entry) => places.set(node, { path, entry });
 
+// What was moved or removed takes with it where all under it is.
+export const forgetPlaces = () => places.clear();
+
 export const placeOf = (node) => places.get(node);
 
 export function saw(kind, name) {

@@ -1,7 +1,7 @@
 // Where files are: a member's own (`/remote.php/`), or what a link shares (`/public.php/`). Both answer alike, so one set of acts serves both.
 import { ask, store } from './api.js';
 import { escaped, escapedPath, unescapedPath } from './names.js';
-import { sawPlace, saw } from './known.js';
+import { sawPlace, forgetPlaces, saw } from './known.js';
 import { leave } from './session.js';
 
 export const LARGEST = 16 * 1024 * 1024;
@@ -76,12 +76,15 @@ function place(self) {
 
   self.read = (path, signal) => asked('GET', target(path), { token: self.token, want: 'bytes', signal });
   self.make = (path) => asked('MKCOL', target(path), { token: self.token });
-  self.remove = (path) => asked('DELETE', target(path), { token: self.token });
+  self.remove = (path) => {
+    forgetPlaces();
+    return asked('DELETE', target(path), { token: self.token });
+  };
   self.store = (path, body, told, signal) => store(target(path), { token: self.token, body, told, signal });
-  const transfer = (method) => (from, to, over) => asked(method, target(from), {
-    token: self.token,
-    fields: { Destination: location.origin + target(to), Overwrite: over ? 'T' : 'F' },
-  });
+  const transfer = (method) => (from, to, over) => {
+    forgetPlaces();
+    return asked(method, target(from), { token: self.token, fields: { Destination: location.origin + target(to), Overwrite: over ? 'T' : 'F' } });
+  };
   self.move = transfer('MOVE');
   self.copy = transfer('COPY');
   return self;

@@ -86,5 +86,6 @@ const REASONS = {
 };
 
 export function told(refusal, about = {}) {
-  return (REASONS[refusal.reason] ?? (() => `The server refused it (${refusal.reason}${refusal.status ? ` ${refusal.status}` : ''}).`))(refusal, about);
+  const { reason, status } = refusal;
+  return Object.hasOwn(REASONS, reason) ? REASONS[reason](refusal, about) : `The server refused it (${[reason, status].filter(Boolean).join(' ')}).`;
 }

@@ -78,7 +78,7 @@ export function fileTable({ addressOf, menuOf, selected, press, isShared, user }
       h('td', { class: 'name' }, h('div', { class: 'what' },
         icon(entry.kind === 'folder' ? (isShared(entry) ? 'folder-shared' : 'folder') : kindOf(entry.name).drawn),
         h('div', { class: 'both' },
-          h('a', { href: addressOf(entry), draggable: false }, named(entry.name)),
+          h('a', { href: addressOf(entry) }, named(entry.name)),
           h('span', { class: 'under' }, entry.owner !== user && [named(entry.owner), ' · '], `${size(entry.size)} · ${day(entry.changed)}`)))),
       h('td', { class: 'size', title: exactly(entry.size) }, size(entry.size)),
       h('td', { class: 'changed' }, date(entry.changed)),
@@ -101,8 +101,8 @@ export function fileTable({ addressOf, menuOf, selected, press, isShared, user }
     return found && body.contains(found) ? Number(found.getAttribute('aria-rowindex')) - 2 : -1;
   };
 
-  // Puts those rows into the page that are in sight. What stands already stays as it is, with its focus.
-  function draw() {
+  // Puts those rows into the page that are in sight, and the one that has or is to get the focus. What stands already stays as it is.
+  function draw(pinned = indexOf(document.activeElement)) {
     if (!body.isConnected) return;
     if (!shown.length) return body.replaceChildren();
     if (!height) {
@@ -113,11 +113,10 @@ export function fileTable({ addressOf, menuOf, selected, press, isShared, user }
     const top = body.getBoundingClientRect().top;
     const from = Math.max(0, Math.min(shown.length - 1, Math.floor(-top / height) - BEYOND));
     const to = Math.min(shown.length - 1, Math.max(0, Math.ceil((innerHeight - top) / height) + BEYOND));
-    const focused = indexOf(document.activeElement);
     const indexes = [];
-    if (focused >= 0 && focused < from) indexes.push(focused);
+    if (pinned >= 0 && pinned < from) indexes.push(pinned);
     for (let index = from; index <= to; index++) indexes.push(index);
-    if (focused > to) indexes.push(focused);
+    if (pinned > to) indexes.push(pinned);
 
     const keep = new Set(indexes);
     for (const [index, element] of rows) {
@@ -193,12 +192,8 @@ export function fileTable({ addressOf, menuOf, selected, press, isShared, user }
 
   function focusRow(index, part = 'a', still = false) {
     if (!still) see(index);
-    if (!rows.has(index)) {
-      rows.set(index, row(index));
-      body.append(rows.get(index));
-    }
+    draw(index);
     rows.get(index).querySelector(part)?.focus({ preventScroll: true });
-    draw();
   }
 
   // Scrolls so far that the row can be seen, below what stands fixed at the top.
@@ -277,7 +272,7 @@ export function fileTable({ addressOf, menuOf, selected, press, isShared, user }
       const index = shown.findIndex((entry) => entry.name === name);
       if (index >= 0) focusRow(index);
     },
-    draw,
+    draw: () => draw(),
     close: () => {
       removeEventListener('scroll', soon);
       removeEventListener('resize', resized);

@@ -43,6 +43,11 @@ async function prepare(where, wanted, known) {
   for (const [key, to] of [...folders].sort(([, a], [, b]) => a.length - b.length)) {
     known.set(key, await folder(where, to, known));
   }
+  // What is on its way there already isn't listed yet.
+  for (const item of items) {
+    if (item.where.place !== place || keyOf(item.where.path) !== keyOf(path) || !['waiting', 'running'].includes(item.state)) continue;
+    known.get(keyOf(item.path.slice(0, -1)))?.names?.set(item.path.at(-1), 'file');
+  }
   return null;
 }
 
