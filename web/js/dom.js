@@ -76,7 +76,7 @@ export function say(text, bad = false) {
 }
 
 export function put(parent, ...inside) {
-  parent.replaceChildren(...inside.flat().filter((one) => one !== null && one !== undefined && one !== false));
+  parent.replaceChildren(...inside.flat(2).filter((one) => one !== null && one !== undefined && one !== false));
 }
 
 let numbers = 0;

@@ -43,7 +43,7 @@ export function openSharing(place, path, entry) {
     send.setAttribute('form', form.id);
     put(self.actions, button('Done', () => self.close()), send);
     put(form,
-      h('fieldset', { class: 'kinds' }, h('legend', {}, 'Share it with'), ...KINDS.map(([value, text, drawn]) => h('label', {},
+      h('fieldset', { class: 'kinds' }, h('legend', {}, 'Share it with'), ...KINDS.map(([value, text, drawn]) => h('label', { class: value === type ? 'chosen' : '' },
         h('input', { type: 'radio', name: 'kind', value: String(value), checked: value === type, on: { change: () => choose(value) } }), icon(drawn), h('span', {}, text)))),
       whom && field(type === TYPE.group ? 'Name of the group' : 'Name of the member', whom),
       whom && suggestions(type === TYPE.group ? 'group' : 'member', 'whom'),

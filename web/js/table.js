@@ -1,5 +1,5 @@
 // The table of what is in a folder. Of ten thousand rows those are in the page that can be seen, and the one that has the focus.
-import { h, icon, named, visible, button } from './dom.js';
+import { h, icon, named, visible, button, put } from './dom.js';
 import { size, exactly, date, day } from './format.js';
 import { kindOf } from './kinds.js';
 
@@ -30,6 +30,17 @@ function sorted(entries) {
 }
 
 const alike = (a, b) => ['id', 'kind', 'size', 'changed', 'owner', 'permissions'].every((key) => a[key] === b[key]);
+
+// A row that says nothing yet. Copies of it are made much faster than rows piece by piece, and many come while one scrolls.
+const template = h('tr', {},
+  h('td', { class: 'pick' }, h('input', { type: 'checkbox' })),
+  h('td', { class: 'name' }, h('div', { class: 'what' }, h('div', { class: 'both' }, h('a', {}, h('bdi', { class: 'name' })), h('span', { class: 'under' })))),
+  h('td', { class: 'size' }), h('td', { class: 'changed' }), h('td', { class: 'owner' }, h('bdi', { class: 'name' })),
+  h('td', { class: 'acts' }, h('button', { type: 'button', class: 'plain only', 'aria-haspopup': 'menu', 'aria-expanded': 'false' }, icon('more'))));
+
+function write(element, name) {
+  element.textContent = element.title = name;
+}
 
 // `addressOf(entry)` is where its name leads, `menuOf(entry, button, point)` opens its acts, `selected(entries)` is told of what is marked, and
 // `press(key, entry)` of the keys F2 and Delete. `isShared(entry)` draws it so, and
@@ -73,19 +84,22 @@ export function fileTable({ addressOf, menuOf, selected, press, isShared, user }
   function row(index) {
     const entry = shown[index];
     const name = visible(entry.name);
-    const element = h('tr', { 'aria-rowindex': String(index + 2), data: { name: entry.name, kind: entry.kind } },
-      h('td', { class: 'pick' }, h('input', { type: 'checkbox', 'aria-label': `Select ${name}` })),
-      h('td', { class: 'name' }, h('div', { class: 'what' },
-        icon(entry.kind === 'folder' ? (isShared(entry) ? 'folder-shared' : 'folder') : kindOf(entry.name).drawn),
-        h('div', { class: 'both' },
-          h('a', { href: addressOf(entry) }, named(entry.name)),
-          h('span', { class: 'under' }, entry.owner !== user && [named(entry.owner), ' · '], `${size(entry.size)} · ${day(entry.changed)}`)))),
-      h('td', { class: 'size', title: exactly(entry.size) }, size(entry.size)),
-      h('td', { class: 'changed' }, date(entry.changed)),
-      h('td', { class: 'owner' }, isShared(entry) && icon('people'), named(entry.owner)),
-      h('td', { class: 'acts' }, h('button', {
-        type: 'button', class: 'plain only', 'aria-label': `Actions for ${name}`, 'aria-haspopup': 'menu', 'aria-expanded': 'false',
-      }, icon('more'))));
+    const element = template.cloneNode(true);
+    const [pick, what, bytes, changed_, owner, acts] = element.cells;
+    const link = what.querySelector('a');
+    element.setAttribute('aria-rowindex', String(index + 2));
+    Object.assign(element.dataset, { name: entry.name, kind: entry.kind });
+    pick.firstChild.setAttribute('aria-label', `Select ${name}`);
+    what.firstChild.prepend(icon(entry.kind === 'folder' ? (isShared(entry) ? 'folder-shared' : 'folder') : kindOf(entry.name).drawn));
+    link.href = addressOf(entry);
+    write(link.firstChild, name);
+    put(link.nextSibling, entry.owner !== user && [named(entry.owner), ' · '], `${size(entry.size)} · ${day(entry.changed)}`);
+    bytes.textContent = size(entry.size);
+    bytes.title = exactly(entry.size);
+    changed_.textContent = date(entry.changed);
+    if (isShared(entry)) owner.prepend(icon('people'));
+    write(owner.lastChild, visible(entry.owner));
+    acts.firstChild.setAttribute('aria-label', `Actions for ${name}`);
     mark(element, entry.name);
     return element;
   }

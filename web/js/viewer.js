@@ -49,19 +49,23 @@ export function openViewer(place, path, entry, closed) {
   function show({ kind, type }) {
     if (kind === 'image') {
       const picture = h('img', { src: blob(type), alt: visible(name), on: { error: () => none('This picture can’t be shown: it may be damaged, or of another kind than its name says.') } });
+      self.content.dataset.shows = 'image';
       return put(self.content, picture);
     }
     if (kind === 'pdf' && new TextDecoder('latin1').decode(bytes.slice(0, 1024)).includes('%PDF-')) {
+      self.content.dataset.shows = 'pdf';
       return put(self.content, h('iframe', { src: blob(type), title: visible(name) }));
     }
     const text = kind === 'pdf' ? null : textOf(bytes);
     if (text === null) return none(`This can’t be looked at here. Download it: it has ${size(bytes.byteLength)}.`);
     // A browser takes long to lay out a text of many megabytes, and nobody reads it so.
+    if (text !== '') self.content.dataset.shows = 'text';
     put(self.content, text === '' ? h('p', { class: 'quiet' }, 'This file is empty.') : h('pre', { tabIndex: 0, dir: 'auto' }, text.slice(0, LONGEST)),
       text.length > LONGEST && h('p', { class: 'quiet' }, 'This is its beginning. Download it to read all of it.'));
   }
 
   function none(words) {
+    delete self.content.dataset.shows;
     put(self.content, h('p', { class: 'quiet' }, words));
   }
 
