@@ -191,5 +191,25 @@ class Browser:
             file.write(base64.b64decode(self.cdp("Page.captureScreenshot", format="png")["data"]))
         return path
 
+    def worked(self):
+        """For how many seconds the threads of the browser's pages have had the processor, whatever else the machine does meanwhile."""
+        above, ticks = {}, {}
+        for name in filter(str.isdigit, os.listdir("/proc")):
+            try:
+                with open(f"/proc/{name}/task/{name}/stat", encoding="utf-8", errors="replace") as file:
+                    fields = file.read().rpartition(")")[2].split()
+                with open(f"/proc/{name}/cmdline", "rb") as file:
+                    is_page = b"--type=renderer" in file.read()
+            except OSError:
+                continue
+            above[int(name)] = int(fields[1])
+            if is_page:
+                ticks[int(name)] = int(fields[11]) + int(fields[12])
+        own = self.driver.service.process.pid
+
+        def is_own(process):
+            return process == own or process in above and is_own(above[process])
+        return sum(value for process, value in ticks.items() if is_own(process)) / os.sysconf("SC_CLK_TCK")
+
     def end(self):
         self.driver.quit()
