@@ -4,7 +4,7 @@ import { size, exactly, date, day } from './format.js';
 import { kindOf } from './kinds.js';
 
 const COLUMNS = [['name', 'Name'], ['size', 'Size'], ['changed', 'Changed'], ['owner', 'Owner']];
-const BEYOND = 10;
+const BEYOND = 6;
 
 // Where there is room for one column alone, one choice takes the place of the others' heads.
 const ORDERS = [
@@ -36,7 +36,7 @@ const template = h('tr', {},
   h('td', { class: 'pick' }, h('input', { type: 'checkbox' })),
   h('td', { class: 'name' }, h('div', { class: 'what' }, h('div', { class: 'both' }, h('a', {}, h('bdi', { class: 'name' })), h('span', { class: 'under' })))),
   h('td', { class: 'size' }), h('td', { class: 'changed' }), h('td', { class: 'owner' }, h('bdi', { class: 'name' })),
-  h('td', { class: 'acts' }, h('button', { type: 'button', class: 'plain only', 'aria-haspopup': 'menu', 'aria-expanded': 'false' }, icon('more'))));
+  h('td', { class: 'acts' }, h('button', { type: 'button', class: 'plain only', 'aria-haspopup': 'menu', 'aria-expanded': 'false' }, h('span', { class: 'dots', 'aria-hidden': 'true' }, '⋮'))));
 
 function write(element, name) {
   element.textContent = element.title = name;
