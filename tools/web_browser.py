@@ -132,8 +132,8 @@ class Browser:
                 return one
             except WebDriverException as seen:
                 fault = seen
-                # It may lie below the head of a table, as after a person's scrolling.
-                self.js("arguments[0].scrollIntoView({block: 'center'})", one)
+                # It may lie below the head of a table, as after a person's scrolling; or another one has come in its place.
+                self.js("if (arguments[0]) arguments[0].scrollIntoView({block: 'center'})", self.js(FINDING, role, name, scope))
                 time.sleep(0.2)
         raise Missing(f"the {role} {name!r} can't be clicked: {fault.msg[-200:]}")
 
