@@ -72,11 +72,15 @@ export function openFiles(main, place, firstPath, asked, arrival) {
   }
 
   function toolbar() {
-    const canAdd = may(MAY.create) && entries;
-    put(acts,
-      canAdd && button('Upload files', () => files.click(), { drawn: 'upload', class: 'main' }),
-      canAdd && button('Upload a folder', () => folder.click(), { drawn: 'folder', 'aria-label': 'Upload a folder', title: 'Upload a folder' }),
-      canAdd && button('New folder', () => makeFolder(context()), { drawn: 'new-folder', 'aria-label': 'New folder', title: 'New folder' }));
+    const canAdd = may(MAY.create) && entries !== null;
+    // The buttons stay while the list is read anew, and with them the focus.
+    if (acts.childElementCount === 0 || !canAdd) {
+      put(acts, canAdd && [
+        button('Upload files', () => files.click(), { drawn: 'upload', class: 'main' }),
+        button('Upload a folder', () => folder.click(), { drawn: 'folder', 'aria-label': 'Upload a folder', title: 'Upload a folder' }),
+        button('New folder', () => makeFolder(context()), { drawn: 'new-folder', 'aria-label': 'New folder', title: 'New folder' }),
+      ]);
+    }
     const some = selection.length > 0;
     const had = marked.contains(document.activeElement);
     acts.hidden = some;

@@ -62,10 +62,11 @@ export function openSharing(place, path, entry) {
     event.preventDefault();
     if (send.disabled) return;
     self.refuse('');
-    const name_ = whom?.value.trim();
-    if (whom && !name_) {
+    const asked = whom;
+    const name_ = asked?.value.trim();
+    if (asked && !name_) {
       self.refuse('Say with whom to share it.');
-      return whom.focus();
+      return asked.focus();
     }
     if (day.validity.badInput) return self.refuse('This is no day.');
     send.disabled = true;
@@ -75,12 +76,14 @@ export function openSharing(place, path, entry) {
       self.refuse(fault(answer.refusal, type));
       return (whom ?? send).focus();
     }
-    const made = answer.data;
+    // What is allowed stays as it was chosen, for the next one; nothing that stands there is made anew, as one may write on meanwhile.
     status.textContent = type === TYPE.link ? 'The link is made.' : `It is shared with ${visible(name_)}.`;
+    if (asked?.isConnected) {
+      asked.value = '';
+      asked.focus();
+    }
     await refresh();
-    build();
-    if (type === TYPE.link) list.querySelector(`[data-share="${made.id}"] button`)?.focus();
-    else whom.focus();
+    if ([send, document.body].includes(document.activeElement)) list.querySelector(`[data-share="${answer.data.id}"] button`)?.focus();
   }
 
   async function refresh() {
@@ -142,14 +145,14 @@ export async function openChange(share, kind, allowed = 31) {
     submit: 'Change it',
     act: async () => {
       if (day.validity.badInput) return 'This is no day.';
-      const steps = [];
-      if (boxes.value() !== share.permissions) steps.push({ permissions: boxes.value() });
-      if (day.value !== (share.expiration ?? '')) steps.push({ expireDate: day.value });
-      for (const step of steps) {
-        const answer = await changeShare(share, step);
-        if (!answer.ok) return told(answer.refusal, { missing: 'This share is ended.' });
-        Object.assign(share, answer.data);
-      }
+      const parameters = {
+        ...(boxes.value() !== share.permissions && { permissions: boxes.value() }),
+        ...(day.value !== (share.expiration ?? '') && { expireDate: day.value }),
+      };
+      if (!Object.keys(parameters).length) return null;
+      const answer = await changeShare(share, parameters);
+      if (!answer.ok) return told(answer.refusal, { missing: 'This share is ended.' });
+      Object.assign(share, answer.data);
       return null;
     },
   });
