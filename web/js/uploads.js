@@ -188,7 +188,8 @@ function finished() {
   if (done) say(`${done === 1 ? 'One file is' : `${done} files are`} uploaded.${failed ? ` ${failed} failed.` : ''}`);
   if (!failed) {
     setTimeout(() => {
-      if (!uploadsRunning()) clear();
+      // Meanwhile a later upload may be under way, or have failed, which somebody has to read.
+      if (!uploadsRunning() && !items.some((item) => item.state === 'failed')) clear();
     }, 2500);
   }
 }
