@@ -19,7 +19,7 @@ use nf_outside::Sink;
 use nf_site::Site;
 use std::alloc::Global;
 
-/// Drops the blobs that no row names, and says so. There is no trash yet and there are no uploads, so no row changes, no entry is made, and
+/// Drops the blobs that no row names, and says so. A trash is looked at by the requests that touch it, and there are no uploads yet, so no row changes, no entry is made, and
 /// none of either are counted.
 pub(crate) fn sweep<O: Sink, K: Keeper + Drop>(
     alloc: Global,

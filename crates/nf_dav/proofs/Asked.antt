@@ -20,7 +20,7 @@ use Rattle.nf_routes.specs.declared.methods.Method.{Method}
 use Rattle.nf_routes.specs.declared.methods.Method.TheVariants as method
 use Rattle.nf_routes.specs.declared.mounts.Mount.{Mount}
 use Rattle.nf_routes.specs.declared.mounts.Mount.TheVariants as mount
-use Rattle.nf_words.specs.Asked.{is_about_shares}
+use Rattle.nf_words.specs.Asked.{is_about_files, is_about_shares}
 use Rattle.nf_words.specs.Calls.{is_by_link}
 use Rattle.nf_words.specs.History.{MayWant, NamesUser}
 use Rattle.nf_words.specs.declared.answer.Denial.{Denial}
@@ -39,10 +39,12 @@ use Rattle.nf_words.specs.declared.route.Route.TheVariants as route
 use Rattle.nf_ocs.specs.Asked.{is_ocs_route, ocs_request_of}
 use Rattle.nf_ocs.specs.Read.{and_then}
 use Rattle.nf_ocs.proofs.Asks.{AsksOwn, AsksWell, IsFine, NamesNobody, fine_request}
-use Rattle.nf_dav.specs.Asked.{Gives, caller_by, caller_of, caller_of_value, destination_of, field, files_refusal, files_request, first_of, front_on, is_destination, is_stray, leads_alike, on_route, other_request, request_of, routed, second_segments, second_spot, segments_fault, ocs_request, spot_at, target_spot, transfer_refusal, unless_refused, wanted_of}
+use Rattle.nf_dav.specs.Asked.{caller_by, caller_of, caller_of_value, destination_of, field, files_refusal, files_request, first_of, front_on, Gives, is_destination, is_stray, is_trash_route, leads_alike, ocs_request, on_route, other_request, request_of, routed, second_segments, second_spot, segments_fault, spot_at, target_spot, transfer_refusal, trash_asked, trash_refusal, trash_request, unless_refused, wanted_of}
 use Rattle.nf_dav.specs.declared.fronts.Front.{Front}
 use Rattle.nf_dav.specs.declared.fronts.Front.TheVariants as fronts
 use Rattle.nf_dav.specs.declared.requests.Unasked.{Unasked}
+use Rattle.nf_words.specs.declared.request.TrashAsk.{TrashAsk}
+use Rattle.nf_words.specs.declared.request.TrashAsk.TheVariants as trash
 
 -- ---- the route and the method
 
@@ -64,6 +66,11 @@ granted : (test : Bool) (refusal : Denial) (more : Result Request Denial) (reque
 granted true refusal more request is = (refl, is)
 granted false refusal more request is = absurd (cc)
 
+either_of : (test : Bool) (one other : Result Request Denial) (request : Request) → (if test then one else other) ≡ Ok request
+    → (one ≡ Ok request) ⊎ (other ≡ Ok request)
+either_of true one other request is = inl is
+either_of false one other request is = inr is
+
 -- what is asked about shares, users and groups by a method of a route
 pub record IsAskedOfOcs (head : Head) (body : List ℕ) (request : Request) : Type 0 where
   pub route : Route
@@ -71,31 +78,50 @@ pub record IsAskedOfOcs (head : Head) (body : List ℕ) (request : Request) : Ty
   pub named : method_of head.method ≡ Some method
   pub asked : ocs_request route method head body ≡ Ok request
 
+-- what is asked about the trash bin by a method of a route
+pub record IsAskedOfTrash (head : Head) (request : Request) : Type 0 where
+  pub route : Route
+  pub method : Method
+  pub named : method_of head.method ≡ Some method
+  pub asked : trash_request route method head ≡ Ok request
+
+-- what is asked of no route to files
+abbrev pub IsAskedElsewhere : Head → List ℕ → Request → Type 0
+IsAskedElsewhere head body request = IsAskedOfOcs head body request ⊎ IsAskedOfTrash head request
+
 pub asked_there : (head : Head) (body : List ℕ) (request : Request) → request_of head body ≡ Ok request
-    → IsAskedThere head request ⊎ IsAskedOfOcs head body request
+    → IsAskedThere head request ⊎ IsAskedElsewhere head body request
 unfolding request_of
 asked_there head body request is = on (route_of head.target) refl is
   where
     which : (r : Route) (m : Method) → route_of head.target ≡ Some r → method_of head.method ≡ Some m
         → (front : Option Front) → front_on r ≡ front
         → option_map_or (λ front. files_request front m head) front (other_request r m head body) ≡ Ok request
-        → IsAskedThere head request ⊎ IsAskedOfOcs head body request
+        → IsAskedThere head request ⊎ IsAskedElsewhere head body request
     which r m at named (Some front) on is =
         inl (record { front = front; place = ap (option_and_then front_on) at ∙ on; method = m; named = named; asked = is })
     which r m at named None on is =
-        let built = granted (is_ocs_route r) denial.NotBuilt (ocs_request r m head body) request is in
-        inr (record { route = r; method = m; named = named; asked = built.1 })
+        elim (either_of (is_ocs_route r) (ocs_request r m head body) _ request is) [
+          | inl asked ↦ inr (inl (record { route = r; method = m; named = named; asked = asked }))
+          | inr other ↦
+              inr (inr (record {
+                route = r;
+                method = m;
+                named = named;
+                asked = (granted (is_trash_route r) denial.NotBuilt (trash_request r m head) request other).1;
+              }))
+        ]
 
     by : (r : Route) → route_of head.target ≡ Some r → (m : Option Method) → method_of head.method ≡ m
         → option_map_or (λ m. routed r m head body) m (Err (denial.Method r)) ≡ Ok request
-        → IsAskedThere head request ⊎ IsAskedOfOcs head body request
+        → IsAskedThere head request ⊎ IsAskedElsewhere head body request
     by r at None named is = absurd (cc)
     by r at (Some m) named is =
         which r m at named (front_on r) refl (unrefused (not (takes r m)) (denial.Method r) _ request is).1
 
     on : (r : Option Route) → route_of head.target ≡ r
         → option_map_or (λ r. on_route r (method_of head.method) head body) r (Err denial.NotFound) ≡ Ok request
-        → IsAskedThere head request ⊎ IsAskedOfOcs head body request
+        → IsAskedThere head request ⊎ IsAskedElsewhere head body request
     on None at is = absurd (cc)
     on (Some r) at is =
         by r at (method_of head.method) refl (unrefused (is_stray r (method_of head.method)) denial.NotFound _ request is).1
@@ -231,34 +257,40 @@ files_no_ocs head front place = here (whole_path head.target) refl
         rw e (by path (same_Some _ _ (ap (option_map without_slash) (sym e) ∙ there.at))
         (either_some (behind (words mount.Files) there.path) (behind (words mount.Public) there.path) there.below))
 
--- whether it is asked about shares, or about users and groups
-abbrev pub is_of_ocs_api : Wanted → Bool
-is_of_ocs_api (wanted.Share asked) = true
-is_of_ocs_api (wanted.People asked) = true
-is_of_ocs_api other = false
-
-well_of_ocs : (asked : Wanted) → AsksWell asked → is_of_ocs_api asked ≡ true
+well_of_ocs : (asked : Wanted) → AsksWell asked → is_about_files asked ≡ false
 well_of_ocs (wanted.Share asked) well = refl
 well_of_ocs (wanted.People asked) well = refl
 well_of_ocs other well = absurd well
 
 -- what is asked of an OCS route isn't anything else
 ocs_only : (asked : Result Wanted Denial) (caller : Caller) (request : Request) → IsFine AsksWell asked
-    → and_then asked (λ wanted. Ok (record { caller = caller; wanted = wanted })) ≡ Ok request → is_of_ocs_api request.wanted ≡ true
+    → and_then asked (λ wanted. Ok (record { caller = caller; wanted = wanted })) ≡ Ok request → is_about_files request.wanted ≡ false
 ocs_only (Ok asked) caller request well is =
     let same : record { caller = caller; wanted = asked } ≡ request = cc in
-    ap (λ (request : Request). is_of_ocs_api request.wanted) (sym same) ∙ well_of_ocs asked well
+    ap (λ (request : Request). is_about_files request.wanted) (sym same) ∙ well_of_ocs asked well
 ocs_only (Err refusal) caller request well is = absurd (cc)
 
-pub asked_no_ocs : (head : Head) (body : List ℕ) (request : Request) → request_of head body ≡ Ok request → is_of_ocs_api request.wanted ≡ false
+-- nor is what is asked of the trash bin
+trash_only : (refusal : Option Denial) (caller : Caller) (asked : TrashAsk) (request : Request)
+    → unless_refused refusal (record { caller = caller; wanted = wanted.Trash asked }) ≡ Ok request → is_about_files request.wanted ≡ false
+trash_only None caller asked request is =
+    let same : record { caller = caller; wanted = wanted.Trash asked } ≡ request = cc in
+    ap (λ (request : Request). is_about_files request.wanted) (sym same)
+trash_only (Some refusal) caller asked request is = absurd (cc)
+
+-- what is asked about files is asked elsewhere
+pub asked_no_ocs : (head : Head) (body : List ℕ) (request : Request) → request_of head body ≡ Ok request → is_about_files request.wanted ≡ true
     → is_ocs head.target ≡ false
 asked_no_ocs head body request is other = here (asked_there head body request is)
   where
-    here : IsAskedThere head request ⊎ IsAskedOfOcs head body request → is_ocs head.target ≡ false
+    here : IsAskedThere head request ⊎ IsAskedElsewhere head body request → is_ocs head.target ≡ false
     here (inl there) = files_no_ocs head there.front there.place
-    here (inr there) =
-        absurd (false≢true (sym other ∙ ocs_only (ocs_request_of there.route there.method head body) (caller_of head) request
-        (fine_request there.route there.method head body) there.asked))
+    here (inr (inl there)) =
+        absurd (false≢true (sym (ocs_only (ocs_request_of there.route there.method head body) (caller_of head) request
+        (fine_request there.route there.method head body) there.asked) ∙ other))
+    here (inr (inr there)) =
+        absurd (false≢true (sym (trash_only (trash_refusal there.route there.method head) (caller_of head)
+        (trash_asked there.route there.method head) request there.asked) ∙ other))
 
 pub asked_no_head : (head : Head) (body : List ℕ) (request : Request) → request_of head body ≡ Ok request → bytes_eq head.method (codes "HEAD") ≡ false
 asked_no_head head body request is = by (asked_there head body request is)
@@ -267,9 +299,10 @@ asked_no_head head body request is = by (asked_there head body request is)
     here m named true e = absurd (none-some m (sym (ap method_of ((bytes_eq-Decides head.method (codes "HEAD")).0 e)) ∙ named))
     here m named false e = refl
 
-    by : IsAskedThere head request ⊎ IsAskedOfOcs head body request → bytes_eq head.method (codes "HEAD") ≡ false
+    by : IsAskedThere head request ⊎ IsAskedElsewhere head body request → bytes_eq head.method (codes "HEAD") ≡ false
     by (inl there) = here there.method there.named (bytes_eq head.method (codes "HEAD")) refl
-    by (inr there) = here there.method there.named (bytes_eq head.method (codes "HEAD")) refl
+    by (inr (inl there)) = here there.method there.named (bytes_eq head.method (codes "HEAD")) refl
+    by (inr (inr there)) = here there.method there.named (bytes_eq head.method (codes "HEAD")) refl
 
 -- ---- what may be asked
 
@@ -417,6 +450,17 @@ may_ask_well : (caller : Caller) (asked : Wanted) → AsksWell asked → MayWant
 may_ask_well caller (wanted.Share asked) well = may_ask caller asked well
 may_ask_well caller (wanted.People asked) well = record { bounds = well; short = tt; source = tt; target = tt }
 may_ask_well caller other well = absurd well
+
+-- nor does what is asked about the trash
+may_ask_trash : (caller : Caller) (asked : TrashAsk) → MayWant (record { caller = caller; wanted = wanted.Trash asked })
+may_ask_trash caller (trash.List user) = record { bounds = tt; short = tt; source = tt; target = tt }
+may_ask_trash caller (trash.Drop user item) = record { bounds = tt; short = tt; source = tt; target = tt }
+may_ask_trash caller (trash.Empty user) = record { bounds = tt; short = tt; source = tt; target = tt }
+may_ask_trash caller (trash.Restore user item) = record { bounds = tt; short = tt; source = tt; target = tt }
+
+pub trash_may_want : (r : Route) (m : Method) (head : Head) (request : Request) → trash_request r m head ≡ Ok request → MayWant request
+trash_may_want r m head request is =
+    subst MayWant (unrefused_request (trash_refusal r m head) _ request is).1 (may_ask_trash (caller_of head) (trash_asked r m head))
 
 pub may_ask_so : (r : Route) (m : Method) (head : Head) (body : List ℕ) (caller : Caller) (asked : Wanted)
     → ocs_request_of r m head body ≡ Ok asked → MayWant (record { caller = caller; wanted = asked })

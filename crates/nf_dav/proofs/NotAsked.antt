@@ -15,6 +15,7 @@ use Rattle.nf_words.specs.declared.answer.Parameter.TheVariants as parameter
 use Rattle.nf_words.specs.declared.request.Request.{Request}
 use Rattle.nf_words.specs.declared.request.Wanted.{Wanted}
 use Rattle.nf_words.specs.declared.route.Route.{Route}
+use Rattle.nf_words.specs.declared.route.Route.TheVariants as route
 use Rattle.nf_ocs.specs.Asked.{is_ocs_route, ocs_request_of}
 use Rattle.nf_ocs.specs.Read.{and_then}
 use Rattle.nf_ocs.proofs.Asks.{AsksWell, IsFine, fine_request, is_of_ocs}
@@ -112,12 +113,34 @@ on_ocs r m head body = here (ocs_request_of r m head body) (fine_request r m hea
     here (Ok wanted) well = tt
     here (Err refusal) is = ocs_too refusal is
 
+back : (head : Head) → AreOfRequest (dav.back_refusal head)
+back head =
+    or_else _ _
+    (unless (option_map_or (dav.is_back (dav.trash_user head)) (dav.field (codes "Destination") head) false) (denial.BadParameter parameter.Destination) refl)
+    (or_else _ _ (unread_field parameter.Overwrite dav.is_overwrite (dav.field (codes "Overwrite") head))
+    (unread_field parameter.Depth dav.is_infinite (dav.field (codes "Depth") head)))
+
+item : (head : Head) → AreOfRequest (dav.item_refusal head)
+item head = unless (is_some (dav.trash_item head)) (denial.BadParameter parameter.Id) refl
+
+depth : (head : Head) → AreOfRequest (dav.depth_refusal head)
+depth head = unread_field parameter.Depth dav.is_infinite (dav.field (codes "Depth") head)
+
+trash_parameters : (r : Route) (m : Method) (head : Head) → AreOfRequest (dav.trash_parameter_refusal r m head)
+trash_parameters route.Trash method.Delete head = depth head
+trash_parameters route.TrashItem method.Delete head = or_else _ _ (depth head) (item head)
+trash_parameters route.TrashItem method.Move head = or_else _ _ (back head) (item head)
+trash_parameters r m head = tt
+
+on_trash : (r : Route) (m : Method) (head : Head) → IsOfRequest (dav.trash_request r m head)
+on_trash r m head = unless_any (dav.trash_refusal r m head) _ (or_else _ _ (trash_parameters r m head) (names _))
+
 by : (r : Route) (m : Option Method) (head : Head) (body : List ℕ)
     → IsOfRequest (option_map_or (λ m. dav.routed r m head body) m (Err (denial.Method r)))
 by r None head body = refl
 by r (Some m) head body =
     checked (not (takes r m)) _ _ refl
-    (there (dav.front_on r) (checked (is_ocs_route r) _ _ (on_ocs r m head body) refl))
+    (there (dav.front_on r) (checked (is_ocs_route r) _ _ (on_ocs r m head body) (checked (dav.is_trash_route r) _ _ (on_trash r m head) refl)))
   where
     there : (front : Option Front) → IsOfRequest (dav.other_request r m head body)
         → IsOfRequest (option_map_or (λ front. dav.files_request front m head) front (dav.other_request r m head body))

@@ -1,7 +1,7 @@
 -- The request of a message: GET, PUT and DELETE (RFC 9110, section 9.3), MKCOL, COPY and MOVE (RFC 4918, sections 9.3, 9.8 and 9.9) in
--- a user's files and in what a link shares, and what is asked about shares, users and groups (Nextcloud developer manual, OCS Share API and
--- User provisioning API), by the holder of a token (RFC 6750, section 2.1) or by whoever knows a link.
-use Rattle.std.specs.Prelude.{◌≡◌, ⊤, ℕ, Bool, true, false, ◌||◌, ◌&&◌, ◌==◌, nat_le, not, if◌then◌else◌, List, [], ◌∷◌, length, take, drop, codes, bytes_eq, Option, None, Some, is_some, Result, Ok, Err, option_map, option_and_then}
+-- a user's files and in what a link shares, what is asked about the trash bin (Nextcloud developer manual, Trashbin), and what is asked about
+-- shares, users and groups (the same, OCS Share API and User provisioning API), by the holder of a token (RFC 6750, section 2.1) or by whoever knows a link.
+use Rattle.std.specs.Prelude.{◌≡◌, ⊤, ℕ, Bool, true, false, ◌||◌, ◌&&◌, ◌==◌, nat_le, not, if◌then◌else◌, List, [], ◌∷◌, length, take, drop, codes, bytes_eq, Option, None, Some, is_some, Result, Ok, Err, option_map, option_and_then, slice_get, unwrap_or}
 use Rattle.std.specs.List.{list_any}
 use Rattle.std.specs.Option.{option_map_or, option_or}
 use Rattle.sha2.specs.Sha256.{sha256}
@@ -12,7 +12,7 @@ use Rattle.nf_http.specs.Fields.{first_value}
 use Rattle.nf_http.specs.Head.{Head, length_of}
 use Rattle.nf_routes.specs.Methods.{method_of, takes}
 use Rattle.nf_routes.specs.Mounts.{route_of}
-use Rattle.nf_routes.specs.Targets.{is_ocs, segments_of}
+use Rattle.nf_routes.specs.Targets.{is_ocs, restores, segments_of, trash_segments}
 use Rattle.nf_routes.specs.declared.methods.Method.{Method}
 use Rattle.nf_routes.specs.declared.methods.Method.TheVariants as method
 use Rattle.nf_words.specs.declared.answer.Denial.{Denial}
@@ -25,6 +25,7 @@ use Rattle.nf_words.specs.declared.request.Caller.{Caller}
 use Rattle.nf_words.specs.declared.request.Caller.TheVariants.{Absent, Token, Link}
 use Rattle.nf_words.specs.declared.request.Request.{Request}
 use Rattle.nf_words.specs.declared.request.Spot.{Spot}
+use Rattle.nf_words.specs.declared.request.TrashAsk.TheVariants as trash
 use Rattle.nf_words.specs.declared.request.Wanted.{Wanted}
 use Rattle.nf_words.specs.declared.request.Wanted.TheVariants as wanted
 use Rattle.nf_ocs.specs.Asked.{is_ocs_route, ocs_request_of}
@@ -33,6 +34,8 @@ use Rattle.nf_dav.specs.declared.fronts.Front.{Front}
 use Rattle.nf_dav.specs.declared.fronts.Front.TheVariants as fronts
 use Rattle.nf_dav.specs.declared.requests.Unasked.{Unasked}
 use Rattle.nf_dav.specs.declared.requests.Unasked.TheVariants.{Refused, Memory}
+use Rattle.nf_ocs.specs.Parameters.{number_in}
+use Rattle.nf_words.specs.declared.request.TrashAsk.{TrashAsk}
 
 -- ---- the routes to files
 
@@ -196,9 +199,67 @@ abbrev pub ocs_request : Route → Method → Head → List ℕ → Result Reque
 ocs_request route m head body =
     and_then (ocs_request_of route m head body) (λ wanted. Ok (record { caller = caller_of head; wanted = wanted }))
 
--- a request on a route where no files are; those of uploads, the trash bin and versions aren't built yet
+-- ---- the trash bin
+
+abbrev pub is_trash_route : Route → Bool
+is_trash_route route.Trash = true
+is_trash_route route.TrashItem = true
+is_trash_route other = false
+
+-- the user whose trash it is
+abbrev pub trash_user : Head → List ℕ
+trash_user head = first_of (trash_segments head.target)
+
+-- the number of an item
+abbrev pub trash_item : Head → Option ℕ
+trash_item head = option_and_then number_in (slice_get (trash_segments head.target) 2)
+
+-- a destination is where the user's items come back to, whatever it names there, without a query
+abbrev pub is_back : List ℕ → List ℕ → Bool
+is_back user value = not (list_any (λ b. b == 63) value) && restores user value
+
+abbrev pub item_refusal : Head → Option Denial
+item_refusal head = if is_some (trash_item head) then None else Some (denial.BadParameter parameter.Id)
+
+-- `destination`, `overwrite`, `depth`
+abbrev pub back_refusal : Head → Option Denial
+back_refusal head =
+    option_or (if option_map_or (is_back (trash_user head)) (field (codes "Destination") head) false then None
+    else Some (denial.BadParameter parameter.Destination))
+    (option_or (unread parameter.Overwrite is_overwrite (field (codes "Overwrite") head)) (depth_refusal head))
+
+-- of the fields that a method reads there, and the number
+abbrev pub trash_parameter_refusal : Route → Method → Head → Option Denial
+trash_parameter_refusal route.Trash method.Delete head = depth_refusal head
+trash_parameter_refusal route.TrashItem method.Delete head = option_or (depth_refusal head) (item_refusal head)
+trash_parameter_refusal route.TrashItem method.Move head = option_or (back_refusal head) (item_refusal head)
+trash_parameter_refusal route m head = None
+
+abbrev pub trash_refusal : Route → Method → Head → Option Denial
+trash_refusal route m head = option_or (trash_parameter_refusal route m head) (option_map denial.BadName (name_fault (trash_user head)))
+
+-- what is asked about it
+abbrev pub trash_ask : Route → Method → List ℕ → ℕ → TrashAsk
+trash_ask route.Trash method.Delete user item = trash.Empty user
+trash_ask route.TrashItem method.Delete user item = trash.Drop user item
+trash_ask route.TrashItem method.Move user item = trash.Restore user item
+trash_ask route m user item = trash.List user
+
+abbrev pub trash_asked : Route → Method → Head → TrashAsk
+trash_asked route m head = trash_ask route m (trash_user head) (unwrap_or (trash_item head) 0)
+
+abbrev pub trash_request : Route → Method → Head → Result Request Denial
+trash_request route m head =
+    unless_refused (trash_refusal route m head) (record { caller = caller_of head; wanted = wanted.Trash (trash_asked route m head) })
+
+-- ---- all of them
+
+-- a request on a route where no files are; those of uploads and versions aren't built yet
 abbrev pub other_request : Route → Method → Head → List ℕ → Result Request Denial
-other_request route m head body = if is_ocs_route route then ocs_request route m head body else Err denial.NotBuilt
+other_request route m head body =
+    if is_ocs_route route then ocs_request route m head body
+    else if is_trash_route route then trash_request route m head
+    else Err denial.NotBuilt
 
 abbrev pub routed : Route → Method → Head → List ℕ → Result Request Denial
 routed route m head body =

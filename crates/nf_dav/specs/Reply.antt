@@ -26,6 +26,7 @@ use Rattle.nf_words.specs.declared.answer.TargetFault.{TargetFault}
 use Rattle.nf_words.specs.declared.answer.TargetFault.TheVariants as target
 use Rattle.nf_words.specs.declared.route.Route.{Route}
 use Rattle.nf_dav.specs.declared.replies.Manner.{Manner}
+use Rattle.nf_words.specs.declared.listing.ItemLine.{ItemLine}
 use Rattle.nf_words.specs.declared.listing.ListingLine.{ListingLine}
 use Rattle.nf_words.specs.declared.sharing.ShareLine.{ShareLine}
 use Rattle.nf_ocs.specs.Told.{plain_body, share_body, shares_body}
@@ -325,6 +326,21 @@ listing_object listing = object (member (codes "entries") (array (items_of (map 
 abbrev pub listing_body : List ListingLine → List ℕ
 listing_body listing = compact_text (listing_object listing)
 
+-- the object of an item of the trash, by rising key
+abbrev pub item_object : ItemLine → Data
+item_object item =
+    object
+    (member (codes "at") (number (unsigned item.at))
+    (member (codes "id") (number (unsigned item.id))
+    (member (codes "kind") (string (kind_word item.kind))
+    (member (codes "name") (string item.name) (member (codes "size") (number (unsigned item.size)) no_members)))))
+
+abbrev pub trash_object : List ItemLine → Data
+trash_object items = object (member (codes "items") (array (items_of (map item_object items))) no_members)
+
+abbrev pub trash_body : List ItemLine → List ℕ
+trash_body items = compact_text (trash_object items)
+
 -- an answer whose body is that JSON
 abbrev pub json_reply : Bool → List ℕ → List ℕ
 json_reply close body = head_bytes (codes "200 OK") close [] (codes "application/json") (length body) ++ body
@@ -332,6 +348,10 @@ json_reply close body = head_bytes (codes "200 OK") close [] (codes "application
 -- the answer to what is listed
 abbrev pub listing_reply : Bool → List ListingLine → List ℕ
 listing_reply close listing = json_reply close (listing_body listing)
+
+-- and to what is in the trash
+abbrev pub items_reply : Bool → List ItemLine → List ℕ
+items_reply close items = json_reply close (trash_body items)
 
 -- that to what is asked about shares: a share, some shares, or nothing more
 abbrev pub share_reply : Bool → ShareLine → List ℕ

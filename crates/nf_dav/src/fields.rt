@@ -55,7 +55,8 @@ fn transfer_segments(
     Ok(destination)
 }
 
-fn unread(parameter: Parameter) -> Unasked
+/// The refusal of a parameter.
+pub(crate) fn unread(parameter: Parameter) -> Unasked
     ensures { result ≡ Refused (BadParameter parameter) }
 {
     Unasked::Refused(Denial::BadParameter(parameter))
@@ -105,7 +106,8 @@ fn front_at(routes: &Routes, alloc: Global, target: &[u8]) -> Result<Option<Fron
     }
 }
 
-fn has_query(target: &[u8]) -> bool
+/// Whether something stands behind a `?`.
+pub(crate) fn has_query(target: &[u8]) -> bool
     ensures { result ≡ list_any (λ byte. byte == 63) target.now }
 {
     target.contains(&b'?')
@@ -121,8 +123,8 @@ pub fn overwrites(message: &Message) -> bool
     }
 }
 
-// Whether there is an Overwrite that can't be read.
-fn has_bad_overwrite(message: &Message) -> bool
+/// Whether there is an Overwrite that can't be read.
+pub(crate) fn has_bad_overwrite(message: &Message) -> bool
     ensures { unread_by parameter.Overwrite is_overwrite (field (codes "Overwrite") message.now) ≡ (if result then Some (BadParameter parameter.Overwrite) else None) }
 {
     match message.field(b"Overwrite") {
@@ -131,8 +133,8 @@ fn has_bad_overwrite(message: &Message) -> bool
     }
 }
 
-// Whether there is a Depth that is less deep than all.
-fn has_bad_depth(message: &Message) -> bool
+/// Whether there is a Depth that is less deep than all.
+pub(crate) fn has_bad_depth(message: &Message) -> bool
     ensures { depth_refusal message.now ≡ (if result then Some (BadParameter parameter.Depth) else None) }
 {
     match message.field(b"Depth") {

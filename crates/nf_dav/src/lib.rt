@@ -8,9 +8,10 @@ mod refusals;
 mod replies;
 mod requests;
 mod spots;
+mod trash;
 mod words;
 
 pub use replies::{
-    Manner, continue_answer, done, file_head, listing, made, plain, refusal, share, shares,
+    Manner, continue_answer, done, file_head, items, listing, made, plain, refusal, share, shares,
 };
 pub use requests::{Unasked, request, wants_body};

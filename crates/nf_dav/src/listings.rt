@@ -1,13 +1,13 @@
-//! The JSON of listings (RFC 8259).
+//! The JSON of listings and of the trash (RFC 8259).
 
 ghost use Rattle.std.specs.Prelude.{◌≡◌, IfOk, map};
 ghost use Rattle.std.specs.String.{string_bytes};
 ghost use Rattle.serde_json.specs.View.{view};
-ghost use Rattle.nf_dav.specs.Reply.{kind_word as word_of_kind, line_object, listing_body, listing_object};
+ghost use Rattle.nf_dav.specs.Reply.{item_object, kind_word as word_of_kind, line_object, listing_body, listing_object, trash_body, trash_object};
 
 use nf_base::NodeKind;
 use nf_json::{Said, object_of, text_of};
-use nf_words::{Listing, ListingLine};
+use nf_words::{ItemLine, Items, Listing, ListingLine};
 use serde_json::{Value, json};
 use std::alloc::{AllocError, Global};
 
@@ -52,6 +52,46 @@ fn line_value(alloc: Global, line: &ListingLine) -> Result<Value, AllocError>
                 Said::Number(u64::from(line.permissions.bits())),
             ),
             ("size", Said::Number(line.size)),
+        ],
+    )
+}
+
+/// The text of what is in the trash.
+#[tactic(auto, using(crate::proofs::Floats::trash_has_no_float))]
+pub fn items_text(alloc: Global, items: &Items) -> Result<String, AllocError>
+    ensures { IfOk result (λ text. string_bytes text ≡ trash_body items.now) }
+{
+    items_value(alloc, items)?.to_string(alloc)
+}
+
+fn items_value(alloc: Global, items: &Items) -> Result<Value, AllocError>
+    ensures { IfOk result (λ value. view value ≡ trash_object items.now) }
+{
+    let lines = item_values(alloc, items.lines())?;
+    json!(in alloc; {"items": lines})
+}
+
+fn item_values(alloc: Global, items: &[ItemLine]) -> Result<Vec<Value>, AllocError>
+    ensures { IfOk result (λ values. map view values.items ≡ map item_object items.now) }
+{
+    let mut values = Vec::with_capacity(alloc, items.len())?;
+    for item in items {
+        values.push(item_value(alloc, item)?)?;
+    }
+    Ok(values)
+}
+
+fn item_value(alloc: Global, item: &ItemLine) -> Result<Value, AllocError>
+    ensures { IfOk result (λ value. view value ≡ item_object item.now) }
+{
+    object_of(
+        alloc,
+        &[
+            ("at", Said::Number(item.at.seconds())),
+            ("id", Said::Number(item.id.number())),
+            ("kind", Said::Text(kind_word(item.kind))),
+            ("name", Said::Text(text_of(&item.name))),
+            ("size", Said::Number(item.size)),
         ],
     )
 }

@@ -2,14 +2,14 @@
 
 ghost use Rattle.std.specs.Prelude.{◌≡◌, ◌++◌, IfOk, codes, length};
 ghost use Rattle.std.specs.String.{string_bytes};
-ghost use Rattle.nf_dav.specs.Reply.{own_line as own, allow_line as allowing, close_line as closing, continue_reply, head_bytes, json_reply, plain_reply, refusal_reply, listing_reply, made_reply, share_reply, shares_reply, done_reply, file_head as head_of_file};
+ghost use Rattle.nf_dav.specs.Reply.{own_line as own, allow_line as allowing, close_line as closing, continue_reply, head_bytes, items_reply, json_reply, plain_reply, refusal_reply, listing_reply, made_reply, share_reply, shares_reply, done_reply, file_head as head_of_file};
 
-use crate::listings::listing_text;
+use crate::listings::{items_text, listing_text};
 use crate::refusals::refusal_text;
 use crate::words::status;
 use nf_ocs::{plain_text, share_text, shares_text};
 use nf_routes::allow;
-use nf_words::{Denial, Listing, Route, ShareLine, ShareLines};
+use nf_words::{Denial, Items, Listing, Route, ShareLine, ShareLines};
 use std::alloc::{AllocError, Global};
 
 /// How a refusal is written.
@@ -49,6 +49,13 @@ pub fn listing(alloc: Global, listing: &Listing, close: bool) -> Result<Vec<u8>,
     ensures { IfOk result (λ reply. reply.items ≡ listing_reply close listing.now) }
 {
     json(alloc, &listing_text(alloc, listing)?, close)
+}
+
+/// The answer to what is in the trash.
+pub fn items(alloc: Global, items: &Items, close: bool) -> Result<Vec<u8>, AllocError>
+    ensures { IfOk result (λ reply. reply.items ≡ items_reply close items.now) }
+{
+    json(alloc, &items_text(alloc, items)?, close)
 }
 
 /// The answer to what is asked about one share.

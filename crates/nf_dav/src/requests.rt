@@ -13,6 +13,7 @@ ghost use Rattle.nf_dav.specs.Asked.{Gives, GivesRequest, IsGiven, body_refusal,
 use crate::fields::{overwrites, second_segments};
 use crate::fronts::{Front, first, front_on};
 use crate::spots::{name, spot};
+use crate::trash::{is_trash_route, trash_request};
 use nf_base::{Digest, MAX_OCS_BODY};
 use nf_http::Message;
 use nf_ocs::{Unread, is_ocs_route};
@@ -115,7 +116,7 @@ fn files_request(
     })
 }
 
-// A request on a route where no files are. Those of uploads, the trash bin and versions aren't built yet.
+// A request on a route where no files are. Those of uploads and versions aren't built yet.
 fn other_request(
     alloc: Global,
     route: Route,
@@ -128,6 +129,8 @@ fn other_request(
 {
     if is_ocs_route(route) {
         ocs_request(alloc, route, method, message, body)
+    } else if is_trash_route(route) {
+        trash_request(alloc, route, method, message)
     } else {
         Err(Unasked::Refused(Denial::NotBuilt))
     }
@@ -205,8 +208,8 @@ fn caller_by(
     }
 }
 
-// The caller of an Authorization field.
-fn caller(value: Option<&[u8]>) -> Caller
+/// The caller of an Authorization field.
+pub(crate) fn caller(value: Option<&[u8]>) -> Caller
     ensures { result ≡ caller_of_value (option_copied value.entry) }
 {
     let Some(value) = value else {

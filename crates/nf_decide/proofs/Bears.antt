@@ -32,6 +32,7 @@ use Rattle.nf_words.proofs.Known.{Known, KnownCopies}
 use Rattle.nf_decide.specs.Current.{AreBorne, AreGiven, BearsAct, BearsChanges, BearsCopies, IsBorne, IsCounted, IsNew, IsRequoted, added_by, is_fresh}
 use Rattle.nf_decide.proofs.Putting.{count_by-cons, counts_none, counts_one}
 use Rattle.nf_decide.proofs.Copies.{AreNumbered, copies_count, copies_next}
+use Rattle.nf_decide.proofs.Trashing.{deed_nodes, trash_bears}
 use Rattle.nf_decide.proofs.Leading.{copies_lead, leads_born, leads_rooted, leads_row, sound_leads}
 
 pub sound_given : (t : Tables) → AreSound t → AreGiven t
@@ -298,7 +299,7 @@ known_bears t now (allowed.Get node content) sound known = tt
 known_bears t now (allowed.List listing) sound known = tt
 known_bears t now (allowed.Put by key length) sound known = tt
 known_bears t now (allowed.Change changes blob report) sound known = changes_bear t now changes blob sound known
-known_bears t now (allowed.Delete node) sound known = tt
+known_bears t now (allowed.Trash did gone report) sound known = trash_bears t now did gone sound known
 known_bears t now (allowed.Move transfer name) sound known = record {
   there =
       cleared_there t.nodes transfer.node transfer.replaced (ap (λ (o : Option NodeRow). is_some o) known.known.source.1) known.known.apart;
@@ -321,7 +322,7 @@ known_few t now (allowed.List listing) sound known = omega (arith, sound.few_nod
 known_few t now (allowed.Put by key length) sound known = omega (arith, sound.few_nodes)
 known_few t now (allowed.Change changes blob report) sound known =
     rows_few t blob (raised t now changes blob) changes sound.rising sound.few_nodes known.rows
-known_few t now (allowed.Delete node) sound known = omega (arith, sound.few_nodes)
+known_few t now (allowed.Trash did gone report) sound known = omega (arith, sound.few_nodes, deed_nodes did)
 known_few t now (allowed.Move transfer name) sound known = omega (arith, sound.few_nodes)
 known_few t now (allowed.Copy rows replaced) sound known = copies_fit t now rows replaced known
 known_few t now (allowed.Cross rows replaced node) sound known = copies_fit t now rows replaced known.copies

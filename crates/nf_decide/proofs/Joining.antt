@@ -14,6 +14,7 @@ use Rattle.nf_base.specs.declared.rows.ShareRow.{ShareRow}
 use Rattle.nf_base.specs.declared.rows.UserRow.{UserRow}
 use Rattle.nf_defs.specs.Prelude.{node_row, put, Tables, user_key, user_row, with_quota}
 use Rattle.nf_words.proofs.Found.{found_has, found_passes}
+use Rattle.nf_words.proofs.Ways.{present_row}
 use Rattle.nf_words.specs.Prelude.{AreSound, is_joined, IsShareSound, mounts_joined}
 use Rattle.nf_decide.specs.Current.{IsAdded, IsRequoted}
 
@@ -29,7 +30,7 @@ nodes_there t row sound =
     (λ k d within.
     let joined = filter_passes (is_joined row) t.shares k d within in
     let fine = All-filter (is_joined row) (IsShareSound t) t.shares sound.others.shares k d within in
-    fine.present (not-true _ (and_parts _ _ (and_parts _ _ joined).0).0))
+    ap is_some (present_row t.nodes _ (fine.present (not-true _ (and_parts _ _ (and_parts _ _ joined).0).0))).1)
 
 pub nodes_few : (t : Tables) (row : MemberRow) → AreSound t → length (nodes_of t row) ≤ MAX_SHARES
 nodes_few t row sound =

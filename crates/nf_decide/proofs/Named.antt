@@ -14,8 +14,9 @@ use Rattle.nf_words.specs.declared.answer.TargetFault.TheVariants as fault
 use Rattle.nf_words.specs.declared.request.ShareAsk.TheVariants as ask
 use Rattle.nf_words.specs.declared.request.Spot.{Spot}
 use Rattle.nf_words.specs.declared.request.Transfer.{Transfer}
+use Rattle.nf_words.specs.declared.request.TrashAsk.TheVariants as trash
 use Rattle.nf_words.specs.declared.request.Wanted.{Wanted}
-use Rattle.nf_words.specs.declared.request.Wanted.TheVariants.{Get, Put, Mkcol, Delete, Move, Copy, Share, People}
+use Rattle.nf_words.specs.declared.request.Wanted.TheVariants.{Get, Put, Mkcol, Delete, Move, Copy, Share, People, Trash}
 use Rattle.nf_words.proofs.Passing.{no_fault}
 use Rattle.nf_decide.specs.Deciding.{IsNamed}
 
@@ -75,6 +76,10 @@ module _ (call : Call) where
   moved_named (Share (ask.Set share perms until)) fits some = tt
   moved_named (Share (ask.End share)) fits some = tt
   moved_named (People ask) fits some = tt
+  moved_named (Trash (trash.List user)) fits some = tt
+  moved_named (Trash (trash.Drop user item)) fits some = tt
+  moved_named (Trash (trash.Empty user)) fits some = tt
+  moved_named (Trash (trash.Restore user item)) fits some = tt
   moved_named (Copy source target overwrite) fits some = named_between source target false fits
   moved_named (Move source target overwrite) fits some = named_between source target (way_of call source).itself fits
 
@@ -91,6 +96,10 @@ module _ (call : Call) where
   renamed_named (Share (ask.Set share perms until)) fits renames = tt
   renamed_named (Share (ask.End share)) fits renames = tt
   renamed_named (People ask) fits renames = tt
+  renamed_named (Trash (trash.List user)) fits renames = tt
+  renamed_named (Trash (trash.Drop user item)) fits renames = tt
+  renamed_named (Trash (trash.Empty user)) fits renames = tt
+  renamed_named (Trash (trash.Restore user item)) fits renames = tt
   renamed_named (Copy source target overwrite) fits renames = named_between source target false fits
   renamed_named (Move source target overwrite) fits renames = named_between source target (way_of call source).itself fits
 

@@ -5,7 +5,7 @@ use Rattle.std.proofs.lemmas.List.Elements.{All-filter, All-weaker}
 use Rattle.std.proofs.lemmas.List.Filters.{length-filter_both}
 use Rattle.nf_base.specs.declared.rows.NodeRow.{NodeRow}
 use Rattle.nf_defs.specs.Tree.{is_under}
-use Rattle.nf_words.specs.Changes.{cleared}
+use Rattle.nf_words.specs.Deeds.{cleared}
 
 -- what is below a number is below a greater one
 pub given_below : (rows : List NodeRow) (next id : ℕ) → next ≤ id → All (λ (row : NodeRow). row.id < next) rows → All (λ (row : NodeRow). row.id < id) rows

@@ -6,7 +6,7 @@ use Rattle.nf_base.specs.declared.rows.NodeRow.{NodeRow}
 use Rattle.nf_base.specs.declared.rows.UserRow.{UserRow}
 use Rattle.nf_charge.specs.Sums.{bytes_under}
 use Rattle.nf_defs.specs.Prelude.{Tables, user_row}
-use Rattle.nf_laws.proofs.Charging.{charge_owned}
+use Rattle.nf_laws.proofs.Charging.{charge_beside}
 use Rattle.nf_laws.proofs.Sizes.{nothing}
 use Rattle.nf_laws.proofs.Upwards.{owners_there}
 use Rattle.nf_laws.proofs.Weighing.{charge_rooted, size_under}
@@ -38,4 +38,4 @@ owns_none t user sound none k d within =
     rw (ne_eqb row.owner user (λ e. false≢true (sym (ap is_some (ap (user_row t.users) e ∙ none)) ∙ there))) refl
 
 pub no_charge : (t : Tables) (user : ℕ) → AreSound t → user_row t.users user ≡ None → 0 ≡ charge_of t user
-no_charge t user sound none = sym (charge_owned t user sound ∙ nothing (owned_bytes user) t.nodes (owns_none t user sound none))
+no_charge t user sound none = omega (arith, charge_beside t user, nothing (owned_bytes user) t.nodes (owns_none t user sound none))

@@ -10,7 +10,8 @@ use Rattle.std.proofs.lemmas.List.{append-nil}
 use Rattle.nf_defs.specs.Prelude.{children_of, node_row, Tables, walk_of, walk_within}
 use Rattle.std.specs.List.{flat_map}
 use Rattle.nf_tree.proofs.Walks.{walk_down}
-use Rattle.nf_words.specs.Changes.{cleared, gone_for, gone_under, stamped, transferred_row}
+use Rattle.nf_words.specs.Changes.{stamped, transferred_row}
+use Rattle.nf_words.specs.Deeds.{cleared, gone_for, gone_under}
 use Rattle.nf_words.specs.declared.request.Transfer.{Transfer}
 
 pub stamped_some : (before after : Tables) (now : ℕ) (changes : List Change) → changes ≢ []

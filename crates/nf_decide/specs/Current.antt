@@ -1,5 +1,5 @@
 -- The state of the site as the program holds it.
-use Rattle.std.specs.Prelude.{◌≡◌, ◌⊎◌, ℕ, ◌+◌, ◌<◌, ◌≤◌, nat_lt, All, AllPairs, Bool, true, false, not, List, [], ◌∷◌, ◌++◌, count_by, length, max, slice_get, take, Option, None, Some, IsSome}
+use Rattle.std.specs.Prelude.{◌≡◌, ◌⊎◌, ℕ, ◌+◌, ◌<◌, ◌≤◌, ◌==◌, nat_lt, All, AllPairs, Bool, true, false, not, List, [], ◌∷◌, ◌++◌, count_by, length, max, slice_get, take, Option, None, Some, IsSome}
 use Rattle.nf_access.specs.Shares.{share_row}
 use Rattle.nf_base.specs.declared.changes.Change.{Change}
 use Rattle.nf_base.specs.declared.changes.Change.TheVariants.{Put, Drop}
@@ -17,8 +17,11 @@ use Rattle.nf_defs.specs.Prelude.{filled, group_named, is_folder_kind, made, nod
 use Rattle.nf_words.specs.Prelude.{blob_after, cleared, goal_of, IsNewMember, IsNewToken, last_number, last_short, State}
 use Rattle.nf_words.specs.declared.answer.Allowed.{Allowed}
 use Rattle.nf_words.specs.declared.answer.Allowed.TheVariants as allowed
+use Rattle.nf_words.specs.declared.answer.Deed.{Deed}
+use Rattle.nf_words.specs.declared.answer.Deed.TheVariants as deed
 use Rattle.nf_words.specs.declared.request.Transfer.{Transfer}
 use Rattle.nf_decide.specs.Counts.{FitsRows, only_nodes}
+use Rattle.nf_decide.specs.Gone.{TellsTrash}
 use Rattle.nf_decide.specs.declared.counts.RowCounts.{RowCounts}
 use Rattle.nf_decide.specs.declared.telling.Counted.{Counted}
 use Rattle.nf_decide.specs.declared.telling.Counted.TheVariants as counted
@@ -51,6 +54,11 @@ abbrev pub puts_mount : Change → Bool
 puts_mount (Put (rows.Mount row)) = true
 puts_mount other = false
 
+-- and an item of the trash
+abbrev pub puts_item : Change → Bool
+puts_item (Put (rows.Item row)) = true
+puts_item other = false
+
 -- a user, new or not
 abbrev pub puts_user : Change → Bool
 puts_user (Put (rows.User row)) = true
@@ -74,6 +82,7 @@ abbrev pub is_counted : Counted → Change → Bool
 is_counted (counted.Fresh next) = is_fresh next
 is_counted counted.Share = puts_share
 is_counted counted.Mount = puts_mount
+is_counted counted.Item = puts_item
 is_counted counted.User = puts_user
 is_counted counted.Token = puts_token
 is_counted counted.Group = puts_group
@@ -89,7 +98,15 @@ added_of next changes = record {
   nodes = count_by (is_fresh next) changes;
   shares = count_by puts_share changes;
   mounts = count_by puts_mount changes;
+  items = count_by puts_item changes;
 }
+
+-- how many rows a deed adds at most: an item, or a user
+abbrev pub added_deed : Deed → RowCounts
+added_deed deed.Nothing = only_nodes 0
+added_deed (deed.Discard item) = record (only_nodes 0) { items = 1 }
+added_deed (deed.Restore node folder name) = only_nodes 0
+added_deed (deed.Requote row) = record (only_nodes 0) { users = 1 }
 
 -- how many rows an act adds at most
 abbrev pub added_by : Tables → Allowed → RowCounts
@@ -97,7 +114,7 @@ added_by t (allowed.Get node content) = only_nodes 0
 added_by t (allowed.List listing) = only_nodes 0
 added_by t (allowed.Put by key length) = only_nodes 0
 added_by t (allowed.Change changes blob report) = added_of t.meta.next_node changes
-added_by t (allowed.Delete node) = only_nodes 0
+added_by t (allowed.Trash did gone report) = added_deed did
 added_by t (allowed.Move transfer name) = only_nodes 0
 added_by t (allowed.Copy rows replaced) = only_nodes (length rows)
 added_by t (allowed.Cross rows replaced node) = only_nodes (length rows)
@@ -148,10 +165,11 @@ pub record IsFounded (old : List GroupRow) (row : GroupRow) : Type 0 where
   pub unnamed : group_named old row.name ≡ None
   pub few : length old + 1 ≤ MAX_GROUPS
 
--- the key is that of a member
-abbrev pub IsOfMember : RowKey → Type 0
-IsOfMember (keys.Member group user) = Unit {0}
-IsOfMember key = ⊥
+-- the key is that of a member or of an item of the trash
+abbrev pub IsDroppedKey : RowKey → Type 0
+IsDroppedKey (keys.Member group user) = Unit {0}
+IsDroppedKey (keys.Item node) = Unit {0}
+IsDroppedKey key = ⊥
 
 -- a change can be borne by the tables that it meets, where that was the next number of a node at first: a share that is there stays
 -- on its node, and a new token or member is no other's
@@ -160,10 +178,11 @@ IsBorne next t (Put (rows.User row)) = IsAdded t.users row ⊎ IsRequoted t.user
 IsBorne next t (Put (rows.Token row)) = IsNewToken t row
 IsBorne next t (Put (rows.Group row)) = IsFounded t.groups row
 IsBorne next t (Put (rows.Member row)) = IsNewMember t row
-IsBorne next t (Drop key) = IsOfMember key
+IsBorne next t (Drop key) = IsDroppedKey key
 IsBorne next t (Put (rows.Node row)) = ((next ≤ row.id) × IsNew t.nodes row) ⊎ ((row.id < next) × IsRefilled t.nodes row)
 IsBorne next t (Put (rows.Share row)) = (old : ShareRow) → share_row t.shares row.id ≡ Some old → old.node ≡ row.node
 IsBorne next t (Put (rows.Mount row)) = Unit {0}
+IsBorne next t (Put (rows.Item row)) = Unit {0}
 IsBorne next t other = ⊥
 
 abbrev pub AreBorne : ℕ → Tables → List Change → Type 0
@@ -176,10 +195,11 @@ IsCounted meta (Put (rows.User row)) = row.id + 1 ≤ max meta.next_user last_sh
 IsCounted meta (Put (rows.Token row)) = Unit {0}
 IsCounted meta (Put (rows.Group row)) = row.id + 1 ≤ max meta.next_group last_short
 IsCounted meta (Put (rows.Member row)) = Unit {0}
-IsCounted meta (Drop key) = IsOfMember key
+IsCounted meta (Drop key) = IsDroppedKey key
 IsCounted meta (Put (rows.Node row)) = row.id + 1 ≤ max meta.next_node last_number
 IsCounted meta (Put (rows.Share row)) = row.id + 1 ≤ max meta.next_share last_number
 IsCounted meta (Put (rows.Mount row)) = Unit {0}
+IsCounted meta (Put (rows.Item row)) = Unit {0}
 IsCounted meta other = ⊥
 
 pub record BearsChanges (t : Tables) (changes : List Change) (blob : Option ℕ) : Type 0 where
@@ -201,13 +221,35 @@ pub record BearsCopies (t : Tables) (rows : List NodeRow) (replaced : Option ℕ
   pub numbers : HasNumbers t rows
   pub leads : LeadUpBehind (cleared t.nodes replaced) rows
 
+-- what comes back is there, and where it comes to each node leads up
+pub record BearsRestore (t : Tables) (node folder : ℕ) (name : List ℕ) : Type 0 where
+  pub there : IsSome (node_row t.nodes node)
+  pub leads : LeadUp (with_node t.nodes node (relinked folder name))
+
+-- so is what is put in the trash; and who has another quota is there
+abbrev pub BearsDeed : Tables → Deed → Type 0
+BearsDeed t deed.Nothing = Unit {0}
+BearsDeed t (deed.Discard item) = IsSome (node_row t.nodes item.node)
+BearsDeed t (deed.Restore node folder name) = BearsRestore t node folder name
+BearsDeed t (deed.Requote row) = IsRequoted t.users row
+
+-- a deed can be borne, and what goes for good is told of the tables before
+pub record BearsTrash (t : Tables) (did : Deed) (gone : List ℕ) : Type 0 where
+  pub borne : BearsDeed t did
+  pub tells : TellsTrash t did gone
+
+-- nothing is done, and nothing goes
+abbrev pub does_nothing : Deed → List ℕ → Bool
+does_nothing deed.Nothing gone = length gone == 0
+does_nothing did gone = false
+
 -- the tables can bear an act
 abbrev pub BearsAct : Tables → Allowed → Type 0
 BearsAct t (allowed.Get node content) = Unit {0}
 BearsAct t (allowed.List listing) = Unit {0}
 BearsAct t (allowed.Put by key length) = Unit {0}
 BearsAct t (allowed.Change changes blob report) = BearsChanges t changes blob
-BearsAct t (allowed.Delete node) = Unit {0}
+BearsAct t (allowed.Trash did gone report) = BearsTrash t did gone
 BearsAct t (allowed.Move transfer name) = BearsMove t transfer name
 BearsAct t (allowed.Copy rows replaced) = BearsCopies t rows replaced
 BearsAct t (allowed.Cross rows replaced node) = BearsCopies t rows replaced

@@ -2,14 +2,20 @@
 use Rattle.std.specs.Option.{option_or}
 use Rattle.std.specs.Prelude.{◌≡◌, ◌≢◌, true, List, [], ◌∷◌, Option, None, Some, IsSome, IfSome, option_map, Result, Ok, Err}
 use Rattle.nf_access.specs.Shares.{ground_of}
+use Rattle.nf_base.specs.declared.rows.ItemRow.{ItemRow}
 use Rattle.nf_defs.specs.Access.{Access}
-use Rattle.nf_defs.specs.Prelude.{node_row, Tables}
+use Rattle.nf_defs.specs.Prelude.{item_row, node_row, Tables}
 use Rattle.nf_reach.specs.Asking.{Asking}
+use Rattle.nf_words.specs.Homes.{home_of, name_back}
 use Rattle.nf_words.specs.Prelude.{asked_by, Call, earlier_rules, exists_rule, first_that_holds, is_mount_asked, key_in_way, later_rules, limited, overwrite_rule, places_of, root_of, Rule, seeker_of, sharing_rule, target_rule, touches, transfer_of, ways_of}
 use Rattle.nf_words.specs.declared.answer.Denial.{Denial}
 use Rattle.nf_words.specs.declared.answer.Denial.TheVariants as denial
 use Rattle.nf_words.specs.declared.answer.Limit.{Limit}
+use Rattle.nf_words.specs.declared.answer.LockKey.{LockKey}
+use Rattle.nf_words.specs.declared.answer.LockKey.TheVariants.{Slot}
 use Rattle.nf_words.specs.Sharing.{limit_by, offered}
+use Rattle.nf_words.specs.declared.request.Making.{Making}
+use Rattle.nf_words.specs.declared.request.Making.TheVariants as making
 use Rattle.nf_words.specs.declared.request.Offer.{Offer}
 use Rattle.nf_words.specs.declared.request.Places.{Places}
 use Rattle.nf_words.specs.declared.request.ShareAsk.{ShareAsk}
@@ -41,7 +47,16 @@ late_refusal access call = first_that_holds later_rules access call
 abbrev pub locked_at : Call → Places → Option Denial
 locked_at call places =
     option_map denial.Locked
-    (key_in_way call.state.tables.nodes call.seat (touches call.state.tables.nodes (asked_by call) places) call.state.tickets)
+    (key_in_way call.state.tables.nodes call.seat (touches call.state.tables (asked_by call) places) call.state.tickets)
+
+-- the name that an item takes where it comes back
+abbrev pub slot_of : Tables → ItemRow → LockKey
+slot_of t item = Slot (home_of t item) (name_back t item)
+
+-- the one that what comes back takes, if something does
+abbrev pub slot_back : Tables → Making → Option LockKey
+slot_back t (making.Restored item) = option_map (slot_of t) (item_row t.items item)
+slot_back t other = None
 
 -- the limit that is passed, by where the paths were found to lead: of nodes and pieces, or else of shares, mounts and people
 abbrev pub passed_at : Call → Places → Option Limit

@@ -6,3 +6,4 @@ pub mod Ending
 pub mod Listed
 pub mod Counts
 pub mod Linked
+pub mod Gone

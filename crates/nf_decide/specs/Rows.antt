@@ -1,5 +1,6 @@
 -- The tables as the program holds them.
 use Rattle.std.specs.Prelude.{List}
+use Rattle.nf_base.specs.declared.rows.ItemRow.{ItemRow}
 use Rattle.nf_base.specs.declared.rows.MetaRow.{MetaRow}
 use Rattle.nf_base.specs.declared.rows.MountRow.{MountRow}
 use Rattle.nf_base.specs.declared.rows.NodeRow.{NodeRow}
@@ -9,8 +10,8 @@ use Rattle.nf_decide.specs.declared.counts.RowCounts.{RowCounts}
 use Rattle.nf_people.specs.People.{PeopleValue}
 
 -- the tables of the rows of each kind that is built; there are none of the others
-abbrev pub tables_in : MetaRow → PeopleValue → List NodeRow → List ShareRow → List MountRow → Tables
-tables_in meta people nodes shares mounts = record no_rows {
+abbrev pub tables_in : MetaRow → PeopleValue → List NodeRow → List ShareRow → List MountRow → List ItemRow → Tables
+tables_in meta people nodes shares mounts items = record no_rows {
   meta = meta;
   users = people.users;
   tokens = people.tokens;
@@ -19,6 +20,7 @@ tables_in meta people nodes shares mounts = record no_rows {
   nodes = nodes;
   shares = shares;
   mounts = mounts;
+  items = items;
 }
 
 -- the tables, and how many rows fit without more memory

@@ -1,14 +1,17 @@
 //! What each act may do where its paths lead. Where a rule refuses it, nothing.
 
-ghost use Rattle.std.specs.Prelude.{◌≡◌, ◌≢◌, ℕ, IfOk, IfSome, IsSome, None, Some, [], ◌∷◌};
+ghost use Rattle.std.specs.Prelude.{◌≡◌, ◌≢◌, ℕ, IfOk, IfSome, IsSome, None, Some, [], ◌∷◌, option_and_then, option_copied};
 ghost use Rattle.nf_base.specs.declared.changes.Change.TheVariants.{Put};
 ghost use Rattle.nf_base.specs.declared.rows.Row.TheVariants as kinds;
 ghost use Rattle.nf_base.specs.Kept.{IsPlain};
+ghost use Rattle.nf_defs.specs.Prelude.{node_row};
 ghost use Rattle.nf_defs.specs.declared.Found.TheVariants.{Free};
-ghost use Rattle.nf_words.specs.Prelude.{carried, carry_limit, copied, copy_limit, deleted, last_name, made_folder, makes, moved, new_node, stored};
+ghost use Rattle.nf_words.specs.Prelude.{AreSound, carried, carry_limit, copied, copy_limit, deleted, last_name, made_folder, makes, moved, new_node, stored};
 
 use crate::copying::copies_to;
+use crate::discarding::discard;
 use crate::nodes::owner_of;
+use crate::shared::nothing_done;
 use crate::transferring::crosses;
 use crate::view::View;
 use nf_base::{
@@ -91,14 +94,27 @@ pub(crate) fn made_folder(
     }
 }
 
-/// DELETE removes the node that is there with all under it.
-pub(crate) fn deleted(node: Option<NodeId>) -> Allowed
-    ensures { result ≡ deleted node }
+/// DELETE puts the node that is there in the trash, with all under it, unless the trash can't hold it.
+pub(crate) fn deleted(
+    alloc: Global,
+    view: &View<'_>,
+    moment: Moment,
+    node: Option<NodeId>,
+) -> Result<Allowed, AllocError>
+    requires { AreSound view.now.tables }
+    ensures { IfOk result (λ allowed. allowed ≡ deleted view.now.tables moment node) }
 {
-    match node {
-        Some(node) => Allowed::Delete(node),
-        None => Allowed::Close,
+    match row_of(view, node) {
+        Some(row) => discard(alloc, view, moment, row),
+        None => Ok(nothing_done(alloc)),
     }
+}
+
+/// The row of a node, if there is one.
+fn row_of<'a>(view: &'a View<'_>, node: Option<NodeId>) -> Option<&'a NodeRow>
+    ensures { option_copied result ≡ option_and_then (node_row view.now.tables.nodes) node }
+{
+    view.tree().node(node?)
 }
 
 /// MOVE puts the node that is there into the target's folder, under the target's name. What goes to another owner is copied there, and

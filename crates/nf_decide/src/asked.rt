@@ -1,6 +1,7 @@
 //! What a request asks for, and what its paths lead to.
 
-ghost use Rattle.std.specs.Prelude.{◌≡◌, option_copied};
+ghost use Rattle.std.specs.Prelude.{◌≡◌, option_copied, true};
+ghost use Rattle.std.specs.Option.{option_map_or};
 ghost use Rattle.nf_words.specs.Prelude.{has_forbidden, is_kept, is_transfer, node_at, node_found};
 ghost use Rattle.nf_decide.specs.Asked.{is_called, is_forbidden, names_caller};
 
@@ -12,10 +13,17 @@ use nf_words::{Making, Places, Spot};
 pub(crate) fn names_caller(caller: Option<&UserRow>, spot: Option<&Spot>) -> bool
     ensures { result ≡ names_caller (option_copied caller.entry) (option_copied spot.entry) }
 {
-    let Some(spot) = spot else {
-        return true;
-    };
-    match &spot.user {
+    match spot {
+        Some(spot) => is_no_other(caller, spot.user.as_ref()),
+        None => true,
+    }
+}
+
+/// Whether no other user than the caller is named.
+pub(crate) fn is_no_other(caller: Option<&UserRow>, name: Option<&Name>) -> bool
+    ensures { result ≡ option_map_or (is_called (option_copied caller.entry)) (option_copied name.entry) true }
+{
+    match name {
         Some(name) => is_called(caller, name),
         None => true,
     }
@@ -52,8 +60,12 @@ pub(crate) fn is_transfer(makes: &Making) -> bool
 {
     match makes {
         Making::Moved | Making::Copied => true,
-        Making::Nothing | Making::File { .. } | Making::Folder | Making::Shared | Making::Told =>
-            false,
+        Making::Nothing
+        | Making::File { .. }
+        | Making::Folder
+        | Making::Shared
+        | Making::Told
+        | Making::Restored { .. } => false,
     }
 }
 

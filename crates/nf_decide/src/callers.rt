@@ -6,7 +6,7 @@ ghost use Rattle.nf_words.specs.Prelude.{access_of, AreSound, asker_of, asks_by_
 ghost use Rattle.nf_words.specs.Callers.{may_ask};
 ghost use Rattle.nf_decide.specs.Deciding.{Follows, asking_of};
 
-use crate::asked::names_caller;
+use crate::asked::{is_no_other, names_caller};
 use crate::deciding::Call;
 use nf_base::{NodeId, ShareId, ShareRow, UserId, UserRow};
 use nf_defs::Seeker;
@@ -101,7 +101,7 @@ impl<'a> Call<'a> {
     {
         let asked = self.request.wanted.asked();
         let are_callers = names_caller(caller, asked.source) && names_caller(caller, asked.target);
-        if are_callers && self.may_ask(caller) {
+        if is_no_other(caller, asked.user) && are_callers && self.may_ask(caller) {
             Ok(())
         } else {
             Err(Denial::NotYou)
@@ -116,6 +116,7 @@ impl<'a> Call<'a> {
         match &self.request.wanted {
             Wanted::People(_) => self.view.people().is_admin(asker_of(caller)),
             Wanted::Share(_)
+            | Wanted::Trash(_)
             | Wanted::Get(_)
             | Wanted::Put { .. }
             | Wanted::Mkcol(_)
@@ -142,7 +143,7 @@ fn is_about_files(wanted: &Wanted) -> bool
     ensures { result ≡ is_about_files wanted.now }
 {
     match wanted {
-        Wanted::Share(_) | Wanted::People(_) => false,
+        Wanted::Share(_) | Wanted::People(_) | Wanted::Trash(_) => false,
         Wanted::Get(_)
         | Wanted::Put { .. }
         | Wanted::Mkcol(_)

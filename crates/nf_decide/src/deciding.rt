@@ -5,21 +5,19 @@ ghost use Rattle.std.specs.Option.{option_map_or, option_or};
 ghost use Rattle.nf_base.specs.declared.limits.TheConstants.{MAX_DEPTH};
 ghost use Rattle.nf_defs.specs.Prelude.{found_from, is_folder, user_row};
 ghost use Rattle.nf_words.specs.Prelude.{access_of, acts_rule, allowed_of, AreSound, asked_by, call_decision, exceeded, excess_at, exists_rule, forbidden_rule, is_there, limit_at, limited, link_of, overwrite_rule, place_rule, places_of, root_of, seeker_of, served, shared, target_rule, ways_of};
-ghost use Rattle.nf_words.specs.People.{people_changed};
 ghost use Rattle.nf_words.specs.Sharing.{limit_by, offer_limit};
-ghost use Rattle.nf_words.specs.declared.answer.Allowed.TheVariants as allowed;
 ghost use Rattle.nf_words.specs.declared.answer.Denial.TheVariants.{Limit as TheLimit, Quota};
-ghost use Rattle.nf_words.specs.declared.answer.Report.TheVariants as report;
 ghost use Rattle.nf_decide.specs.Deciding.{Follows, IsNamed, IsThere, asking_of, early_refusal, late_refusal, locked_at, offer_by, offer_in, passed_at, place_refusal};
 
 use crate::acting::{copied, deleted, made_folder, moved, stored};
 use crate::asked::{is_forbidden, is_kept, is_transfer, node_at};
-use crate::limits::{carry_limit, copy_limit, limit_at, offer_limit, pieces_of};
+use crate::items::item_row;
+use crate::limits::{carry_limit, copy_limit, limit_at, offer_limit, pieces_of, restored_limit};
 use crate::locking::locked;
 use crate::mounting::mount_itself;
 use crate::nodes::is_folder;
-use crate::people::{people_changed, people_limit};
-use crate::quotas::{carry_excess, copy_excess, excess_at};
+use crate::people::{people_done, people_limit};
+use crate::quotas::{carry_excess, copy_excess, excess_at, restore_excess};
 use crate::transferring::{transfer_of, unfit};
 use crate::view::View;
 use nf_base::{Moment, NodeId, ShareRow};
@@ -27,8 +25,8 @@ use nf_defs::{Found, Seeker};
 use nf_reach::{Asker, Way, Ways};
 use nf_tree::Tree;
 use nf_words::{
-    Allowed, By, Denial, Excess, Limit, Making, Offer, PeopleAsk, Places, Report, Request, Route,
-    ShareAsk, Wanted, Words,
+    Allowed, By, Denial, Excess, Limit, Making, Offer, Places, Request, Route, ShareAsk, Wanted,
+    Words,
 };
 use std::alloc::{AllocError, Global};
 use std::marker::Model;
@@ -151,7 +149,8 @@ impl<'a> Call<'a> {
         match &self.request.wanted {
             Wanted::Share(_) => self.offer_room(alloc, offer),
             Wanted::People(ask) => people_limit(alloc, &self.view, ask),
-            Wanted::Get(_)
+            Wanted::Trash(_)
+            | Wanted::Get(_)
             | Wanted::Put { .. }
             | Wanted::Mkcol(_)
             | Wanted::Delete(_)
@@ -173,6 +172,7 @@ impl<'a> Call<'a> {
     }
 
     fn locked(&self, alloc: Global, places: &Places) -> Result<Option<Denial>, AllocError>
+        requires { AreSound self.now.state.tables }
         ensures { IfOk result (λ refusal. refusal ≡ locked_at self.entry.now places.now) }
     {
         let asked = self.request.wanted.asked();
@@ -283,8 +283,12 @@ impl<'a> Call<'a> {
         let is_taken = match self.request.wanted.asked().makes {
             Making::File { .. } => is_folder_at(self.tree(), places.target),
             Making::Folder => node_at(places.target).is_some(),
-            Making::Nothing | Making::Moved | Making::Copied | Making::Shared | Making::Told =>
-                false,
+            Making::Nothing
+            | Making::Moved
+            | Making::Copied
+            | Making::Shared
+            | Making::Told
+            | Making::Restored { .. } => false,
         };
         if is_taken {
             Err(Denial::Exists(Route::Files))
@@ -324,9 +328,10 @@ impl<'a> Call<'a> {
         ensures { IfOk result (λ limit. limit ≡ limited self.entry.now.state.tables places.now (asked_by self.entry.now).makes) }
     {
         let view = &self.view;
-        match self.request.wanted.asked().makes {
+        let asked = self.request.wanted.asked();
+        match &asked.makes {
             Making::Nothing | Making::Shared | Making::Told => Ok(None),
-            Making::File { length } => Ok(limit_there(view, places.target, pieces_of(length))),
+            Making::File { length } => Ok(limit_there(view, places.target, pieces_of(*length))),
             Making::Folder => Ok(limit_there(view, places.target, 0)),
             Making::Moved => match transfer_of(view.tree(), places) {
                 Some(transfer) => carry_limit(alloc, view, &transfer),
@@ -336,6 +341,7 @@ impl<'a> Call<'a> {
                 Some(transfer) => copy_limit(alloc, view, &transfer),
                 None => Ok(None),
             },
+            Making::Restored { item } => restored_limit(alloc, view, item_row(view, *item)),
         }
     }
 
@@ -345,11 +351,13 @@ impl<'a> Call<'a> {
         ensures { result ≡ exceeded self.entry.now.state.tables places.now (asked_by self.entry.now).makes }
     {
         let view = &self.view;
-        match self.request.wanted.asked().makes {
+        let asked = self.request.wanted.asked();
+        match &asked.makes {
             Making::Nothing | Making::Folder | Making::Shared | Making::Told => None,
-            Making::File { length } => excess_there(view, places.target, length),
+            Making::File { length } => excess_there(view, places.target, *length),
             Making::Moved => carry_excess(view, &transfer_of(view.tree(), places)?),
             Making::Copied => copy_excess(view, &transfer_of(view.tree(), places)?),
+            Making::Restored { item } => restore_excess(view, item_row(view, *item)?),
         }
     }
 
@@ -376,7 +384,7 @@ impl<'a> Call<'a> {
             Wanted::Mkcol(spot) => made_folder(alloc, view, self.now, spot, target),
             Wanted::Delete(_) => match mount_itself(&seen.ways.source) {
                 Some(way) => self.mount_left(alloc, &self.asker_seen(seen), &way),
-                None => Ok(deleted(node_at(source))),
+                None => deleted(alloc, view, self.now, node_at(source)),
             },
             Wanted::Move { target: spot, .. } => match mount_itself(&seen.ways.source) {
                 Some(way) => self.mount_renamed(alloc, &self.asker_seen(seen), &way, spot),
@@ -390,7 +398,8 @@ impl<'a> Call<'a> {
                 copied(alloc, view, self.now, spot, transfer)
             }
             Wanted::Share(ask) => self.about_shares(alloc, seen, ask),
-            Wanted::People(ask) => self.about_people(alloc, ask),
+            Wanted::People(ask) => people_done(alloc, view, self.now, ask),
+            Wanted::Trash(ask) => self.trash_done(alloc, &self.asker_seen(seen), ask),
         }
     }
 
@@ -402,18 +411,6 @@ impl<'a> Call<'a> {
         ensures { result ≡ asking_of self.entry.now }
     {
         self.view.asker(seen.seeker, seen.root, self.now)
-    }
-
-    /// What is done of what is asked about users and groups.
-    fn about_people(&self, alloc: Global, ask: &PeopleAsk) -> Result<Allowed, AllocError>
-        requires { AreSound self.now.state.tables }
-        ensures { IfOk result (λ act. act ≡ allowed.Change (people_changed self.entry.now.state.tables self.entry.now.now ask.now) None report.Plain) }
-    {
-        Ok(Allowed::Change {
-            changes: people_changed(alloc, &self.view, self.now, ask)?,
-            blob: None,
-            report: Report::Plain,
-        })
     }
 
     /// What is done and told of what is asked about shares.

@@ -7,7 +7,10 @@ mod callers;
 mod copying;
 mod counts;
 mod deciding;
+mod discarding;
 mod ending;
+mod homes;
+mod items;
 mod limits;
 mod listing;
 mod locking;
@@ -23,6 +26,7 @@ mod tables;
 mod telling;
 mod tokens;
 mod transferring;
+mod trash;
 mod view;
 
 pub use counts::RowCounts;

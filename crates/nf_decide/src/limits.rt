@@ -1,20 +1,21 @@
 //! The limits of the site.
 
-ghost use Rattle.std.specs.Prelude.{◌≡◌, ◌+◌, ◌≤◌, ◌||◌, filter, is_none, length, nat_lt, IfOk, IsSome};
+ghost use Rattle.std.specs.Prelude.{◌≡◌, ◌+◌, ◌≤◌, ◌||◌, filter, is_none, length, nat_lt, option_and_then, option_copied, IfOk, IsSome};
 ghost use Rattle.nf_base.specs.declared.limits.TheConstants.{MAX_DEPTH, MAX_PIECES};
 ghost use Rattle.nf_access.specs.Mounts.{mount_row};
 ghost use Rattle.nf_defs.specs.Tree.{content_of, node_row, walk_of};
-ghost use Rattle.nf_words.specs.Limits.{carry_limit, copy_limit, count_of, deepest, deepest_in, last_number, limit_at, limit_passed, mount_limit, move_limit, pieces_in, pieces_of};
+ghost use Rattle.nf_words.specs.Limits.{carry_limit, copy_limit, count_of, deepest, deepest_in, last_number, limit_at, limit_passed, mount_limit, move_limit, pieces_in, pieces_of, restore_limit};
 ghost use Rattle.nf_words.specs.Contents.{stored_pieces};
 ghost use Rattle.nf_words.specs.People.{are_many_groups, are_many_nodes, are_many_tokens, are_many_users, new_user_limit};
 ghost use Rattle.nf_words.specs.Sharing.{offer_limit};
 ghost use Rattle.nf_words.specs.Sound.{AreSound};
 ghost use Rattle.nf_words.specs.declared.answer.Limit.TheVariants.{Members, Pieces, Shares};
 
+use crate::homes::home_of;
 use crate::shared::mounts_for;
 use crate::transferring::crosses;
 use crate::view::View;
-use nf_base::{MountRow, NodeId};
+use nf_base::{ItemRow, MountRow, NodeId};
 use nf_defs::Found;
 use nf_mounts::Mounts;
 use nf_tree::Tree;
@@ -61,6 +62,36 @@ fn move_limit(
     let nodes = view.tree().subtree(alloc, transfer.node)?;
     let deep = deepest_in(view.tree(), &nodes, transfer);
     Ok(limit_passed(view, 0, deep, 0, 0))
+}
+
+/// The limit that is passed by what comes back: it is moved there.
+fn restore_limit(
+    alloc: Global,
+    view: &View<'_>,
+    item: &ItemRow,
+) -> Result<Option<Limit>, AllocError>
+    ensures { IfOk result (λ limit. limit ≡ restore_limit view.now.tables item.now) }
+{
+    let transfer = Transfer {
+        node: item.node,
+        folder: home_of(view, item),
+        replaced: None,
+    };
+    move_limit(alloc, view, &transfer)
+}
+
+/// The same of an item, if there is one.
+pub(crate) fn restored_limit(
+    alloc: Global,
+    view: &View<'_>,
+    item: Option<&ItemRow>,
+) -> Result<Option<Limit>, AllocError>
+    ensures { IfOk result (λ limit. limit ≡ option_and_then (restore_limit view.now.tables) (option_copied item.entry)) }
+{
+    match item {
+        Some(row) => restore_limit(alloc, view, row),
+        None => Ok(None),
+    }
 }
 
 /// The limit that a copy passes. What it replaces still counts.

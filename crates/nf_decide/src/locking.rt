@@ -1,15 +1,21 @@
 //! What a request touches, and whether another seat holds it.
 
-ghost use Rattle.std.specs.Prelude.{◌≡◌, [], ◌∷◌, ◌++◌, IfOk, option_copied, option_map};
+ghost use Rattle.std.specs.Prelude.{◌≡◌, [], ◌∷◌, ◌++◌, None, IfOk, option_copied, option_map};
 ghost use Rattle.std.specs.Option.{option_map_or};
 ghost use Rattle.nf_words.specs.Prelude.{key_in_way, last_name, source_touches, target_name, target_touches, touches, transfer_touches};
+ghost use Rattle.nf_words.specs.Holds.{touch_key};
+ghost use Rattle.nf_words.specs.declared.answer.Mode.TheVariants.{Exclusive};
+ghost use Rattle.nf_words.specs.Sound.{AreSound};
 ghost use Rattle.nf_words.specs.declared.answer.Denial.TheVariants.{Locked};
+ghost use Rattle.nf_decide.specs.Deciding.{slot_back, slot_of};
 
 use crate::asked::node_at;
+use crate::homes::{home_of, name_back};
+use crate::items::item_row;
 use crate::nodes::is_folder;
 use crate::transferring::transfer_of;
 use crate::view::View;
-use nf_base::NodeId;
+use nf_base::{ItemRow, NodeId};
 use nf_defs::Found;
 use nf_locks::{Touch, key_in_way};
 use nf_tree::Tree;
@@ -17,6 +23,7 @@ use nf_words::{Asked, Denial, LockKey, Making, Mode, Places, Spot, Transfer};
 use std::alloc::{AllocError, Global};
 
 /// `locked`: another seat holds what would be touched. It copies the key.
+#[tactic(auto, using(crate::proofs::Returning::back_touched))]
 pub(crate) fn locked(
     alloc: Global,
     view: &View<'_>,
@@ -24,10 +31,20 @@ pub(crate) fn locked(
     asked: &Asked<'_>,
     places: &Places,
 ) -> Result<Option<Denial>, AllocError>
-    ensures { IfOk result (λ refusal. refusal ≡ option_map Locked (key_in_way view.now.tables.nodes seat (touches view.now.tables.nodes asked.now places.now) view.now.tickets)) }
+    requires { AreSound view.now.tables }
+    ensures { IfOk result (λ refusal. refusal ≡ option_map Locked (key_in_way view.now.tables.nodes seat (touches view.now.tables asked.now places.now) view.now.tickets)) }
 {
-    let touches = touches(alloc, view.tree(), asked, places)?;
-    refusal(key_in_way(view.tree(), view.tickets(), seat, &touches))
+    let (tree, tickets) = (view.tree(), view.tickets());
+    match slot_back(alloc, view, &asked.makes)? {
+        Some(key) => {
+            let touches = key_touches(alloc, &key)?;
+            refusal(key_in_way(tree, tickets, seat, &touches))
+        }
+        None => {
+            let touches = touches(alloc, view, asked, places)?;
+            refusal(key_in_way(tree, tickets, seat, &touches))
+        }
+    }
 }
 
 /// The refusal by the key that is in the way.
@@ -40,15 +57,54 @@ fn refusal(key: Option<&LockKey>) -> Result<Option<Denial>, AllocError>
     }
 }
 
-/// What a request touches.
+/// The name that what comes back takes, if something does.
+fn slot_back(alloc: Global, view: &View<'_>, makes: &Making) -> Result<Option<LockKey>, AllocError>
+    requires { AreSound view.now.tables }
+    ensures { IfOk result (λ key. key ≡ slot_back view.now.tables makes.now) }
+{
+    match makes {
+        Making::Restored { item } => slot_of(alloc, view, item_row(view, *item)),
+        Making::Nothing
+        | Making::File { .. }
+        | Making::Folder
+        | Making::Moved
+        | Making::Copied
+        | Making::Shared
+        | Making::Told => Ok(None),
+    }
+}
+
+/// The name that an item takes where it comes back.
+fn slot_of(
+    alloc: Global,
+    view: &View<'_>,
+    item: Option<&ItemRow>,
+) -> Result<Option<LockKey>, AllocError>
+    requires { AreSound view.now.tables }
+    ensures { IfOk result (λ key. key ≡ option_map (slot_of view.now.tables) (option_copied item.entry)) }
+{
+    let Some(item) = item else {
+        return Ok(None);
+    };
+    let name = name_back(alloc, view, item)?;
+    Ok(Some(LockKey::Slot {
+        folder: home_of(view, item),
+        name,
+    }))
+}
+
+/// What a request touches, where nothing comes back.
+#[tactic(auto, using(crate::proofs::Returning::none_touched))]
 fn touches<'a>(
     alloc: Global,
-    tree: &Tree,
+    view: &View<'_>,
     asked: &Asked<'a>,
     places: &Places,
 ) -> Result<Vec<Touch<'a>>, AllocError>
-    ensures { IfOk result (λ list. list.items ≡ touches tree.now.rows asked.now places.now) }
+    requires { slot_back view.now.tables asked.now.makes ≡ None }
+    ensures { IfOk result (λ list. list.items ≡ touches view.now.tables asked.now places.now) }
 {
+    let tree = view.tree();
     match asked.makes {
         Making::Nothing => source_touches(alloc, tree, asked.removes, node_at(places.source)),
         Making::File { .. } | Making::Folder => {
@@ -62,8 +118,19 @@ fn touches<'a>(
             let transfer = transfer_of(tree, places);
             transfer_touches(alloc, Mode::Shared, target_name(asked), transfer)
         }
-        Making::Shared | Making::Told => Ok(Vec::new(alloc)),
+        Making::Shared | Making::Told | Making::Restored { .. } => Ok(Vec::new(alloc)),
     }
+}
+
+/// A key that is taken.
+fn key_touches<'a>(alloc: Global, key: &'a LockKey) -> Result<Vec<Touch<'a>>, AllocError>
+    ensures { IfOk result (λ list. list.items ≡ touch_key key.now Exclusive ∷ []) }
+{
+    let touch = match key {
+        LockKey::Node(node) => Touch::node(*node, Mode::Exclusive),
+        LockKey::Slot { folder, name } => { Touch::slot(*folder, name.as_bytes(), Mode::Exclusive) }
+    };
+    only(alloc, touch)
 }
 
 /// The name under which something is put, by its bytes; none has the bytes of no name.

@@ -5,18 +5,21 @@ ghost use Rattle.std.specs.Option.{option_map_or};
 ghost use Rattle.nf_base.specs.declared.changes.Change.TheVariants.{Put};
 ghost use Rattle.nf_base.specs.declared.rows.Row.TheVariants as kinds;
 ghost use Rattle.nf_defs.specs.Prelude.{user_named};
-ghost use Rattle.nf_words.specs.People.{are_named, is_for_group, is_joined, is_member, is_taken, join_limit, joined_by, left_by, membership, mounts_joined, new_root, new_user, people_changed, people_limit, put_mounts, requoted, row_named, user_made};
+ghost use Rattle.nf_words.specs.People.{are_named, is_for_group, is_joined, is_member, is_taken, join_limit, joined_by, left_by, membership, mounts_joined, new_root, new_user, people_changed, people_limit, put_mounts, row_named, user_made};
+ghost use Rattle.nf_words.specs.Changes.{people_done};
 ghost use Rattle.nf_words.specs.Sound.{AreSound};
 
+use crate::discarding::requoted;
 use crate::limits::{
     are_many_groups, are_many_members, are_many_tokens, mount_limit, new_user_limit,
 };
+use crate::shared::nothing_done;
 use crate::view::View;
 use nf_base::{
     Change, Changes, Content, Digest, GroupId, GroupRow, MemberRow, Moment, MountRow, Name, NodeId,
     NodeKind, NodeRow, Place, Row, RowKey, ShareKind, ShareRow, TokenRow, UserRow,
 };
-use nf_words::{Limit, PeopleAsk};
+use nf_words::{Allowed, Limit, PeopleAsk, Report};
 use std::alloc::{AllocError, Global};
 
 // ---- what is named
@@ -164,8 +167,35 @@ fn join_limit(alloc: Global, view: &View<'_>, row: &MemberRow) -> Result<Option<
 
 // ---- what is changed
 
-/// The rows that are changed by what is asked.
-pub(crate) fn people_changed(
+/// What is done of what is asked.
+pub(crate) fn people_done(
+    alloc: Global,
+    view: &View<'_>,
+    now: Moment,
+    ask: &PeopleAsk,
+) -> Result<Allowed, AllocError>
+    requires { AreSound view.now.tables }
+    ensures { IfOk result (λ act. act ≡ people_done view.now.tables now ask.now) }
+{
+    match ask {
+        PeopleAsk::SetQuota { user, quota } => match row_named(view, user) {
+            Some(row) => requoted(alloc, view, now, *quota, row),
+            None => Ok(nothing_done(alloc)),
+        },
+        PeopleAsk::NewUser { .. }
+        | PeopleAsk::NewGroup(_)
+        | PeopleAsk::AddMember { .. }
+        | PeopleAsk::DropMember { .. }
+        | PeopleAsk::AddToken { .. } => Ok(Allowed::Change {
+            changes: people_changed(alloc, view, now, ask)?,
+            blob: None,
+            report: Report::Plain,
+        }),
+    }
+}
+
+/// The rows that are changed by what is asked; another quota is no such row.
+fn people_changed(
     alloc: Global,
     view: &View<'_>,
     now: Moment,
@@ -181,7 +211,7 @@ pub(crate) fn people_changed(
         PeopleAsk::NewGroup(name) => group_made(alloc, view, name),
         PeopleAsk::AddMember { user, group } => joined(alloc, view, membership(view, user, group)),
         PeopleAsk::DropMember { user, group } => left(alloc, view, membership(view, user, group)),
-        PeopleAsk::SetQuota { user, quota } => requoted(alloc, *quota, row_named(view, user)),
+        PeopleAsk::SetQuota { .. } => Ok(Changes::new(alloc)),
         PeopleAsk::AddToken { user, token } => token_added(alloc, view, user, *token),
     }
 }
@@ -307,20 +337,6 @@ fn left_by(alloc: Global, view: &View<'_>, row: MemberRow) -> Result<Changes, Al
         user: row.user,
     };
     only(alloc, Change::Drop(key))
-}
-
-/// A user, if there is one, has another quota, if it is another.
-fn requoted(alloc: Global, quota: u64, row: Option<&UserRow>) -> Result<Changes, AllocError>
-    ensures { IfOk result (λ changes. changes ≡ option_map_or (requoted quota) (option_copied row.entry) []) }
-{
-    match row {
-        Some(row) if row.quota != quota => {
-            let mut row = row.clone()?;
-            row.quota = quota;
-            only(alloc, Change::Put(Row::User(row)))
-        }
-        Some(_) | None => Ok(Changes::new(alloc)),
-    }
 }
 
 /// A token more of the user of that name.

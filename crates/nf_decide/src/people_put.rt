@@ -1,13 +1,13 @@
 //! Rows of people that are put among the others. Nothing here takes memory, since there is room.
 
 ghost use Rattle.std.specs.Prelude.{◌≡◌, ◌⊎◌, None, is_some};
-ghost use Rattle.nf_defs.specs.Prelude.{dropped, group_key, member_key, numbers_of, put, token_key, user_key, user_row};
+ghost use Rattle.nf_defs.specs.Prelude.{group_key, member_key, put, token_key, user_key, user_row};
 ghost use Rattle.nf_people.specs.Faults.{fault_of_member, fault_of_token};
 ghost use Rattle.nf_people.specs.People.{FitsGroup, FitsMember, FitsToken, FitsUser};
 ghost use Rattle.nf_decide.specs.Counts.{IsNoNarrower};
-ghost use Rattle.nf_decide.specs.Current.{IsAdded, IsFounded, IsOfMember, IsRequoted};
+ghost use Rattle.nf_decide.specs.Current.{IsAdded, IsFounded, IsRequoted};
 
-use nf_base::{GroupRow, MemberRow, RowKey, TokenRow, UserId, UserRow};
+use nf_base::{GroupRow, MemberRow, TokenRow, UserId, UserRow};
 use nf_people::{People, PeopleFault};
 
 /// Puts a new user, or one who is there with another quota.
@@ -82,27 +82,4 @@ pub(crate) fn put_member(people: &mut People, row: MemberRow)
 {
     let done: Result<(), PeopleFault> = people.add_member(row);
     done.unwrap();
-}
-
-/// Takes a member out of a group; no other row of people is ever dropped.
-pub(crate) fn drop_member(people: &mut People, key: &RowKey)
-    requires { IsOfMember key.now }
-    ensures { people.new ≡ record people.old { members = dropped member_key (numbers_of key.now) people.old.members } }
-{
-    match key {
-        RowKey::Member { group, user } => {
-            let _ = people.drop_member(*group, *user);
-        }
-        RowKey::Meta
-        | RowKey::User(_)
-        | RowKey::Token(_)
-        | RowKey::Group(_)
-        | RowKey::Node(_)
-        | RowKey::Share(_)
-        | RowKey::Mount { .. }
-        | RowKey::Version { .. }
-        | RowKey::Item(_)
-        | RowKey::Upload { .. }
-        | RowKey::Chunk { .. } => unreachable!(),
-    }
 }

@@ -2,7 +2,7 @@
 
 ghost use Rattle.std.specs.Prelude.{◌≡◌, ◌+◌, ◌-◌, ◌&&◌, nat_lt};
 ghost use Rattle.std.specs.Option.{option_map_or};
-ghost use Rattle.nf_words.specs.Charges.{carry_excess, copy_excess, excess, excess_at, quota_of};
+ghost use Rattle.nf_words.specs.Charges.{carry_excess, copy_excess, excess, excess_at, quota_of, restore_excess};
 ghost use Rattle.nf_words.specs.Listing.{size_of};
 ghost use Rattle.nf_words.specs.Sound.{AreSound};
 
@@ -10,7 +10,7 @@ use crate::listing::bytes_of;
 use crate::nodes::owner_of;
 use crate::transferring::crosses;
 use crate::view::View;
-use nf_base::{NodeId, UserId};
+use nf_base::{ItemRow, NodeId, UserId};
 use nf_defs::Found;
 use nf_words::{Excess, Transfer};
 
@@ -52,6 +52,14 @@ pub(crate) fn copy_excess(view: &View<'_>, transfer: &Transfer) -> Option<Excess
     excess(view, owner, old, new)
 }
 
+/// How what comes back would pass its owner's quota: it is charged anew.
+pub(crate) fn restore_excess(view: &View<'_>, item: &ItemRow) -> Option<Excess>
+    requires { AreSound view.now.tables }
+    ensures { result ≡ restore_excess view.now.tables item.now }
+{
+    excess(view, item.owner, 0, view.size(item.node))
+}
+
 /// The bytes of what has to go, if there is something.
 fn size_replaced(view: &View<'_>, replaced: &Option<NodeId>) -> u64
     requires { AreSound view.now.tables }
@@ -89,7 +97,7 @@ fn is_over(charge: u64, quota: u64, old: u64, new: u64) -> bool
 }
 
 /// What the files of a user may take up, in bytes.
-fn quota_of(view: &View<'_>, user: UserId) -> u64
+pub(crate) fn quota_of(view: &View<'_>, user: UserId) -> u64
     ensures { result ≡ quota_of view.now.tables user }
 {
     match view.people().row(user) {

@@ -210,7 +210,7 @@ fn only(alloc: Global, row: ShareRow) -> Result<Changes, AllocError>
 }
 
 /// Nothing is done.
-fn nothing_done(alloc: Global) -> Allowed
+pub(crate) fn nothing_done(alloc: Global) -> Allowed
     ensures { result ≡ nothing_done }
 {
     Allowed::Change {

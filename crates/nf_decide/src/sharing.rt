@@ -31,7 +31,7 @@ use nf_words::{Breach, Denial, Offer, PeopleAsk, Receiver, ShareAsk, Sharee, Unt
 // ---- the rules
 
 impl<'a> Call<'a> {
-    /// `not-found`: the user or the share that is named.
+    /// `not-found`: the user, the group, the share or the item of the trash that is named.
     #[tactic(auto, unfolding(nf_words::specs::Sharing::named_rule))]
     pub(crate) fn named(&self, asker: &Asker<'_>) -> Result<(), Denial>
         requires { asker.now ≡ asking_of self.now }
@@ -50,6 +50,7 @@ impl<'a> Call<'a> {
         match &self.request.wanted {
             Wanted::Share(ask) => self.unnamed(asker, ask),
             Wanted::People(ask) => self.people_unnamed(ask),
+            Wanted::Trash(ask) => self.untrashed(asker, ask),
             Wanted::Get(_)
             | Wanted::Put { .. }
             | Wanted::Mkcol(_)
@@ -110,7 +111,8 @@ impl<'a> Call<'a> {
         match &self.request.wanted {
             Wanted::Share(ask) => self.fault_of_ask(asker, offer, ask),
             Wanted::People(ask) => self.people_fault(ask),
-            Wanted::Get(_)
+            Wanted::Trash(_)
+            | Wanted::Get(_)
             | Wanted::Put { .. }
             | Wanted::Mkcol(_)
             | Wanted::Delete(_)
@@ -383,6 +385,7 @@ impl<'a> Call<'a> {
         match &self.request.wanted {
             Wanted::Share(ask) => self.offer_by(&ways.source, ask),
             Wanted::People(_)
+            | Wanted::Trash(_)
             | Wanted::Get(_)
             | Wanted::Put { .. }
             | Wanted::Mkcol(_)

@@ -1,32 +1,33 @@
 //! The rows of the site in memory.
 
-ghost use Rattle.std.specs.Prelude.{◌≡◌, ◌⊎◌, ℕ, ◌+◌, ◌<◌, ◌≤◌, ◌∷◌, ◌++◌, [], false, is_some, All, AllPairs, length, map, max, slice_get, IfOk, OnOk, None, Some};
+ghost use Rattle.std.specs.Prelude.{◌≡◌, ◌⊎◌, ℕ, ◌+◌, ◌<◌, ◌≤◌, ◌∷◌, ◌++◌, [], false, is_some, All, AllPairs, length, map, max, slice_get, IfOk, IsSome, OnOk, None, Some};
 ghost use Rattle.nf_base.specs.declared.changes.Change.TheVariants.{Put};
 ghost use Rattle.nf_base.specs.declared.limits.TheConstants.{MAX_NODES};
 ghost use Rattle.nf_base.specs.declared.rows.NodeRow.{NodeRow};
 ghost use Rattle.nf_base.specs.declared.rows.Row.TheVariants as kinds;
 ghost use Rattle.nf_base.specs.declared.rows.MetaRow.{MetaRow};
-ghost use Rattle.nf_defs.specs.Prelude.{made, node_key, node_row, put, put_all, rows_of};
-ghost use Rattle.nf_words.specs.Prelude.{above, blob_after, changed, cleared, counted, ended_for, goal_of, joined, last_number, removed};
+ghost use Rattle.nf_defs.specs.Prelude.{drop_row, dropped, item_key, made, node_key, node_row, put, put_all, rows_of};
+ghost use Rattle.nf_words.specs.Prelude.{above, blob_after, changed, cleared, counted, deed_done, discarded, ended_for, goal_of, joined, last_number, purged_all, removed, restored};
 ghost use Rattle.nf_words.specs.declared.answer.Report.TheVariants.{Done};
 ghost use Rattle.nf_words.specs.declared.answer.Allowed.TheVariants as allowed;
-ghost use Rattle.nf_decide.specs.Current.{AreBorne, AreGiven, BearsAct, BearsChanges, BearsCopies, BearsMove, IsBorne, IsCounted, IsNew, IsRefilled, LeadUpBehind, added_by, added_of};
+ghost use Rattle.nf_decide.specs.Current.{AreBorne, AreGiven, BearsAct, BearsChanges, BearsCopies, BearsDeed, BearsMove, BearsRestore, IsBorne, IsCounted, IsDroppedKey, IsNew, IsRefilled, LeadUpBehind, added_by, added_deed, added_of, does_nothing};
 ghost use Rattle.nf_rules.specs.Ruled.{AreRuled};
 ghost use Rattle.nf_decide.specs.Counts.{FitsNodes, FitsRows, IsNoSmaller, only_nodes};
 
 use crate::counts::RowCounts;
-use crate::people_put::{drop_member, put_group, put_member, put_token, put_user};
+use crate::people_put::{put_group, put_member, put_token, put_user};
 use crate::view::View;
 use nf_base::{
-    BlobId, Change, Changes, GroupId, MetaRow, Moment, MountRow, Name, NodeId, NodeRow, Row,
-    RowKey, RowList, ShareId, ShareRow, UserId,
+    BlobId, Change, Changes, GroupId, ItemRow, MetaRow, Moment, MountRow, Name, NodeId, NodeRow,
+    Row, RowKey, RowList, ShareId, ShareRow, UserId,
 };
 use nf_mounts::Mounts;
 use nf_opening::Loaded;
 use nf_people::{People, PeopleRows};
 use nf_shares::Shares;
+use nf_table::{ItemKey, Table};
 use nf_tree::Tree;
-use nf_words::{Allowed, Goal, NodeRows, Ticket, Transfer};
+use nf_words::{Allowed, Deed, Goal, NodeRows, Ticket, Transfer};
 use std::alloc::{AllocError, Global};
 use std::marker::Model;
 
@@ -38,6 +39,7 @@ pub(crate) struct Tables {
     tree: Tree,
     shares: Shares,
     mounts: Mounts,
+    items: Table<ItemRow>,
 }
 
 impl Model for Tables {
@@ -46,7 +48,7 @@ impl Model for Tables {
     ghost Value = { Rows };
 
     ghost view = { λ t. record {
-      tables = tables_in t.meta t.people t.tree.rows t.shares.rows t.mounts.rows;
+      tables = tables_in t.meta t.people t.tree.rows t.shares.rows t.mounts.rows t.items.rows;
       room = record {
         users = t.people.room.users;
         tokens = t.people.room.tokens;
@@ -55,6 +57,7 @@ impl Model for Tables {
         nodes = t.tree.room;
         shares = t.shares.room;
         mounts = t.mounts.room;
+        items = t.items.room;
       };
     } };
 }
@@ -76,6 +79,7 @@ impl Tables {
             tree,
             shares,
             mounts: Mounts::load(alloc, parts.mounts)?,
+            items: Table::of(parts.items),
         })
     }
 
@@ -95,6 +99,7 @@ impl Tables {
             tree: &self.tree,
             shares: &self.shares,
             mounts: &self.mounts,
+            items: &self.items,
             tickets,
             seen,
         }
@@ -108,6 +113,7 @@ impl Tables {
         self.tree.keeps();
         self.shares.keeps();
         self.mounts.keeps();
+        let _ = self.items.count();
     }
 
     /// Makes room for so many rows more.
@@ -122,7 +128,8 @@ impl Tables {
         }
         self.people.reserve(added.people())?;
         self.shares.reserve(added.shares)?;
-        self.mounts.reserve(added.mounts)
+        self.mounts.reserve(added.mounts)?;
+        self.items.reserve(added.items)
     }
 
     /// Makes the changes of an act, and answers what it grants.
@@ -141,8 +148,8 @@ impl Tables {
                 self.change(moment, changes, blob);
                 None
             }
-            Allowed::Delete(node) => {
-                self.remove(moment, node);
+            Allowed::Trash { deed, gone, .. } => {
+                self.trash(moment, deed, gone.ids());
                 None
             }
             Allowed::Move { transfer, name } => {
@@ -190,7 +197,7 @@ impl Tables {
         }
     }
 
-    /// Makes a change. Only rows of people, of nodes, of shares and of mounts are changed yet.
+    /// Makes a change. Only rows of people, of nodes, of shares, of mounts and of the trash are changed yet.
     fn make(&mut self, change: Change)
         requires room { FitsRows self.old.tables self.old.room (added_of self.old.tables.meta.next_node (change ∷ [])) }
         requires borne { IsBorne self.old.tables.meta.next_node self.old.tables change }
@@ -202,20 +209,104 @@ impl Tables {
             Change::Put(Row::Token(row)) => put_token(&mut self.people, row),
             Change::Put(Row::Group(row)) => put_group(&mut self.people, row),
             Change::Put(Row::Member(row)) => put_member(&mut self.people, row),
-            Change::Drop(key) => drop_member(&mut self.people, &key),
+            Change::Drop(key) => self.drop_row(&key),
             Change::Put(Row::Node(row)) => put_node(&mut self.tree, row),
             Change::Put(Row::Share(row)) => self.shares.put(row),
             Change::Put(Row::Mount(row)) => self.mounts.put(row),
+            Change::Put(Row::Item(row)) => self.items.put(row),
             Change::Put(_) => unreachable!(),
         }
     }
 
-    /// Takes a node out for good, with all under it.
-    fn remove(&mut self, moment: Moment, node: NodeId)
-        ensures { self.new.tables ≡ changed self.old.tables moment (allowed.Delete node) }
+    /// Drops the member or the item of that key; no other row is ever dropped by its key.
+    fn drop_row(&mut self, key: &RowKey)
+        requires { IsDroppedKey key.now }
+        ensures tables { self.new.tables ≡ drop_row self.old.tables key.now }
+        ensures room { self.new.room ≡ self.old.room }
     {
-        self.purge(node);
+        match key {
+            RowKey::Member { group, user } => {
+                let _ = self.people.drop_member(*group, *user);
+            }
+            RowKey::Item(node) => {
+                let _ = self.items.drop(&ItemKey { node: *node });
+            }
+            RowKey::Meta
+            | RowKey::User(_)
+            | RowKey::Token(_)
+            | RowKey::Group(_)
+            | RowKey::Node(_)
+            | RowKey::Share(_)
+            | RowKey::Mount { .. }
+            | RowKey::Version { .. }
+            | RowKey::Upload { .. }
+            | RowKey::Chunk { .. } => unreachable!(),
+        }
+    }
+
+    /// Does a deed, and then takes out what goes for good.
+    fn trash(&mut self, moment: Moment, deed: Deed, gone: &[NodeId])
+        requires room { FitsRows self.old.tables self.old.room (added_deed deed) }
+        requires bears { BearsDeed self.old.tables deed }
+        ensures { self.new.tables ≡ changed self.old.tables moment (allowed.Trash deed gone.now Done) }
+    {
+        if does_nothing(&deed, gone) {
+            return;
+        }
+        self.perform(deed);
+        self.purge_all(gone);
         self.stamp(moment);
+    }
+
+    fn perform(&mut self, deed: Deed)
+        requires room { FitsRows self.old.tables self.old.room (added_deed deed) }
+        requires bears { BearsDeed self.old.tables deed }
+        ensures { self.new.tables ≡ deed_done self.old.tables deed }
+    {
+        match deed {
+            Deed::Nothing => {}
+            Deed::Discard(item) => self.discard(item),
+            Deed::Restore { node, folder, name } => self.restore(node, folder, name),
+            Deed::Requote(row) => put_user(&mut self.people, row),
+        }
+    }
+
+    /// Puts a node in the trash with all under it, as that item, and ends the shares there.
+    fn discard(&mut self, item: ItemRow)
+        requires room { length self.old.tables.items < self.old.room.items }
+        requires there { IsSome (node_row self.old.tables.nodes item.node) }
+        ensures { self.new.tables ≡ discarded self.old.tables item }
+    {
+        self.shares.end_under(&self.tree, item.node);
+        self.tree.detach(item.node);
+        self.items.put(item);
+    }
+
+    /// Puts the node of an item into that folder, under that name.
+    fn restore(&mut self, node: NodeId, folder: NodeId, name: Name)
+        requires { BearsRestore self.old.tables node folder name }
+        ensures { self.new.tables ≡ restored self.old.tables node folder name }
+    {
+        self.tree.attach(node, folder, name);
+        self.drop_item(node);
+    }
+
+    /// Takes nodes out for good, one after the other, each with all under it and with its item.
+    fn purge_all(&mut self, nodes: &[NodeId])
+        ensures { self.new.tables ≡ purged_all self.old.tables nodes.now }
+    {
+        for node in nodes {
+            self.purge(*node);
+            self.drop_item(*node);
+        }
+    }
+
+    /// Drops the item of a node, if there is one.
+    fn drop_item(&mut self, node: NodeId)
+        ensures tables { self.new.tables ≡ record self.old.tables { items = dropped item_key (node ∷ []) self.old.tables.items } }
+        ensures room { self.new.room ≡ self.old.room }
+    {
+        let _ = self.items.drop(&ItemKey { node });
     }
 
     /// Puts a node into another folder, under that name. What is to be replaced there goes.
@@ -300,8 +391,18 @@ impl Tables {
         self.people.push_rows(&mut list)?;
         push_nodes(&mut list, self.tree.nodes())?;
         push_shares(&mut list, self.shares.rows())?;
-        push_mounts(&mut list, self.mounts.rows())?;
+        push_mounted(&mut list, self.mounts.rows(), self.items.rows())?;
         Ok(list)
+    }
+}
+
+/// Whether nothing is done, and nothing goes.
+fn does_nothing(deed: &Deed, gone: &[NodeId]) -> bool
+    ensures { result ≡ does_nothing deed.now gone.now }
+{
+    match deed {
+        Deed::Nothing => gone.is_empty(),
+        Deed::Discard(_) | Deed::Restore { .. } | Deed::Requote(_) => false,
     }
 }
 
@@ -312,6 +413,7 @@ struct Parts {
     nodes: Vec<NodeRow>,
     shares: Vec<ShareRow>,
     mounts: Vec<MountRow>,
+    items: Vec<ItemRow>,
 }
 
 fn split(loaded: Loaded) -> Parts
@@ -322,6 +424,7 @@ fn split(loaded: Loaded) -> Parts
     ensures nodes { result.nodes.items ≡ loaded.nodes }
     ensures shares { result.shares.items ≡ loaded.shares }
     ensures mounts { result.mounts.items ≡ loaded.mounts }
+    ensures items { result.items.items ≡ loaded.items }
 {
     Parts {
         people: PeopleRows {
@@ -333,6 +436,7 @@ fn split(loaded: Loaded) -> Parts
         nodes: loaded.nodes,
         shares: loaded.shares,
         mounts: loaded.mounts,
+        items: loaded.items,
     }
 }
 
@@ -399,6 +503,35 @@ fn push_mounts(list: &mut RowList, mounts: &[MountRow]) -> Result<(), AllocError
         list.push(Row::Mount(copy_mount(mount)?))?;
     }
     Ok(())
+}
+
+/// An equal item of the trash.
+fn copy_item(item: &ItemRow) -> Result<ItemRow, AllocError>
+    ensures { IfOk result (λ copy. copy ≡ item.now) }
+{
+    item.clone()
+}
+
+/// Puts items of the trash at the end of a list of rows.
+fn push_items(list: &mut RowList, items: &[ItemRow]) -> Result<(), AllocError>
+    ensures { OnOk result (list.new ≡ list.old ++ map kinds.Item items.now) }
+{
+    for item in items {
+        list.push(Row::Item(copy_item(item)?))?;
+    }
+    Ok(())
+}
+
+/// Puts mounts and items of the trash at the end of a list of rows.
+fn push_mounted(
+    list: &mut RowList,
+    mounts: &[MountRow],
+    items: &[ItemRow],
+) -> Result<(), AllocError>
+    ensures { OnOk result (list.new ≡ list.old ++ (map kinds.Mount mounts.now ++ map kinds.Item items.now)) }
+{
+    push_mounts(list, mounts)?;
+    push_items(list, items)
 }
 
 /// Puts a node at the end, or another content of a file in the place of the old one.

@@ -1,23 +1,29 @@
 //! What an act changes, told as a list of the rows that differ.
 
 ghost use Rattle.std.specs.Prelude.{◌≡◌, count_by, [], ◌∷◌, ◌++◌, map, IfOk, OnOk};
+ghost use Rattle.std.specs.List.{flat_map};
 ghost use Rattle.nf_base.specs.declared.changes.Change.TheVariants as change;
 ghost use Rattle.nf_base.specs.declared.changes.RowKey.TheVariants as keys;
 ghost use Rattle.nf_base.specs.declared.rows.Row.TheVariants as kinds;
-ghost use Rattle.nf_defs.specs.Tree.{is_leaf, is_under, node_row, relinked};
-ghost use Rattle.nf_words.specs.Changes.{blob_of, changes_of, closed_under, ended_row, gone_for, gone_under, hold_of, is_closing, meta_after, told, transferred_row, with_meta};
+ghost use Rattle.nf_defs.specs.Tree.{is_leaf, is_under, node_row, relinked, trashed};
+ghost use Rattle.nf_words.specs.Changes.{blob_of, changes_of, hold_of, meta_after, told, transferred_row, with_meta};
+ghost use Rattle.nf_words.specs.Deeds.{closed_under, deed_done, dropped_under, ended_row, gone_for, gone_under, is_closing, told_deed, told_purges};
+ghost use Rattle.nf_words.specs.declared.answer.Deed.TheVariants as deeds;
 ghost use Rattle.nf_words.specs.declared.answer.LockKey.TheVariants as lock_keys;
 ghost use Rattle.nf_words.specs.declared.answer.Mode.TheVariants.{Exclusive, Shared};
-ghost use Rattle.nf_decide.specs.Current.{BearsAct, added_by, added_of, is_counted, is_fresh, puts_group, puts_member, puts_mount, puts_share, puts_token, puts_user};
+ghost use Rattle.nf_decide.specs.Current.{BearsAct, added_by, added_deed, added_of, is_counted, is_fresh, puts_group, puts_item, puts_member, puts_mount, puts_share, puts_token, puts_user};
+ghost use Rattle.nf_decide.specs.Gone.{TellsTrash, told_gone};
 
 use crate::counts::RowCounts;
+use crate::items::item_row;
 use crate::tables::{copy, raised};
 use crate::view::View;
 use nf_base::{
-    BlobId, Change, Changes, MetaRow, Moment, Name, NodeId, NodeRow, Place, Row, RowKey, ShareRow,
+    BlobId, Change, Changes, ItemRow, MetaRow, Moment, Name, NodeId, NodeRow, Place, Row, RowKey,
+    ShareRow, UserRow,
 };
 use nf_tree::Tree;
-use nf_words::{Allowed, Hold, LockKey, Mode, Transfer};
+use nf_words::{Allowed, Deed, Hold, LockKey, Mode, Transfer};
 use std::alloc::{AllocError, Global};
 
 /// What is counted of some changes.
@@ -27,6 +33,7 @@ enum Counted {
     Fresh(NodeId),
     Share,
     Mount,
+    Item,
     User,
     Token,
     Group,
@@ -61,11 +68,12 @@ fn with_meta(mut changes: Changes, old: &MetaRow, meta: MetaRow) -> Result<Chang
 
 /// The same, but for the meta row.
 fn told(alloc: Global, view: &View<'_>, act: &Allowed) -> Result<Changes, AllocError>
+    requires { BearsAct view.now.tables act.now }
     ensures { IfOk result (λ changes. changes ≡ told view.now.tables act.now) }
 {
     match act {
         Allowed::Change { changes, .. } => changes.copy(alloc),
-        Allowed::Delete(node) => gone(alloc, view, *node),
+        Allowed::Trash { deed, gone, .. } => trashed(alloc, view, deed, gone.ids()),
         Allowed::Move { transfer, name } => transferred(alloc, view, transfer, name),
         Allowed::Copy { rows, replaced } => joined(alloc, view, rows.rows(), replaced),
         Allowed::Cross {
@@ -252,6 +260,127 @@ pub(crate) fn ended(share: &ShareRow) -> Result<ShareRow, AllocError>
     Ok(row)
 }
 
+// ---- the trash
+
+/// What is done, and then what becomes of all that goes for good.
+fn trashed(
+    alloc: Global,
+    view: &View<'_>,
+    deed: &Deed,
+    gone: &[NodeId],
+) -> Result<Changes, AllocError>
+    requires { TellsTrash view.now.tables deed.now gone.now }
+    ensures { IfOk result (λ changes. changes ≡ told_deed view.now.tables deed.now ++ told_purges (deed_done view.now.tables deed.now) gone.now) }
+{
+    let mut changes = told_deed(alloc, view, deed)?;
+    push_all_gone(alloc, view, gone, &mut changes)?;
+    Ok(changes)
+}
+
+fn told_deed(alloc: Global, view: &View<'_>, deed: &Deed) -> Result<Changes, AllocError>
+    ensures { IfOk result (λ changes. changes ≡ told_deed view.now.tables deed.now) }
+{
+    match deed {
+        Deed::Nothing => Ok(Changes::new(alloc)),
+        Deed::Discard(item) => discarded(alloc, view, item),
+        Deed::Restore { node, folder, name } => restored(alloc, view, *node, *folder, name),
+        Deed::Requote(row) => requoted(alloc, row),
+    }
+}
+
+/// The node of an item is in the trash, the item is there, and the shares of what is under the node are ended.
+fn discarded(alloc: Global, view: &View<'_>, item: &ItemRow) -> Result<Changes, AllocError>
+    ensures { IfOk result (λ changes. changes ≡ told_deed view.now.tables (deeds.Discard item.now)) }
+{
+    let mut changes = Changes::new(alloc);
+    if let Some(row) = view.tree().node(item.node) {
+        changes.push(Change::Put(Row::Node(in_trash(row)?)))?;
+    }
+    changes.push(Change::Put(Row::Item(item.clone()?)))?;
+    close_under(&mut changes, view, item.node)?;
+    Ok(changes)
+}
+
+/// A row in the trash.
+fn in_trash(row: &NodeRow) -> Result<NodeRow, AllocError>
+    ensures { IfOk result (λ moved. moved ≡ trashed row.now) }
+{
+    let mut row = copy(row)?;
+    row.place = Place::Trash;
+    Ok(row)
+}
+
+/// The item of a node is dropped, and the node's row is put in its new place.
+fn restored(
+    alloc: Global,
+    view: &View<'_>,
+    node: NodeId,
+    folder: NodeId,
+    name: &Name,
+) -> Result<Changes, AllocError>
+    ensures { IfOk result (λ changes. changes ≡ told_deed view.now.tables (deeds.Restore node folder name.now)) }
+{
+    let mut changes = Changes::new(alloc);
+    changes.push(Change::Drop(RowKey::Item(node)))?;
+    if let Some(row) = view.tree().node(node) {
+        changes.push(Change::Put(Row::Node(relinked(row, folder, name)?)))?;
+    }
+    Ok(changes)
+}
+
+fn requoted(alloc: Global, row: &UserRow) -> Result<Changes, AllocError>
+    ensures { IfOk result (λ changes. changes ≡ change.Put (kinds.User row.now) ∷ []) }
+{
+    let mut changes = Changes::new(alloc);
+    changes.push(Change::Put(Row::User(row.clone()?)))?;
+    Ok(changes)
+}
+
+/// What becomes of all that goes for good, one after the other.
+fn push_all_gone(
+    alloc: Global,
+    view: &View<'_>,
+    gone: &[NodeId],
+    changes: &mut Changes,
+) -> Result<(), AllocError>
+    ensures { OnOk result (changes.new ≡ changes.old ++ flat_map (told_gone view.now.tables) gone.now) }
+{
+    for node in gone {
+        push_told(alloc, view, *node, changes)?;
+    }
+    Ok(())
+}
+
+/// A node goes for good with all under it, and with its item. Of what is in the trash no share is left to end, so that for an item the
+/// shares of the site aren't gone through.
+fn push_told(
+    alloc: Global,
+    view: &View<'_>,
+    node: NodeId,
+    changes: &mut Changes,
+) -> Result<(), AllocError>
+    ensures { OnOk result (changes.new ≡ changes.old ++ told_gone view.now.tables node) }
+{
+    match item_row(view, node) {
+        Some(_) => push_item_gone(alloc, view, node, changes),
+        None => push_gone(alloc, view, node, changes),
+    }
+}
+
+/// A node is dropped with all under it, and so is its item.
+fn push_item_gone(
+    alloc: Global,
+    view: &View<'_>,
+    node: NodeId,
+    changes: &mut Changes,
+) -> Result<(), AllocError>
+    ensures { OnOk result (changes.new ≡ changes.old ++ dropped_under view.now.tables.nodes node ++ change.Drop (keys.Item node) ∷ []) }
+{
+    let nodes = view.tree().subtree(alloc, node)?;
+    drop_all(changes, &nodes)?;
+    changes.push(Change::Drop(RowKey::Item(node)))
+}
+
 // ---- the other parts of an act
 
 /// The meta row after an act: its counters, and the moment.
@@ -270,7 +399,7 @@ fn meta_after(view: &View<'_>, moment: Moment, act: &Allowed) -> MetaRow
         Allowed::Get { .. }
         | Allowed::List(_)
         | Allowed::Put { .. }
-        | Allowed::Delete(_)
+        | Allowed::Trash { .. }
         | Allowed::Move { .. }
         | Allowed::Close => MetaRow {
             last: moment,
@@ -291,9 +420,26 @@ pub fn added_by(view: &View<'_>, act: &Allowed) -> RowCounts
         Allowed::Get { .. }
         | Allowed::List(_)
         | Allowed::Put { .. }
-        | Allowed::Delete(_)
         | Allowed::Move { .. }
         | Allowed::Close => RowCounts::only_nodes(0),
+        Allowed::Trash { deed, .. } => added_deed(deed),
+    }
+}
+
+/// How many rows a deed adds at most: an item of the trash, or a user.
+fn added_deed(deed: &Deed) -> RowCounts
+    ensures { result ≡ added_deed deed.now }
+{
+    match deed {
+        Deed::Nothing | Deed::Restore { .. } => RowCounts::only_nodes(0),
+        Deed::Discard(_) => RowCounts {
+            items: 1,
+            ..RowCounts::only_nodes(0)
+        },
+        Deed::Requote(_) => RowCounts {
+            users: 1,
+            ..RowCounts::only_nodes(0)
+        },
     }
 }
 
@@ -309,6 +455,7 @@ fn added_of(next: NodeId, changes: &[Change]) -> RowCounts
         nodes: change_count(&Counted::Fresh(next), changes),
         shares: change_count(&Counted::Share, changes),
         mounts: change_count(&Counted::Mount, changes),
+        items: change_count(&Counted::Item, changes),
     }
 }
 
@@ -333,6 +480,7 @@ fn is_counted(counted: &Counted, change: &Change) -> bool
         Counted::Fresh(next) => is_fresh(*next, change),
         Counted::Share => puts_share(change),
         Counted::Mount => puts_mount(change),
+        Counted::Item => puts_item(change),
         Counted::User => puts_user(change),
         Counted::Token => puts_token(change),
         Counted::Group => puts_group(change),
@@ -360,6 +508,12 @@ fn puts_mount(change: &Change) -> bool
     ensures { result ≡ puts_mount change.now }
 {
     matches!(change, Change::Put(Row::Mount(_)))
+}
+
+fn puts_item(change: &Change) -> bool
+    ensures { result ≡ puts_item change.now }
+{
+    matches!(change, Change::Put(Row::Item(_)))
 }
 
 fn puts_user(change: &Change) -> bool
@@ -395,7 +549,7 @@ pub fn blob_of(act: &Allowed) -> Option<BlobId>
         Allowed::Get { .. }
         | Allowed::List(_)
         | Allowed::Put { .. }
-        | Allowed::Delete(_)
+        | Allowed::Trash { .. }
         | Allowed::Move { .. }
         | Allowed::Copy { .. }
         | Allowed::Cross { .. }
@@ -412,7 +566,7 @@ pub fn hold_of(act: &Allowed) -> Result<Option<Hold>, AllocError>
         Allowed::Put { key, .. } => Ok(Some(alone(key)?)),
         Allowed::List(_)
         | Allowed::Change { .. }
-        | Allowed::Delete(_)
+        | Allowed::Trash { .. }
         | Allowed::Move { .. }
         | Allowed::Copy { .. }
         | Allowed::Cross { .. }

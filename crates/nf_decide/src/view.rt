@@ -8,12 +8,13 @@ ghost use Rattle.nf_words.specs.Contents.{stored_pieces};
 ghost use Rattle.nf_words.specs.Listing.{size_of};
 ghost use Rattle.nf_words.specs.Sound.{AreSound};
 
-use nf_base::{MetaRow, Moment, NodeId, UserId};
+use nf_base::{ItemRow, MetaRow, Moment, NodeId, UserId};
 use nf_defs::Seeker;
 use nf_mounts::Mounts;
 use nf_people::People;
 use nf_reach::Asker;
 use nf_shares::Shares;
+use nf_table::Table;
 use nf_tree::Tree;
 use nf_words::Ticket;
 use std::marker::Model;
@@ -26,6 +27,7 @@ pub struct View<'a> {
     pub tree: &'a Tree,
     pub shares: &'a Shares,
     pub mounts: &'a Mounts,
+    pub items: &'a Table<ItemRow>,
     pub tickets: &'a [Ticket],
     pub seen: Moment,
 }
@@ -37,7 +39,7 @@ impl<'a> Model for View<'a> {
     ghost Value = { State };
 
     ghost view = { λ v. record {
-      tables = tables_in v.meta.now v.people.now v.tree.now.rows v.shares.now.rows v.mounts.now.rows;
+      tables = tables_in v.meta.now v.people.now v.tree.now.rows v.shares.now.rows v.mounts.now.rows v.items.now.rows;
       tickets = v.tickets.now;
       seen = v.seen;
     } };
@@ -91,6 +93,13 @@ impl<'a> View<'a> {
         ensures { result.now.rows ≡ self.now.tables.mounts }
     {
         self.mounts
+    }
+
+    /// The items of the trash, by rising node.
+    pub(crate) fn items(&self) -> &Table<ItemRow>
+        ensures { result.now.rows ≡ self.now.tables.items }
+    {
+        self.items
     }
 
     pub(crate) fn tickets(&self) -> &[Ticket]

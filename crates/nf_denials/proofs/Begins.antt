@@ -6,6 +6,7 @@ use Rattle.std.specs.Option.{option_or}
 use Rattle.std.proofs.lemmas.Bool.{both_ways}
 use Rattle.std.proofs.lemmas.Option.{none-some, same_Some}
 use Rattle.nf_access.specs.Shares.{ground_of, link_row}
+use Rattle.nf_base.specs.declared.rows.ItemRow.{ItemRow}
 use Rattle.nf_base.specs.declared.rows.NodeRow.{NodeRow}
 use Rattle.nf_defs.specs.declared.Found.{Found}
 use Rattle.nf_defs.specs.declared.Found.TheVariants.{At, Free, Missing}
@@ -15,7 +16,8 @@ use Rattle.nf_words.proofs.Orders.{first_of}
 use Rattle.nf_words.specs.Places.{has_forbidden, taken}
 use Rattle.nf_words.specs.Reached.{unlinked_by}
 use Rattle.nf_words.specs.Sharing.{unnamed_by}
-use Rattle.nf_words.specs.Prelude.{access_of, acts_rule, allowed_of, answered_by, are_named, asked_by, asks_by_link, Call, call_of, caller_row, exists_rule, forbidden_rule, is_caller, is_itself, IsSound, limit_rule, locked_rule, may_ask, mount_of, named_rule, needed, not_you_rule, receiver_named, overwrite_rule, paths_of, place_rule, places_of, refusal_of, room_rule, root_of, seeker_of, share_shown, share_steered, sharing_rule, source_lost, source_refused, State, target_lost, target_refused, target_rule, token_rule, unless_refused, unlinked, unreached, unreached_by, users_of, Way, way_by, way_of, quota_rule}
+use Rattle.nf_words.specs.Trash.{lacks_item, untrashed}
+use Rattle.nf_words.specs.Prelude.{access_of, acts_rule, allowed_of, answered_by, are_named, asked_by, asks_by_link, Call, call_of, caller_row, exists_rule, forbidden_rule, is_caller, is_itself, IsSound, limit_rule, locked_rule, may_ask, mount_of, named_rule, needed, not_you_rule, receiver_named, overwrite_rule, own_item, paths_of, place_rule, places_of, refusal_of, room_rule, root_of, seeker_of, share_shown, share_steered, sharing_rule, source_lost, source_refused, State, target_lost, target_refused, target_rule, token_rule, unless_refused, unlinked, unreached, unreached_by, users_of, Way, way_by, way_of, quota_rule}
 use Rattle.nf_words.specs.declared.answer.Allowed.{Allowed}
 use Rattle.nf_words.specs.declared.answer.Denial.{Denial}
 use Rattle.nf_words.specs.declared.answer.Denial.TheVariants as denial
@@ -26,8 +28,10 @@ use Rattle.nf_words.specs.declared.request.Making.TheVariants as making
 use Rattle.nf_words.specs.declared.request.Places.{Places}
 use Rattle.nf_words.specs.declared.request.ShareAsk.TheVariants as ask
 use Rattle.nf_words.specs.declared.request.Spot.{Spot}
+use Rattle.nf_words.specs.declared.request.TrashAsk.{TrashAsk}
+use Rattle.nf_words.specs.declared.request.TrashAsk.TheVariants as trash
 use Rattle.nf_words.specs.declared.request.Wanted.{Wanted}
-use Rattle.nf_words.specs.declared.request.Wanted.TheVariants.{People, Share}
+use Rattle.nf_words.specs.declared.request.Wanted.TheVariants.{People, Share, Trash}
 use Rattle.nf_denials.proofs.Told.{acts_told, unreached_told}
 use Rattle.nf_denials.specs.Laws.{BeginsTellTheirBreak, GoesBy, IsKeptOut, IsStoppedAt, IsUnmet, UnreachedIsRefused, at_source, at_target, is_of_shares}
 
@@ -64,8 +68,20 @@ taken_other rows places making.Moved = tt
 taken_other rows places making.Copied = tt
 taken_other rows places making.Shared = tt
 taken_other rows places making.Told = tt
+taken_other rows places (making.Restored item) = tt
 
--- a user, a group or a share that isn't there
+-- an item of the trash that isn't there
+lacks_other : (item : Option ItemRow) → IsOther (lacks_item item)
+lacks_other None = refl
+lacks_other (Some item) = tt
+
+trash_other : (call : Call) (asked : TrashAsk) → IsOther (untrashed call asked)
+trash_other call (trash.List user) = tt
+trash_other call (trash.Drop user item) = lacks_other (own_item call item)
+trash_other call (trash.Empty user) = tt
+trash_other call (trash.Restore user item) = lacks_other (own_item call item)
+
+-- a user, a group, a share or an item of the trash that isn't there
 named_other : (call : Call) (wanted : Wanted) → IsOther (unnamed_by call wanted)
 named_other call (Share (ask.New spot to perms until)) = unless_test (is_some (receiver_named call.state.tables to)) denial.NotFound refl
 named_other call (Share (ask.List spot with_me)) = tt
@@ -73,6 +89,7 @@ named_other call (Share (ask.Show share)) = unless_test (is_some (share_shown ca
 named_other call (Share (ask.Set share perms until)) = unless_test (is_some (share_steered call share)) denial.NotFound refl
 named_other call (Share (ask.End share)) = unless_test (is_some (share_steered call share)) denial.NotFound refl
 named_other call (People asked) = unless_test (are_named call.state.tables asked) denial.NotFound refl
+named_other call (Trash asked) = trash_other call asked
 named_other call other = tt
 
 -- the rules behind those of places and of acts don't refuse by shares

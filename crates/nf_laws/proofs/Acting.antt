@@ -1,43 +1,41 @@
--- What a DELETE, a MKCOL and a PUT change, and a MOVE of a mount.
-use Rattle.std.proofs.Common.{max, ℕ, ◌+◌, ◌-◌, option_map, ◌==◌, ◌&&◌, ◌≡◌, ◌<◌, ◌≤◌, Bool, true, false, not, List, [], ◌∷◌, ◌++◌, Option, None, Some, Result, Ok, if◌then◌else◌, length, get_or, slice_get, unwrap_or, inl, inr, refl, sym, ap, subst, ◌∙◌, arith, length-append}
+-- What a DELETE, a MKCOL and a PUT change, a MOVE of a mount, and what is asked about the trash.
+use Rattle.std.proofs.Common.{max, ℕ, ◌+◌, ◌-◌, option_map, ◌==◌, ◌&&◌, ◌≡◌, ◌<◌, Bool, true, false, not, List, [], ◌∷◌, ◌++◌, Option, None, Some, Result, Ok, if◌then◌else◌, length, get_or, map, slice_get, unwrap_or, inl, inr, refl, sym, ap, subst, ◌∙◌, arith, length-append}
 use Rattle.std.specs.Prelude.{IsOk}
+use Rattle.std.specs.List.{All}
 use Rattle.std.specs.Option.{IfSome, option_map_or}
 use Rattle.std.proofs.Math.Seq.{get_or-append_seam}
-use Rattle.std.proofs.lemmas.Bool.{and_parts, cases_Bool, eqb-true, false_from_ne_true, ne_eqb, not-true}
-use Rattle.std.proofs.lemmas.List.{length-map}
-use Rattle.std.proofs.lemmas.List.Elements.{All-weaker}
+use Rattle.std.proofs.lemmas.Bool.{and_parts, cases_Bool, eqb-true, ne_eqb, not-true}
+use Rattle.std.proofs.lemmas.List.Elements.{All-cons, All-weaker}
 use Rattle.std.proofs.lemmas.Option.{unwrap_or-slice_get}
 use Rattle.nf_access.specs.Mounts.{mount_row}
 use Rattle.nf_base.specs.Content.{content_eq}
 use Rattle.nf_base.specs.declared.changes.Change.{Change}
-use Rattle.nf_base.specs.declared.changes.Change.TheVariants.{Drop, Put}
-use Rattle.nf_base.specs.declared.changes.RowKey.TheVariants as keys
+use Rattle.nf_base.specs.declared.changes.Change.TheVariants.{Put}
 use Rattle.nf_base.specs.declared.content.Piece.{Piece}
+use Rattle.nf_base.specs.declared.rows.ItemRow.{ItemRow}
 use Rattle.nf_base.specs.declared.rows.MountRow.{MountRow}
 use Rattle.nf_base.specs.declared.rows.NodeKind.{NodeKind}
 use Rattle.nf_base.specs.declared.rows.NodeKind.TheVariants.{File, Folder}
 use Rattle.nf_base.specs.declared.rows.NodeRow.{NodeRow}
 use Rattle.nf_base.specs.declared.rows.Row.TheVariants as rows
 use Rattle.nf_base.specs.declared.rows.UserRow.{UserRow}
-use Rattle.nf_defs.proofs.Climbs.{holds_some, under_climb}
-use Rattle.nf_defs.proofs.Walks.{climbs_walk}
-use Rattle.nf_defs.specs.Prelude.{child_of, filled, found_from, is_folder, is_folder_kind, is_under, mount_key, node_key, node_row, put, Tables, walk_of}
+use Rattle.nf_defs.proofs.Climbs.{holds_some}
+use Rattle.nf_defs.specs.Prelude.{child_of, filled, found_from, is_folder, is_folder_kind, item_row, mount_key, node_key, node_row, put, Tables}
 use Rattle.nf_defs.specs.declared.Found.{Found}
 use Rattle.nf_defs.specs.declared.Found.TheVariants.{At, Free, Missing}
 use Rattle.nf_defs.specs.declared.Seeker.{Seeker}
 use Rattle.nf_defs.specs.declared.Seeker.TheVariants.{Link, User}
-use Rattle.nf_laws.proofs.Ended.{are_ended}
+use Rattle.nf_laws.proofs.Discarding.{beside_own, discard_rows, emptied_own}
 use Rattle.nf_laws.proofs.Entries.{step_changed}
-use Rattle.nf_laws.proofs.Gone.{row_cleared, row_gone}
+use Rattle.nf_laws.proofs.Going.{item_is}
 use Rattle.nf_laws.proofs.Puts.{put_other}
 use Rattle.nf_laws.proofs.Paths.{found_free, found_leads}
 use Rattle.nf_laws.proofs.Reading.{none_refused}
-use Rattle.nf_laws.proofs.Rows.{finds_none, row_is, stamp, stamped_some}
-use Rattle.nf_laws.proofs.Upwards.{climbed, climbs_is_under, derived}
+use Rattle.nf_laws.proofs.Restoring.{emptied_rows, node_among, own_named, restored_rows}
+use Rattle.nf_laws.proofs.Rows.{finds_none, row_id, row_is}
 use Rattle.nf_laws.specs.Access.{LeadsBy}
-use Rattle.nf_laws.specs.Acts.{DeletesKeep, FoldersAreMade, IsAdded, IsDeleted, IsFolderMade, IsMountChanged, IsPut, IsRefilled, LeadsToKeyBy, MountsAreLeft, MountsAreRenamed, PutsAreGranted, PutsKeep}
+use Rattle.nf_laws.specs.Acts.{DeletesKeep, DropsKeep, EmptyingKeeps, FoldersAreMade, IsAdded, IsDeleted, IsEmptied, IsFolderMade, IsItemOf, IsMountChanged, IsPut, IsRefilled, IsRestored, ItemsComeBack, LeadsToKeyBy, MountsAreLeft, MountsAreRenamed, PutsAreGranted, PutsKeep}
 use Rattle.nf_laws.specs.Reads.{LeadsToKey}
-use Rattle.nf_laws.specs.Tree.{Under}
 use Rattle.nf_laws.specs.Walks.{LeadsToFree}
 use Rattle.nf_words.proofs.Begins.{only_at, places_at}
 use Rattle.nf_words.proofs.Bodies.{content_decides}
@@ -48,9 +46,11 @@ use Rattle.nf_words.proofs.Known.{Known}
 use Rattle.nf_words.proofs.Mounting.{IsOwnMount, mount_found, mount_left_so, not_mount, own_known}
 use Rattle.nf_words.proofs.Passing.{call_passes, Passes, place_passes, PlacePasses}
 use Rattle.nf_words.proofs.Starts.{has_asker, itself_asker, row_of_caller}
-use Rattle.nf_words.specs.Prelude.{access_of, allowed_of, answered_by, AreSound, asked_of, asker_of, behind, blob_after, blob_for, by_of, Call, call_decision, call_of, changed, closed_under, content_in, decision_of, deleted, dropped_under, end_refusal, ends_at, exists_rule, found, given, gone_under, IsHeld, IsStorable, last_name, left_row, made_folder, makes, MayAsk, MayEnd, mount_left, mount_of, mount_renamed, moved, named_row, new_node, node_at, own_mount, refilled, refusal_of, removed, root_of, seeker_of, source_lost, step, stored, stored_at, stores, taken, target_lost, told, transfer_of, user_of, way_by, way_of, with_mount_row}
+use Rattle.nf_words.proofs.Ways.{node_present, way_there}
+use Rattle.nf_words.specs.Prelude.{access_of, allowed_of, answered_by, AreSound, asked_of, asker_of, behind, blob_after, blob_for, by_of, Call, call_decision, call_of, changed, content_in, decision_of, deleted, discard, end_refusal, ends_at, exists_rule, found, given, gone_beside, IsHeld, IsStorable, item_dropped, item_restored, items_of, last_name, LeadsToRoot, left_row, made_folder, makes, MayAsk, MayEnd, mount_left, mount_of, mount_renamed, moved, named_row, named_rule, new_node, node_at, nothing_done, own_mount, refilled, refusal_of, root_of, seeker_of, source_lost, stored, stored_at, stores, taken, target_lost, transfer_of, unnamed_by, untrashed, user_of, way_by, way_of, with_mount_row}
 use Rattle.nf_words.specs.declared.answer.Allowed.{Allowed}
 use Rattle.nf_words.specs.declared.answer.Allowed.TheVariants as allowed
+use Rattle.nf_words.specs.declared.answer.Deed.TheVariants as deed
 use Rattle.nf_words.specs.declared.answer.Denial.{Denial}
 use Rattle.nf_words.specs.declared.answer.Goal.{Goal}
 use Rattle.nf_words.specs.declared.answer.LockKey.{LockKey}
@@ -61,6 +61,8 @@ use Rattle.nf_words.specs.declared.history.Event.TheVariants.{Begin, End}
 use Rattle.nf_words.specs.declared.history.Outcome.TheVariants.{Body}
 use Rattle.nf_words.specs.declared.request.Making.TheVariants as making
 use Rattle.nf_words.specs.declared.request.Spot.{Spot}
+use Rattle.nf_words.specs.declared.request.TrashAsk.{TrashAsk}
+use Rattle.nf_words.specs.declared.request.TrashAsk.TheVariants as trash
 use Rattle.nf_words.specs.declared.request.Wanted.{Wanted}
 use Rattle.nf_words.specs.declared.request.Wanted.TheVariants as wanted
 
@@ -165,54 +167,94 @@ asks_is call spot passes itself =
 
 -- ---- DELETE
 
--- all that is told of it
-pub some_told : (t : Tables) (top : ℕ) → 1 ≤ length (gone_under t.nodes t.shares top)
-some_told t top =
-    omega (
-      arith,
-      length-append (dropped_under t.nodes top) (closed_under t.nodes t.shares top),
-      length-map (walk_of t.nodes top) (λ node. Drop (keys.Node node)),
-      (climbs_walk 0 t.nodes top top (omega arith) refl).1,
-    )
-
-deleted_rows : (call : Call) (spot : Spot) (top : ℕ) → AreSound call.state.tables → LeadsBy call spot (mount_of call spot) top
-    → IsDeleted call spot (stamp (removed call.state.tables top) call.now)
-deleted_rows call spot top sound led = record {
-  top = top;
-  led = led;
-  gone = λ node under. row_gone t.nodes (Some top) node (under_is node under);
-  others = λ node outside. row_cleared t.nodes (Some top) node (outside_is node outside);
-  shares = are_ended (λ node. is_under t.nodes node top) (Under t.nodes top) t.shares under_is outside_is;
-  rest = refl;
-}
-  where
-    t : Tables
-    t = call.state.tables
-
-    under_is : (node : ℕ) → Under t.nodes top node → is_under t.nodes node top ≡ true
-    under_is node under = let c = climbed t.nodes top node under in climbs_is_under c.0 t node top sound c.1
-
-    outside_is : (node : ℕ) → (Under t.nodes top node → ⊥) → is_under t.nodes node top ≡ false
-    outside_is node outside =
-        false_from_ne_true (is_under t.nodes node top) (λ is.
-        let c = under_climb t.nodes node top is in outside (derived c.0 t.nodes top node c.2))
-
 pub deletes_keep : DeletesKeep
 deletes_keep s seat now words request spot sound may asked other ok =
     let call = call_of s seat now words request in
     let t = s.tables in
     let is = accepted call ok in
-    let at = there_at (found call spot) (placed call (wanted.Delete spot) asked is.1).there in
-    let act = allowed.Delete at.0 in
+    let places = placed call (wanted.Delete spot) asked is.1 in
+    let at = there_at (found call spot) places.there in
+    let asker = has_asker call is.1.token places.linked in
+    let row = way_there call spot sound.rows asker at.0 (places.source other) at.1 in
+    let act = discard t now row.0 in
     let gives : allowed_of (access_of s) call ≡ act =
     given_for call (wanted.Delete spot) asked
-    ∙ ap (λ (b : Bool). if b then mount_left call (way_of call spot) else deleted (node_at (only_at b (found call spot)).source)) other
-    ∙ ap (λ (place : Found). deleted (node_at (Some place))) at.1 in
-    let becomes : (step s seat now (Begin words request)).tables ≡ stamp (removed t at.0) now =
-    step_changed s seat now (Begin words request) act (is.0 ∙ ap (λ (a : Allowed). Ok a) gives)
-    ∙ stamped_some t (removed t at.0) now (told t act) (some_told t at.0) in
-    subst (λ (made : Tables). IsDeleted call spot made) (sym becomes)
-    (deleted_rows call spot at.0 sound.rows (leads_by call spot sound.rows at.0 at.1))
+    ∙ ap (λ (b : Bool). if b then mount_left call (way_of call spot) else deleted t now (node_at (only_at b (found call spot)).source)) other
+    ∙ ap (λ (place : Found). deleted t now (node_at (Some place))) at.1
+    ∙ ap (λ (o : Option NodeRow). option_map_or (discard t now) o nothing_done) row.1 in
+    let decides : decision_of s seat now (Begin words request) ≡ Ok act = is.0 ∙ ap (λ (a : Allowed). Ok a) gives in
+    let id : at.0 ≡ row.0.id = sym (row_id t.nodes at.0 row.0 row.1) in
+    subst (λ (made : Tables). IsDeleted call spot made) (sym (step_changed s seat now (Begin words request) act decides))
+    (discard_rows call spot row.0 sound.rows (ap (node_row t.nodes) (sym id) ∙ row.1)
+    (subst (LeadsToRoot t.nodes) id (node_present call spot sound.rows asker at.0 (places.source other) at.1))
+    (subst (LeadsBy call spot (mount_of call spot)) id (leads_by call spot sound.rows at.0 at.1))
+    (known_change s seat now (Begin words request) act sound may decides))
+
+-- ---- what is asked about the trash
+
+-- no item that isn't there is asked for
+item_named : (call : Call) (asked : TrashAsk) → call.request.wanted ≡ wanted.Trash asked → Passes (access_of call.state) call
+    → untrashed call asked ≡ None
+unfolding named_rule
+item_named call asked is passes = subst (λ (w : Wanted). unnamed_by call w ≡ None) is passes.named
+
+pub drops_keep : DropsKeep
+drops_keep s seat now words request user item sound may asked ok =
+    let call = call_of s seat now words request in
+    let t = s.tables in
+    let is = accepted call ok in
+    let own = own_named call item (item_named call (trash.Drop user item) asked is.1) in
+    let tops = own.0.node ∷ gone_beside t now own.0 in
+    let act = item_dropped t now own.0 in
+    let gives : allowed_of (access_of s) call ≡ act =
+    given_for call (wanted.Trash (trash.Drop user item)) asked ∙ ap (λ (o : Option ItemRow). option_map_or (item_dropped t now) o nothing_done) own.1 in
+    let decides : decision_of s seat now (Begin words request) ≡ Ok act = is.0 ∙ ap (λ (a : Allowed). Ok a) gives in
+    let known = known_change s seat now (Begin words request) act sound may decides in
+    let id = (item_is t item sound.rows own.0 own.2).0 in
+    let theirs : All (IsItemOf t (asker_of call)) tops =
+    All-cons (IsItemOf t (asker_of call)) own.0.node (gone_beside t now own.0) (own.0, ap (item_row t.items) id ∙ own.2, own.3)
+    (subst (λ (user : ℕ). All (IsItemOf t user) (gone_beside t now own.0)) own.3 (beside_own t now own.0 sound.rows)) in (
+      tops,
+      (0, omega arith, id),
+      subst (λ (made : Tables). IsEmptied call made tops) (sym (step_changed s seat now (Begin words request) act decides))
+          (emptied_rows call tops Done sound.rows theirs known.once),
+    )
+
+pub emptying_keeps : EmptyingKeeps
+emptying_keeps s seat now words request user sound may asked ok =
+    let call = call_of s seat now words request in
+    let t = s.tables in
+    let is = accepted call ok in
+    let tops = map (λ (item : ItemRow). item.node) (items_of t (asker_of call)) in
+    let act = allowed.Trash deed.Nothing tops Done in
+    let decides : decision_of s seat now (Begin words request) ≡ Ok act =
+    is.0 ∙ ap (λ (a : Allowed). Ok a) (given_for call (wanted.Trash (trash.Empty user)) asked) in
+    let known = known_change s seat now (Begin words request) act sound may decides in (
+      tops,
+      λ item among own. node_among (asker_of call) t.items item among own,
+      subst (λ (made : Tables). IsEmptied call made tops) (sym (step_changed s seat now (Begin words request) act decides))
+          (emptied_rows call tops Done sound.rows (emptied_own t (asker_of call) sound.rows) known.once),
+    )
+
+pub items_come_back : ItemsComeBack
+items_come_back s seat now words request user node sound may asked ok =
+    let call = call_of s seat now words request in
+    let t = s.tables in
+    let is = accepted call ok in
+    let own = own_named call node (item_named call (trash.Restore user node) asked is.1) in
+    let item = own.0 in
+    let gone = gone_beside t now item in
+    let act = item_restored t now item in
+    let gives : allowed_of (access_of s) call ≡ act =
+    given_for call (wanted.Trash (trash.Restore user node)) asked ∙ ap (λ (o : Option ItemRow). option_map_or (item_restored t now) o nothing_done) own.1 in
+    let decides : decision_of s seat now (Begin words request) ≡ Ok act = is.0 ∙ ap (λ (a : Allowed). Ok a) gives in
+    let known = known_change s seat now (Begin words request) act sound may decides in
+    let id = (item_is t node sound.rows item own.2).0 in
+    subst (λ (made : Tables). IsRestored call node made) (sym (step_changed s seat now (Begin words request) act decides))
+    (subst (λ (n : ℕ). IsRestored call n (changed t now act)) id
+    (restored_rows call item gone sound.rows (ap (item_row t.items) id ∙ own.2) known.known own.3
+    (subst (λ (user : ℕ). All (IsItemOf t user) gone) own.3 (beside_own t now item sound.rows))
+    (λ k d within same. known.stays k d within (ap Some same)) known.once))
 
 -- ---- a mount itself
 
@@ -262,7 +304,7 @@ mounts_left s seat now words request spot sound may asked itself ok =
     let act = mount_left call (way_of call spot) in
     let gives : allowed_of (access_of s) call ≡ act =
     given_for call (wanted.Delete spot) asked
-    ∙ ap (λ (b : Bool). if b then act else deleted (node_at (only_at b (found call spot)).source)) itself in
+    ∙ ap (λ (b : Bool). if b then act else deleted s.tables now (node_at (only_at b (found call spot)).source)) itself in
     subst (λ (made : Tables). IsMountChanged call spot made left_row)
     (sym (step_changed s seat now (Begin words request) act (is.0 ∙ ap (λ (a : Allowed). Ok a) gives)))
     (remounts call spot left_row Done sound.rows (asks_is call spot is.1 itself) itself (λ row. refl) (λ row. refl))
@@ -480,4 +522,4 @@ puts_keep s seat now by key digest size sound granted ok =
     let known = known_change s seat now event act sound may (goes ∙ none) in
     let there = subst (λ (o : Option Goal). IfSome o (IsStorable t)) granted (goal_held s seat sound) in
     subst (λ (made : Tables). IsPut t made now key (content_in (blob_for t.meta.next_blob size) digest size))
-    (sym (step_changed s seat now event act (goes ∙ none))) (put_rows t now key digest size sound.rows there known)
+    (sym (step_changed s seat now event act (goes ∙ none))) (put_rows t now key digest size sound.rows there.0 known)

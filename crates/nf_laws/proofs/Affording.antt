@@ -1,27 +1,39 @@
 -- What a Begin that no rule refuses may do passes no quota.
-use Rattle.std.proofs.Common.{ℕ, ◌≡◌, Bool, true, false, List, [], Option, None, Some, Ok, if◌then◌else◌, refl, sym, subst}
+use Rattle.std.proofs.Common.{ℕ, ◌==◌, ◌≡◌, Bool, true, false, not, List, [], ◌∷◌, filter, Option, None, Some, Ok, if◌then◌else◌, refl, sym, subst}
+use Rattle.std.specs.List.{list_any}
 use Rattle.std.specs.Option.{option_and_then, option_map_or}
-use Rattle.std.proofs.lemmas.Bool.{cond_both}
+use Rattle.std.proofs.lemmas.Bool.{cond_both, eqb-true}
+use Rattle.nf_base.specs.declared.rows.ItemRow.{ItemRow}
 use Rattle.nf_base.specs.declared.rows.NodeRow.{NodeRow}
 use Rattle.nf_base.specs.declared.rows.ShareRow.{ShareRow}
-use Rattle.nf_defs.specs.Prelude.{content_of, is_folder, Tables}
+use Rattle.nf_base.specs.declared.rows.UserRow.{UserRow}
+use Rattle.nf_defs.specs.Prelude.{content_of, is_folder, item_row, node_row, Tables}
 use Rattle.nf_defs.specs.declared.Found.{Found}
 use Rattle.nf_defs.specs.declared.Found.TheVariants.{At, Free, Missing}
 use Rattle.nf_words.proofs.Begins.{only_at, places_at, wanted_passes, WantedPasses}
+use Rattle.nf_words.proofs.Found.{found_passes}
 use Rattle.nf_words.proofs.Known.{KnownCopies}
 use Rattle.nf_words.proofs.Passing.{call_passes, no_excess, place_passes}
 use Rattle.nf_words.proofs.Starts.{has_asker, IsAsking}
 use Rattle.nf_words.proofs.Transfers.{copies_known}
-use Rattle.nf_words.specs.Prelude.{access_of, AreSound, asked_of, by_of, Call, call_decision, carry_excess, carry_limit, copied, copies_to, copy_excess, copy_limit, crosses, deleted, exceeded, found, given, IsSound, last_name, limited, listing_of, made_folder, MayWant, mount_left, mount_renamed, moved, move_limit, node_at, nothing_done, offered, perms_after, quota_rule, root_of, served, shared, share_ended, share_made, share_set, share_shown, share_steered, share_told, stored, transfer_of, unfit_between, unreached, until_after, way_of}
+use Rattle.nf_words.proofs.Trashing.{own_there}
+use Rattle.nf_words.specs.Prelude.{access_of, AreSound, asked_of, asked_of_trash, asker_of, by_of, Call, call_decision, carry_excess, carry_limit, copied, copies_to, copy_excess, copy_limit, crosses, deleted, discard, exceeded, found, given, gone_of, IsSound, item_dropped, item_for, item_if_of, item_restored, items_of, last_name, limited, listing_of, made_folder, MayWant, mount_left, mount_renamed, moved, move_limit, node_at, nothing_done, offered, own_item, people_done, perms_after, quota_of, quota_rule, requoted, restore_excess, root_of, row_named, served, shared, share_ended, share_made, share_set, share_shown, share_steered, share_told, stored, transfer_of, trash_done, unfit_between, unreached, until_after, way_of}
 use Rattle.nf_words.specs.declared.answer.Allowed.{Allowed}
 use Rattle.nf_words.specs.declared.answer.Allowed.TheVariants as allowed
 use Rattle.nf_words.specs.declared.answer.By.{By}
+use Rattle.nf_words.specs.declared.answer.Deed.{Deed}
+use Rattle.nf_words.specs.declared.answer.Deed.TheVariants as deed
+use Rattle.nf_words.specs.declared.answer.Report.TheVariants as report
 use Rattle.nf_words.specs.declared.request.Making.TheVariants as making
+use Rattle.nf_words.specs.declared.request.PeopleAsk.{PeopleAsk}
+use Rattle.nf_words.specs.declared.request.PeopleAsk.TheVariants as people
 use Rattle.nf_words.specs.declared.request.Places.{Places}
 use Rattle.nf_words.specs.declared.request.ShareAsk.{ShareAsk}
 use Rattle.nf_words.specs.declared.request.ShareAsk.TheVariants as ask
 use Rattle.nf_words.specs.declared.request.Spot.{Spot}
 use Rattle.nf_words.specs.declared.request.Transfer.{Transfer}
+use Rattle.nf_words.specs.declared.request.TrashAsk.{TrashAsk}
+use Rattle.nf_words.specs.declared.request.TrashAsk.TheVariants as trash
 use Rattle.nf_words.specs.declared.request.Wanted.{Wanted}
 use Rattle.nf_words.specs.declared.request.Wanted.TheVariants as wanted
 
@@ -30,9 +42,15 @@ pub record AffordsCopies (t : Tables) (now : ℕ) (rows : List NodeRow) (replace
   pub known : KnownCopies t now rows replaced
   pub within : copy_excess t known.transfer ≡ None
 
--- no body is stored, and what is copied passes no quota
+-- what comes back passes no quota
+abbrev pub AffordsDeed : Tables → Deed → Type 0
+AffordsDeed t (deed.Restore node folder name) = option_and_then (restore_excess t) (item_row t.items node) ≡ None
+AffordsDeed t did = Unit {0}
+
+-- no body is stored, and what is copied or comes back passes no quota
 abbrev pub Affords : Tables → ℕ → Allowed → Type 0
 Affords t now (allowed.Change changes blob report) = blob ≡ None
+Affords t now (allowed.Trash did gone report) = AffordsDeed t did
 Affords t now (allowed.Copy rows replaced) = AffordsCopies t now rows replaced
 Affords t now (allowed.Cross rows replaced node) = AffordsCopies t now rows replaced
 Affords t now act = Unit {0}
@@ -113,10 +131,18 @@ module _ (call : Call) (sound : AreSound call.state.tables) (is : IsAsking call)
   folder_affords last (Free folder) = refl
   folder_affords last (Missing depth) = tt
 
+  discard_affords : (row : NodeRow) → IsAfforded (discard all call.now row)
+  discard_affords row =
+      let gone = gone_of all call.now (quota_of all row.owner) (item_for call.now row ∷ items_of all row.owner) in
+      cond_both (list_any (λ node. node == row.id) gone)
+      (allowed.Trash deed.Nothing (row.id ∷ filter (λ node. not (node == row.id)) gone) report.Done)
+      (allowed.Trash (deed.Discard (item_for call.now row)) gone report.Done) IsAfforded (λ goes. tt) (λ stays. tt)
+
   delete_affords : (spot : Spot) (itself : Bool) → IsAfforded (if itself then mount_left call (way_of call spot)
-      else deleted (node_at (only_at itself (found call spot)).source))
+      else deleted all call.now (node_at (only_at itself (found call spot)).source))
   delete_affords spot true = refl
-  delete_affords spot false = where_there allowed.Delete allowed.Close (node_at (Some (found call spot))) tt (λ node. tt)
+  delete_affords spot false =
+      where_there (discard all call.now) nothing_done (option_and_then (node_row all.nodes) (node_at (Some (found call spot)))) refl discard_affords
 
   move_affords : (source to : Spot) (itself : Bool)
       → (itself ≡ false → unreached (access_of call.state) call (way_of call source) ≡ None)
@@ -141,6 +167,33 @@ module _ (call : Call) (sound : AreSound call.state.tables) (is : IsAsking call)
       refl (λ row. refl)
   shared_affords places (ask.End share) = where_there share_ended nothing_done (share_steered call share) refl (λ row. refl)
 
+  requoted_affords : (quota : ℕ) (row : UserRow) → IsAfforded (requoted all call.now quota row)
+  requoted_affords quota row =
+      cond_both (row.quota == quota) nothing_done
+      (allowed.Trash (deed.Requote (record row { quota = quota })) (gone_of all call.now quota (items_of all row.id)) report.Plain)
+      IsAfforded (λ same. refl) (λ other. tt)
+
+  people_afford : (asked : PeopleAsk) → IsAfforded (people_done all call.now asked)
+  people_afford (people.SetQuota user quota) =
+      where_there (requoted all call.now quota) nothing_done (row_named all user) refl (requoted_affords quota)
+  people_afford asked = refl
+
+  -- an item that comes back passes no quota
+  restored_affords : (user item : ℕ) (o : Option ItemRow) → option_and_then (item_if_of user) (item_row all.items item) ≡ o
+      → option_and_then (restore_excess all) (item_row all.items item) ≡ None → IsAfforded (option_map_or (item_restored all call.now) o nothing_done)
+  restored_affords user item None is none = refl
+  restored_affords user item (Some row) is none =
+      let there = own_there all sound user item row is in
+      let id = eqb-true row.node item (found_passes (λ (row : ItemRow). row.node == item) all.items row there) in
+      subst (λ (n : ℕ). option_and_then (restore_excess all) (item_row all.items n) ≡ None) (sym id) none
+
+  trash_affords : (places : Places) (asked : TrashAsk) → exceeded all places (asked_of_trash asked).makes ≡ None → IsAfforded (trash_done call asked)
+  trash_affords places (trash.List user) none = refl
+  trash_affords places (trash.Drop user item) none =
+      where_there (item_dropped all call.now) nothing_done (own_item call item) refl (λ row. tt)
+  trash_affords places (trash.Empty user) none = tt
+  trash_affords places (trash.Restore user item) none = restored_affords (asker_of call) item (own_item call item) refl none
+
   wanted_affords : (wanted : Wanted) → WantedPasses call wanted → exceeded all (places_at call wanted) (asked_of wanted).makes ≡ None
       → IsAfforded (given (access_of call.state) call (places_at call wanted) wanted)
   wanted_affords (wanted.Get spot) p none = served_affords (way_of call spot).mount (node_at (Some (found call spot)))
@@ -152,7 +205,8 @@ module _ (call : Call) (sound : AreSound call.state.tables) (is : IsAsking call)
   wanted_affords (wanted.Copy source to overwrite) p none =
       copied_affords call source to sound is (p.place.source refl) p.place.target p.fits p.few none
   wanted_affords (wanted.Share asked) p none = shared_affords (places_at call (wanted.Share asked)) asked
-  wanted_affords (wanted.People asked) p none = refl
+  wanted_affords (wanted.People asked) p none = people_afford asked
+  wanted_affords (wanted.Trash asked) p none = trash_affords (places_at call (wanted.Trash asked)) asked none
 
 pub call_affords : (call : Call) (act : Allowed) → IsSound call.state → MayWant call.request → call_decision call ≡ Ok act
     → Affords call.state.tables call.now act

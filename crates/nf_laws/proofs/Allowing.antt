@@ -1,617 +1,47 @@
 -- Where a step makes a row another, who acts may do all that is needed, and what became of the node follows from it.
-use Rattle.std.proofs.Common.{ℕ, ◌==◌, ◌≡◌, ◌≢◌, ◌⊎◌, suc, Bool, true, false, not, List, [], ◌∷◌, ◌++◌, Option, None, Some, Ok, option_map, if◌then◌else◌, map, inl, inr, refl, sym, ap, subst, ◌∙◌, arith}
-use Rattle.std.specs.Prelude.{is_some}
+use Rattle.std.proofs.Common.{ℕ, zero, suc, ◌≡◌, ◌≢◌, ◌⊎◌, ◌≤◌, Bool, true, false, not, List, [], ◌∷◌, ◌++◌, Option, None, Some, Ok, option_map, inl, inr, refl, sym, ap, subst, ◌∙◌, arith}
 use Rattle.std.specs.List.{All}
-use Rattle.std.specs.Option.{IfSome, option_and_then, option_map_or, option_or}
-use Rattle.std.specs.declared.cmp.Ordering.{Ordering}
-use Rattle.std.specs.declared.cmp.Ordering.TheVariants.{Equal, Less}
-use Rattle.std.proofs.lemmas.Bool.{both_ways, cases_Bool, cond_both, eq-eqb, eqb-true, false≢true}
-use Rattle.std.proofs.lemmas.Cmp.{tied_itself}
-use Rattle.std.proofs.lemmas.List.Elements.{All-head, All-tail, Contains-append_right}
-use Rattle.std.proofs.lemmas.Option.{none-some, same_Some}
-use Rattle.nf_access.specs.Mounts.{is_mount_of, mount_at, mount_row}
+use Rattle.std.specs.Option.{IfSome, option_and_then, option_map_or}
 use Rattle.nf_access.specs.Shares.{ground_of}
-use Rattle.nf_base.specs.declared.content.Piece.{Piece}
-use Rattle.nf_base.specs.declared.perms.Act.{Act}
 use Rattle.nf_base.specs.declared.perms.Act.TheVariants as act
-use Rattle.nf_base.specs.declared.rows.MountRow.{MountRow}
-use Rattle.nf_base.specs.declared.rows.NodeKind.{NodeKind}
-use Rattle.nf_base.specs.declared.rows.NodeKind.TheVariants.{File, Folder}
 use Rattle.nf_base.specs.declared.rows.NodeRow.{NodeRow}
-use Rattle.nf_base.specs.declared.rows.Place.{Place}
-use Rattle.nf_defs.proofs.Puts.{below_rest, key_total, tail_rising, turned}
-use Rattle.nf_defs.specs.Prelude.{by_order, child_of, content_of, is_folder, is_under, IsRising, key_cmp, mount_key, node_row, owner_of, parent_of, put, relinked, Tables}
+use Rattle.nf_defs.specs.Prelude.{node_row, put, Tables}
 use Rattle.nf_defs.specs.declared.Found.{Found}
-use Rattle.nf_defs.specs.declared.Found.TheVariants.{At, Free, Missing}
+use Rattle.nf_defs.specs.declared.Found.TheVariants.{At}
 use Rattle.nf_defs.specs.declared.Seeker.{Seeker}
-use Rattle.nf_laws.proofs.Acting.{added_rows, put_rows}
-use Rattle.nf_laws.proofs.Asking.{asks_share, OneShare}
+use Rattle.nf_laws.proofs.Acting.{put_rows}
 use Rattle.nf_laws.proofs.Entries.{entry_has}
-use Rattle.nf_laws.proofs.Following.{AllFollow, added_follow, copied_follow, copied_shares, crossed_follow, crossed_shares, deleted_follow, deleted_shares, kept_shares, moved_follow, moved_shares, refilled_follow}
+use Rattle.nf_laws.proofs.Fitting.{begin_fits, first_needed, Fits, is_apart, KeepsRest, need_of, OneOther, put_fits}
+use Rattle.nf_laws.proofs.Leaving.{same_items}
 use Rattle.nf_laws.proofs.Providing.{people_provide}
-use Rattle.nf_laws.proofs.Reaching.{way_mount}
-use Rattle.nf_laws.proofs.Rows.{found_is, inside_folder, parent_there, stamped_has}
-use Rattle.nf_laws.proofs.Transferred.{moved_rows}
-use Rattle.nf_laws.proofs.Upwards.{climbs_is_under}
-use Rattle.nf_laws.specs.Acts.{IsAdded, IsPut, IsRefilled}
-use Rattle.nf_laws.specs.Access.{ChangesAllowed, ChangesWhatMayBeChanged, Follows, IsAllowed, IsNeeded, IsOwnPath, IsProviding, IsRemounted, IsSharing, KeepsShares, NodesAllowed, MayDo, Remounts, is_left, is_moved, is_renamed, is_updated, needs_of, needs_of_goal, seeker_at, seeker_of_goal}
-use Rattle.nf_words.proofs.Begins.{only_at, places_at, wanted_passes, WantedPasses}
+use Rattle.nf_laws.proofs.Remaining.{gone_present}
+use Rattle.nf_laws.proofs.Rows.{row_id}
+use Rattle.nf_laws.proofs.Settling.{delete_allowed, none_settled, same_allowed, same_nodes, trash_allowed}
+use Rattle.nf_laws.proofs.Stays.{sound_after}
+use Rattle.nf_laws.specs.Access.{by_asking, by_delete, by_quota, ChangesAllowed, ChangesWhatMayBeChanged, IsAllowed, IsNeeded, IsProviding, IsRemounted, IsRestoring, IsSharing, ItemsFollow, KeepsShares, MayDo, needs_of, needs_of_goal, NodesAllowed, seeker_at, seeker_of_goal, Settles}
+use Rattle.nf_words.proofs.Begins.{places_at, wanted_known, wanted_passes, WantedPasses}
 use Rattle.nf_words.proofs.Ends.{known_change, goal_held}
-use Rattle.nf_words.proofs.Fits.{within}
-use Rattle.nf_words.proofs.Known.{Known, KnownCopies, KnownTransfer}
-use Rattle.nf_words.proofs.Mounting.{mounts_differ, own_known, same_key, shown_mount}
-use Rattle.nf_words.proofs.Passing.{acts_pass, call_passes, end_passes, needs_pass, not_refused}
-use Rattle.nf_words.proofs.Starts.{has_asker, IsAsking, itself_seeks}
-use Rattle.nf_words.proofs.Transfers.{copies_known, no_mount, no_starts, transfer_known, transfer_parts}
-use Rattle.nf_words.proofs.Ways.{free_no_mount, slot_known, way_there}
-use Rattle.nf_words.specs.Needed.{source_act, target_needs}
-use Rattle.nf_words.specs.Prelude.{access_of, AreSound, asked_of, asker_of, blob_for, by_of, Call, call_of, call_decision, carry_limit, changed, content_in, copied, copies_to, copy_limit, crosses, decision_of, deepest_in, deleted, end_refusal, ends_at, fault_of_ask, folder_at, found, given, goal_at, is_about_people, is_itself, is_one, is_start, is_within, IsSound, IsStorable, joined, last_name, left_row, limited, listing_of, made_folder, MayAsk, MayEnd, MayWant, mount_for, mount_left, mount_of, mount_renamed, mounted, move_limit, moved, named_row, Need, needed, needed_by, needs, needs_at, needs_between, needs_in, node_at, node_found, own_mount, removed, root_of, seeker_of, served, shared, State, stored, stored_at, told, transfer_of, transferred, unfit_between, unreached, Way, way_by, way_of, with_mount_row}
+use Rattle.nf_words.proofs.Known.{Known}
+use Rattle.nf_words.proofs.Passing.{acts_pass, call_passes, end_passes, needs_pass, not_refused, Passes}
+use Rattle.nf_words.proofs.Starts.{has_asker, IsAsking}
+use Rattle.nf_words.proofs.Ways.{node_present, way_there}
+use Rattle.nf_words.specs.Prelude.{access_of, allowed_of, AreSound, asked_of, blob_for, Call, call_of, call_decision, changed, content_in, decision_of, deleted, discard, end_refusal, ends_at, found, given, goal_at, IsSound, IsStorable, LeadsToRoot, MayAsk, MayEnd, MayWant, mounted, Need, needed, needed_by, needs, needs_at, needs_between, node_found, nothing_done, places_of, purged_all, root_of, seeker_of, State, stored_at, way_of}
 use Rattle.nf_words.specs.declared.answer.Allowed.{Allowed}
 use Rattle.nf_words.specs.declared.answer.Allowed.TheVariants as allowed
-use Rattle.nf_words.specs.declared.answer.By.{By}
 use Rattle.nf_words.specs.declared.answer.Goal.{Goal}
-use Rattle.nf_words.specs.declared.answer.Goal.TheVariants.{Store}
-use Rattle.nf_words.specs.declared.answer.LockKey.{LockKey}
+use Rattle.nf_words.specs.declared.answer.Goal.TheVariants.{Serve, Store}
 use Rattle.nf_words.specs.declared.answer.LockKey.TheVariants.{Node, Slot}
-use Rattle.nf_words.specs.declared.answer.Report.{Report}
-use Rattle.nf_words.specs.declared.answer.Report.TheVariants as report
 use Rattle.nf_words.specs.declared.history.Entry.{Entry}
 use Rattle.nf_words.specs.declared.history.Event.{Event}
 use Rattle.nf_words.specs.declared.history.Event.TheVariants.{Begin, End}
 use Rattle.nf_words.specs.declared.history.Outcome.{Outcome}
 use Rattle.nf_words.specs.declared.history.Outcome.TheVariants.{Body}
-use Rattle.nf_words.specs.declared.request.Making.TheVariants as making
-use Rattle.nf_words.specs.declared.request.Places.{Places}
+use Rattle.nf_words.specs.declared.request.PeopleAsk.{PeopleAsk}
 use Rattle.nf_words.specs.declared.request.Request.{Request}
-use Rattle.nf_words.specs.declared.request.ShareAsk.{ShareAsk}
 use Rattle.nf_words.specs.declared.request.Spot.{Spot}
-use Rattle.nf_words.specs.declared.request.Transfer.{Transfer}
 use Rattle.nf_words.specs.declared.request.Wanted.{Wanted}
-use Rattle.nf_words.specs.declared.request.Wanted.TheVariants.{Get, Put, Mkcol, Delete, Move, Copy, People, Share}
+use Rattle.nf_words.specs.declared.request.Wanted.TheVariants.{Get, Put, Mkcol, Delete, Move, Copy, People, Share, Trash}
 use Rattle.nf_words.specs.declared.request.Words.{Words}
-
--- ---- what fits
-
--- but for the meta row, nodes, shares and mounts all is as it was
-abbrev KeepsRest : Tables → Tables → Type 0
-KeepsRest t made = made ≡ record t { meta = made.meta; nodes = made.nodes; shares = made.shares; mounts = made.mounts }
-
--- so it is where the nodes alone are others
-rest_of : (t made : Tables) → made ≡ record t { meta = made.meta; nodes = made.nodes } → KeepsRest t made
-rest_of t made is = subst (KeepsRest t) (sym is) refl
-
--- where a row is another what became of the node follows from what is needed. Shares end with their nodes and mounts are as they were,
--- or both are as something else has it
-record Fits (t : Tables) (needs : List Need) (Other : Tables → Type 0) (made : Tables) : Type 0 where
-  follow : AllFollow needs t.nodes made.nodes
-  others : KeepsShares t made ⊎ Other made
-  rest : KeepsRest t made
-
-same_follow : (needs : List Need) (rows : List NodeRow) → AllFollow needs rows rows
-same_follow needs rows node differs = absurd (differs refl)
-
-same_fits : (t : Tables) (needs : List Need) (Other : Tables → Type 0) → AreSound t → Fits t needs Other t
-same_fits t needs Other sound =
-    record {
-      follow = same_follow needs t.nodes;
-      others = inl (record { shares = kept_shares t t.nodes sound (λ node there. there); mounts = refl });
-      rest = refl;
-    }
-
--- where a node is added, or refilled
-added_fits : (t made : Tables) (now folder : ℕ) (name : List ℕ) (kind : NodeKind) (content : List Piece) (needs : List Need)
-    (Other : Tables → Type 0) → AreSound t → IsAdded t made now folder name kind content → IsNeeded needs act.Create folder
-    → Fits t needs Other made
-added_fits t made now folder name kind content needs Other sound is needed = record {
-  follow = added_follow t made now folder name kind content needs is needed;
-  others = inl (record {
-    shares = ap (λ (u : Tables). u.shares) is.rest ∙ kept_shares t made.nodes sound stay;
-    mounts = ap (λ (u : Tables). u.mounts) is.rest;
-  });
-  rest = subst (KeepsRest t) (sym is.rest) refl;
-}
-  where
-    stay : (node : ℕ) → is_some (node_row t.nodes node) ≡ true → is_some (node_row made.nodes node) ≡ true
-    stay node there =
-        elim (cases_Bool (node == t.meta.next_node)) [
-          | inl same ↦ ap is_some (ap (node_row made.nodes) (eqb-true node t.meta.next_node same) ∙ is.itself)
-          | inr other ↦ ap is_some (is.others node (λ e. both_ways (node == t.meta.next_node) other (eq-eqb node t.meta.next_node e))) ∙ there
-        ]
-
-refilled_fits : (t made : Tables) (now node : ℕ) (content : List Piece) (needs : List Need) (Other : Tables → Type 0) → AreSound t
-    → IsRefilled t made now node content → IsNeeded needs act.Update node → Fits t needs Other made
-refilled_fits t made now node content needs Other sound is needed = record {
-  follow = refilled_follow t made now node content needs is needed;
-  others = inl (record {
-    shares = ap (λ (u : Tables). u.shares) is.rest ∙ kept_shares t made.nodes sound stay;
-    mounts = ap (λ (u : Tables). u.mounts) is.rest;
-  });
-  rest = subst (KeepsRest t) (sym is.rest) refl;
-}
-  where
-    stay : (other : ℕ) → is_some (node_row t.nodes other) ≡ true → is_some (node_row made.nodes other) ≡ true
-    stay other there =
-        elim (cases_Bool (other == node)) [
-          | inl same ↦ ap is_some (ap (node_row made.nodes) (eqb-true other node same) ∙ is.itself)
-          | inr differs ↦ ap is_some (is.others other (λ e. both_ways (other == node) differs (eq-eqb other node e))) ∙ there
-        ]
-
--- the first of what is needed
-first_needed : (need : Need) (others : List Need) → IsNeeded (need ∷ others) need.act need.node
-first_needed need others = (need.mount, (0, omega arith, refl))
-
-second_needed : (first need : Need) (others : List Need) → IsNeeded (first ∷ need ∷ others) need.act need.node
-second_needed first need others = (need.mount, (1, omega arith, refl))
-
--- ---- another row of a mount
-
--- it is put where the old one was
-remounted_rows : (row old : MountRow) (rows : List MountRow) → IsRising mount_key rows → mount_row rows row.user row.node ≡ Some old
-    → put mount_key row rows ≡ map (λ other. if is_mount_of row.user row.node other then row else other) rows
-remounted_rows row old [] rising is = absurd (none-some old is)
-remounted_rows row old (x ∷ rows) rising is =
-    elim (cases_Bool (sought x)) [
-      | inl first ↦
-          (let equal : key_cmp (mount_key row) (mount_key x) ≡ Equal =
-          ap (key_cmp (mount_key row)) (key_is x first) ∙ tied_itself key_total (mount_key row) in
-          ap choice equal ∙ simp first (ap (λ (rest : List MountRow). row ∷ rest) (sym (none_sought rows (λ k d within.
-          mounts_differ (x ∷ rows) row.user row.node rising 0 (suc k) d (omega arith) (omega arith) first)))))
-      | inr other ↦
-          (let found : mount_row rows row.user row.node ≡ Some old = simp other at is in
-          let at = found_is (λ (y : MountRow). key_cmp (mount_key x) (mount_key y) ≡ Less) sought rows old (below_rest mount_key x rows rising) found in
-          let less : key_cmp (mount_key x) (mount_key row) ≡ Less = ap (key_cmp (mount_key x)) (sym (key_is old at.0)) ∙ at.1 in
-          ap choice (turned (mount_key x) (mount_key row) Less less)
-          ∙ simp other (ap (λ (rest : List MountRow). x ∷ rest) (remounted_rows row old rows (tail_rising mount_key x rows rising) found)))
-    ]
-  where
-    sought : MountRow → Bool
-    sought = is_mount_of row.user row.node
-
-    choice : Ordering → List MountRow
-    choice o = by_order o (row ∷ x ∷ rows) (row ∷ rows) (x ∷ put mount_key row rows)
-
-    key_is : (y : MountRow) → sought y ≡ true → mount_key y ≡ mount_key row
-    key_is y passes = same_key row.user row.node y row passes (itself (eq-eqb row.user row.user refl) (eq-eqb row.node row.node refl))
-      where
-        itself : (row.user == row.user) ≡ true → (row.node == row.node) ≡ true → sought row ≡ true
-        itself user node = rw (user, node) refl
-
-    none_sought : (rows : List MountRow) → All (λ (y : MountRow). sought y ≡ false) rows
-        → map (λ other. if sought other then row else other) rows ≡ rows
-    none_sought [] none = refl
-    none_sought (y ∷ rows) none =
-        let None : MountRow → Type 0 = λ y. sought y ≡ false in
-        simp (All-head None y rows none) (ap (λ (rest : List MountRow). y ∷ rest) (none_sought rows (All-tail None y rows none)))
-
--- the one name of a mount's own path is the mount's
-path_named : (t : Tables) (user root : ℕ) (path : List (List ℕ)) (node : ℕ) (row : MountRow) → AreSound t → is_one path ≡ true
-    → mounted t.nodes t.mounts user root path ≡ Some node → mount_row t.mounts user node ≡ Some row → path ≡ row.name ∷ []
-path_named t user root [] node row sound one by there = absurd (false≢true one)
-path_named t user root (name ∷ []) node row sound one by there =
-    let shown = shown_mount t user name node sound (unless (is_some (child_of t.nodes root name)) by) in
-    let same : shown.0 ≡ row = same_Some shown.0 row (sym shown.1 ∙ there) in
-    ap (λ (n : List ℕ). n ∷ []) (sym shown.4 ∙ ap (λ (r : MountRow). r.name) same)
-  where
-    unless : (b : Bool) → (if b then None else mount_at t.mounts user name) ≡ Some node → mount_at t.mounts user name ≡ Some node
-    unless true is = absurd (none-some node is)
-    unless false is = is
-path_named t user root (name ∷ other ∷ names) node row sound one by there = absurd (false≢true one)
-
--- of a call one mount is another, whose own path it names
-record OneMount (call : Call) (made : Tables) : Type 0 where
-  old : MountRow
-  row : MountRow
-  there : mount_row call.state.tables.mounts old.user old.node ≡ Some old
-  becomes : Remounts call old row
-  mounts : made.mounts ≡ map (λ other. if is_mount_of old.user old.node other then row else other) call.state.tables.mounts
-  nodes : made.nodes ≡ call.state.tables.nodes
-  shares : made.shares ≡ call.state.tables.shares
-
--- or one share is
-abbrev OneOther : Call → Tables → Type 0
-OneOther call made = OneMount call made ⊎ OneShare call made
-
--- ---- what is needed of transfers
-
-abbrev need_of : Act → ℕ → Option ℕ → Need
-need_of act node mount = record { act = act; node = node; mount = mount }
-
--- of what is moved, within its folder or to another, and of what is copied, by the mounts of both ways
-abbrev moved_needs : Bool → Option ℕ → Option ℕ → Transfer → List Need
-moved_needs true from to transfer = need_of act.Update transfer.node from ∷ needs act.Delete transfer.replaced to
-moved_needs false from to transfer =
-    need_of act.Delete transfer.node from ∷ need_of act.Create transfer.folder to ∷ needs act.Delete transfer.replaced to
-
-abbrev copied_needs : Option ℕ → Option ℕ → Transfer → List Need
-copied_needs from to transfer =
-    need_of act.Read transfer.node from ∷ need_of act.Create transfer.folder to ∷ needs act.Delete transfer.replaced to
-
--- a transfer and the places that it is between
-record IsBetween (rows : List NodeRow) (from to : Found) (transfer : Transfer) : Type 0 where
-  source : from ≡ At transfer.node
-  replaced : node_found to ≡ transfer.replaced
-  folder : folder_at rows to ≡ Some transfer.folder
-
-between : (rows : List NodeRow) (from to : Found) (transfer : Transfer)
-    → transfer_of rows (record { source = Some from; target = Some to }) ≡ Some transfer → IsBetween rows from to transfer
-between rows (At node) to transfer is =
-    let parts = transfer_parts rows node to transfer is in record { source = ap At parts.0; replaced = parts.1; folder = parts.2 }
-between rows nowhere to transfer is = absurd (none-some transfer is)
-
-move_needs : (rows : List NodeRow) (root : ℕ) (source target : Spot) (overwrite : Bool) (from to : Way) (transfer : Transfer) (b : Bool)
-    → IsBetween rows from.place to.place transfer → to.itself ≡ false → is_start root to.place ≡ false → is_within rows root (Some from) (Some to) ≡ b
-    → needs_at (source_act true b) from ++ target_needs making.Moved rows root b to
-    ≡ moved_needs b from.mount to.mount transfer
-move_needs rows root source target overwrite from to transfer true is other on within = rw (is.source, is.replaced) refl
-move_needs rows root source target overwrite from to transfer false is other on within = rw (other, on, is.source, is.replaced, is.folder) refl
-
-copy_needs : (rows : List NodeRow) (root : ℕ) (source target : Spot) (overwrite : Bool) (from to : Way) (transfer : Transfer)
-    → IsBetween rows from.place to.place transfer → to.itself ≡ false → is_start root to.place ≡ false
-    → needs_between rows root (asked_of (Copy source target overwrite)) (Some from) (Some to) ≡ copied_needs from.mount to.mount transfer
-copy_needs rows root source target overwrite from to transfer is other on = rw (other, on, is.source, is.replaced, is.folder) refl
-
--- what has to go is deleted, whatever else is needed
-replaced_needed : (front : List Need) (replaced to : Option ℕ)
-    → IfSome replaced (IsNeeded (front ++ needs act.Delete replaced to) act.Delete)
-replaced_needed front None to = tt
-replaced_needed front (Some top) to =
-    (to, Contains-append_right front (need_of act.Delete top to ∷ []) (need_of act.Delete top to) (0, omega arith, refl))
-
--- a node that is moved within its folder is in the target's
-within_folder : (t : Tables) (root : ℕ) (from to : Way) (transfer : Transfer) → AreSound t → is_under t.nodes transfer.folder transfer.node ≡ false
-    → IsBetween t.nodes from.place to.place transfer → from.itself ≡ false → to.itself ≡ false
-    → (is_start root from.place ≡ false) × (is_start root to.place ≡ false) → is_within t.nodes root (Some from) (Some to) ≡ true
-    → parent_of t.nodes transfer.node ≡ Some transfer.folder
-within_folder t root from to transfer sound outside is from_other to_other on within =
-    here (parent_of t.nodes transfer.node) refl (rw (from_other, to_other, on.0, on.1, is.source, is.folder) at within)
-  where
-    here : (o : Option ℕ) → parent_of t.nodes transfer.node ≡ o
-        → option_map_or (λ folder. folder == transfer.folder) (option_or o (Some transfer.node)) false ≡ true
-        → parent_of t.nodes transfer.node ≡ Some transfer.folder
-    here None e same =
-        let itself = ap (λ (n : ℕ). Some n) (sym (eqb-true transfer.node transfer.folder same)) in
-        absurd (both_ways (is_under t.nodes transfer.folder transfer.node) outside
-        (climbs_is_under 0 t transfer.folder transfer.node sound itself))
-    here (Some parent) e same = e ∙ ap (λ (n : ℕ). Some n) (eqb-true parent transfer.folder same)
-
--- so it stays its owner's
-within_owner : (t : Tables) (transfer : Transfer) (row : NodeRow) → AreSound t → node_row t.nodes transfer.node ≡ Some row
-    → parent_of t.nodes transfer.node ≡ Some transfer.folder → crosses t.nodes transfer ≡ false
-within_owner t transfer row sound there above =
-    let folder = parent_there t transfer.node transfer.folder row sound there above in
-    let owner = λ (o : Option NodeRow). option_map_or (λ (row : NodeRow). row.owner) o 0 in
-    ap not (eq-eqb (owner_of t.nodes transfer.node) (owner_of t.nodes transfer.folder) (ap owner there ∙ sym folder.3 ∙ sym (ap owner folder.1)))
-
--- ---- a Begin
-
--- that who is there makes
-module _ (call : Call) (sound : AreSound call.state.tables) (is : IsAsking call) where
-  abbrev t : Tables
-  t = call.state.tables
-
-  abbrev root : ℕ
-  root = root_of call
-
-  abbrev FitsCall : List Need → Tables → Type 0
-  FitsCall needs made = Fits t needs (OneOther call) made
-
-  abbrev Reached : Spot → Type 0
-  Reached spot = unreached (access_of call.state) call (way_of call spot) ≡ None
-
-  -- ---- mounts
-
-  one_of : (spot : Spot) → (way_of call spot).itself ≡ true → is_one spot.path ≡ true
-  one_of spot itself = here (mount_of call spot) itself
-    where
-      here : (mount : Option ℕ) → (way_by t.nodes (seeker_of call) root spot.path mount).itself ≡ true → is_one spot.path ≡ true
-      here None other = absurd (false≢true other)
-      here (Some mount) one = sym (ap (λ (s : Seeker). is_itself s spot.path) (itself_seeks call spot itself)) ∙ one
-
-  mount_fits : (spot : Spot) (change : MountRow → MountRow) (told : Report) (needs : List Need) → (way_of call spot).itself ≡ true
-      → ((old : MountRow) → (change old).user ≡ old.user) → ((old : MountRow) → (change old).node ≡ old.node)
-      → ((old : MountRow) → IsOwnPath call spot old → Remounts call old (change old))
-      → FitsCall needs (changed t call.now (with_mount_row (option_map change (own_mount call (way_of call spot).mount)) told))
-  mount_fits spot change told needs itself user node becomes =
-      let own = own_known call spot sound itself in
-      let old : MountRow = own.row in
-      let there : mount_row t.mounts old.user old.node ≡ Some old =
-      ap (λ (n : ℕ). mount_row t.mounts n old.node) own.user ∙ ap (mount_row t.mounts (asker_of call)) own.of_node ∙ own.there in
-      let path = path_named t (asker_of call) root spot.path own.node old sound (one_of spot itself)
-      (sym (ap (λ (s : Seeker). mount_for t.nodes t.mounts s root spot.path) (itself_seeks call spot itself)) ∙ sym (way_mount call spot) ∙ own.by)
-      own.there in
-      let rows = λ (u n : ℕ). map (λ (other : MountRow). if is_mount_of u n other then change old else other) t.mounts in
-      let put_there : mount_row t.mounts (change old).user (change old).node ≡ Some old =
-      (λ i. mount_row t.mounts (user old i) (node old i)) ∙ there in
-      subst (λ (o : Option MountRow). FitsCall needs (changed t call.now (with_mount_row (option_map change o) told)))
-      (sym (ap (own_mount call) own.by ∙ own.there))
-      (record {
-        follow = same_follow needs t.nodes;
-        others = inr (inl (record {
-          old = old;
-          row = change old;
-          there = there;
-          becomes = becomes old (record { user = own.user; shown = own.shown; path = path });
-          mounts = remounted_rows (change old) old t.mounts sound.others.mounts_rise put_there ∙ (λ i. rows (user old i) (node old i));
-          nodes = refl;
-          shares = refl;
-        }));
-        rest = refl;
-      })
-
-  -- ---- MOVE and COPY
-
-  -- what is known of a transfer, by the mounts of its ways
-  module _ (transfer : Transfer) (name : List ℕ) (known : KnownTransfer t transfer name) (from to : Option ℕ) where
-    abbrev going : List Need
-    going = needs act.Delete transfer.replaced to
-
-    moved_gone : (b : Bool) → IfSome transfer.replaced (IsNeeded (moved_needs b from to transfer) act.Delete)
-    moved_gone true = replaced_needed (need_of act.Update transfer.node from ∷ []) transfer.replaced to
-    moved_gone false = replaced_needed (need_of act.Delete transfer.node from ∷ need_of act.Create transfer.folder to ∷ []) transfer.replaced to
-
-    abbrev source_row : NodeRow
-    source_row = known.source.0
-
-    moved_row : node_row (transferred t transfer name).nodes transfer.node ≡ Some (relinked transfer.folder name source_row)
-    moved_row = (moved_rows t transfer name sound known).itself ∙ ap (option_map (relinked transfer.folder name)) known.source.1
-
-    moved_itself : (b : Bool) → (b ≡ true → parent_of t.nodes transfer.node ≡ Some transfer.folder)
-        → Follows (moved_needs b from to transfer) t.nodes (transferred t transfer name).nodes transfer.node
-    moved_itself true within =
-        let place = inside_folder source_row.place transfer.folder (rw known.source.1 at (within refl)) in
-        let needed = first_needed (need_of act.Update transfer.node from) going in
-        is_updated source_row (relinked transfer.folder name source_row) needed known.source.1 moved_row
-        (ap (λ (p : Place). record source_row { place = p; name = name }) (sym place))
-    moved_itself false within =
-        let first = need_of act.Delete transfer.node from in
-        let second = need_of act.Create transfer.folder to in
-        is_moved transfer.folder source_row (relinked transfer.folder name source_row) (first_needed first (second ∷ going))
-        (second_needed first second going) known.source.1 moved_row refl
-
-    moved_fits : (b : Bool) → (b ≡ true → parent_of t.nodes transfer.node ≡ Some transfer.folder)
-        → FitsCall (moved_needs b from to transfer) (changed t call.now (allowed.Move transfer name))
-    moved_fits b within =
-        let needs = moved_needs b from to transfer in
-        stamped_has (FitsCall needs) t (transferred t transfer name) call.now (told t (allowed.Move transfer name))
-        (same_fits t needs (OneOther call) sound) (record {
-          follow = moved_follow t transfer name needs sound known (moved_gone b) (moved_itself b within);
-          others = inl (record { shares = moved_shares t transfer name sound known; mounts = refl });
-          rest = refl;
-        })
-
-  -- ---- what each may ask for
-
-  abbrev needed_for : Wanted → List Need
-  needed_for wanted =
-      let asked = asked_of wanted in
-      needs_between t.nodes root asked (option_map (way_of call) asked.source) (option_map (way_of call) asked.target)
-
-  served_fits : (mount : Option ℕ) (place : Found) (needs : List Need)
-      → FitsCall needs (changed t call.now (served (access_of call.state) call mount (node_found place)))
-  served_fits mount (At node) needs =
-      cond_both (is_folder t.nodes node) (allowed.List (listing_of (access_of call.state) call mount node))
-      (allowed.Get node (content_of t.nodes node))
-      (λ act. FitsCall needs (changed t call.now act)) (λ folder. same_fits t needs (OneOther call) sound)
-      (λ file. same_fits t needs (OneOther call) sound)
-  served_fits mount nowhere needs = same_fits t needs (OneOther call) sound
-
-  stored_fits : (by : By) (name : List ℕ) (size : ℕ) (place : Found) (needs : List Need)
-      → FitsCall needs (changed t call.now (stored by name size (Some place)))
-  stored_fits by name size (Missing depth) needs = same_fits t needs (OneOther call) sound
-  stored_fits by name size place needs = same_fits t needs (OneOther call) sound
-
-  made_fits : (spot : Spot) (place : Found) → Reached spot → found call spot ≡ place
-      → FitsCall (needs_in t.nodes root (way_of call spot)) (changed t call.now (made_folder t call.now (last_name spot) (Some place)))
-  made_fits spot (Free folder) reached leads =
-      let name = last_name spot in
-      let made = changed t call.now (made_folder t call.now name (Some (Free folder))) in
-      let way = way_of call spot in
-      let need = need_of act.Create folder way.mount in
-      let slot = slot_known call spot sound is folder reached leads in
-      let asked : needs_in t.nodes root way ≡ need ∷ [] = rw (free_no_mount call spot sound is folder leads, leads) refl in
-      subst (λ (needs : List Need). FitsCall needs made) (sym asked)
-      (added_fits t made call.now folder name Folder [] (need ∷ []) (OneOther call) sound
-      (added_rows t call.now folder name Folder [] None sound slot.folds slot.free (omega arith)) (first_needed need []))
-  made_fits spot nowhere reached leads = same_fits t (needs_in t.nodes root (way_of call spot)) (OneOther call) sound
-
-  deletes_fit : (spot : Spot) (place : Found) → Reached spot → found call spot ≡ place
-      → FitsCall (needs_at act.Delete (way_of call spot) ++ []) (changed t call.now (deleted (node_found place)))
-  deletes_fit spot (At top) reached leads =
-      let there = way_there call spot sound is top reached leads in
-      let need = need_of act.Delete top (way_of call spot).mount in
-      let asked : needs_at act.Delete (way_of call spot) ++ [] ≡ need ∷ [] = rw leads refl in
-      subst (λ (needs : List Need). FitsCall needs (changed t call.now (allowed.Delete top))) (sym asked)
-      (stamped_has (FitsCall (need ∷ [])) t (removed t top) call.now (told t (allowed.Delete top)) (same_fits t (need ∷ []) (OneOther call) sound)
-      (record {
-        follow = deleted_follow t top (need ∷ []) (first_needed need []);
-        others = inl (record { shares = deleted_shares t top sound (ap is_some there.1); mounts = refl });
-        rest = refl;
-      }))
-  deletes_fit spot nowhere reached leads = same_fits t (needs_at act.Delete (way_of call spot) ++ []) (OneOther call) sound
-
-  delete_fits : (spot : Spot) (b : Bool) → call.request.wanted ≡ Delete spot → (way_of call spot).itself ≡ b → (b ≡ false → Reached spot)
-      → FitsCall (if b then [] else needs_at act.Delete (way_of call spot) ++ [])
-      (changed t call.now (if b then mount_left call (way_of call spot) else deleted (node_at (only_at b (found call spot)).source)))
-  delete_fits spot true wanted itself reached =
-      mount_fits spot left_row report.Done [] itself (λ old. refl) (λ old. refl) (λ old own. is_left spot wanted own)
-  delete_fits spot false wanted itself reached = deletes_fit spot (found call spot) (reached refl) refl
-
-  -- what is moved or copied, by a caller who is reached
-  module _ (source target : Spot) (from_reached : Reached source) (to_reached : Reached target)
-      (fits : unfit_between t.nodes root false (record { source = Some (way_of call source); target = Some (way_of call target) }) ≡ None) where
-    abbrev places : Places
-    places = record { source = Some (found call source); target = Some (found call target) }
-
-    abbrev from : Option ℕ
-    from = (way_of call source).mount
-
-    abbrev to : Option ℕ
-    to = (way_of call target).mount
-
-    abbrev name : List ℕ
-    name = last_name target
-
-    abbrev target_other : (way_of call target).itself ≡ false
-    target_other = no_mount call source target sound is from_reached to_reached fits
-
-    abbrev copies : Transfer → List NodeRow
-    copies transfer = copies_to t call.now transfer name
-
-    abbrev copies_are : (transfer : Transfer) → transfer_of t.nodes places ≡ Some transfer → copy_limit t transfer ≡ None
-        → KnownCopies t call.now (copies transfer) transfer.replaced
-    copies_are transfer e some = copies_known call source target sound is from_reached to_reached transfer e fits some
-
-    copied_fits : (transfer : Transfer) → transfer_of t.nodes places ≡ Some transfer → copy_limit t transfer ≡ None
-        → FitsCall (copied_needs from to transfer) (changed t call.now (copied t call.now name (Some transfer)))
-    unfolding copies_known
-    copied_fits transfer e some =
-        let known = copies_are transfer e some in
-        let first = need_of act.Read transfer.node from in
-        let second = need_of act.Create transfer.folder to in
-        let going = needs act.Delete transfer.replaced to in
-        let needs = copied_needs from to transfer in
-        stamped_has (FitsCall needs) t (joined t (copies transfer) transfer.replaced) call.now
-        (told t (allowed.Copy (copies transfer) transfer.replaced)) (same_fits t needs (OneOther call) sound)
-        (record {
-          follow = copied_follow t call.now (copies transfer) transfer.replaced sound known needs
-              (replaced_needed (first ∷ second ∷ []) transfer.replaced to) (second_needed first second going);
-          others = inl (record { shares = copied_shares t call.now (copies transfer) transfer.replaced sound known; mounts = refl });
-          rest = refl;
-        })
-
-    crossed_fits : (transfer : Transfer) → transfer_of t.nodes places ≡ Some transfer → copy_limit t transfer ≡ None
-        → FitsCall (moved_needs false from to transfer)
-        (changed t call.now (allowed.Cross (copies transfer) transfer.replaced transfer.node))
-    unfolding copies_known
-    crossed_fits transfer e some =
-        let known = copies_are transfer e some in
-        let first = need_of act.Delete transfer.node from in
-        let second = need_of act.Create transfer.folder to in
-        let going = needs act.Delete transfer.replaced to in
-        let needs = moved_needs false from to transfer in
-        stamped_has (FitsCall needs) t (removed (joined t (copies transfer) transfer.replaced) transfer.node) call.now
-        (told t (allowed.Cross (copies transfer) transfer.replaced transfer.node)) (same_fits t needs (OneOther call) sound)
-        (record {
-          follow = crossed_follow t call.now (copies transfer) transfer.replaced sound known needs
-              (replaced_needed (first ∷ second ∷ []) transfer.replaced to) (first_needed first (second ∷ going)) (second_needed first second going);
-          others = inl (record { shares = crossed_shares t call.now (copies transfer) transfer.replaced sound known; mounts = refl });
-          rest = refl;
-        })
-
-    -- a transfer stays with its owner, or goes to another
-    carried_fits : (transfer : Transfer) (b across : Bool) → (way_of call source).itself ≡ false → transfer_of t.nodes places ≡ Some transfer
-        → is_within t.nodes root (Some (way_of call source)) (Some (way_of call target)) ≡ b → crosses t.nodes transfer ≡ across
-        → (if across then copy_limit t transfer else move_limit t transfer) ≡ None
-        → FitsCall (moved_needs b from to transfer)
-        (changed t call.now (if across then allowed.Cross (copies transfer) transfer.replaced transfer.node else allowed.Move transfer name))
-    unfolding copies_known
-    carried_fits transfer b false other e inside owner some =
-        let deep = (within t 0 (deepest_in t.nodes transfer.node transfer.folder) 0 0 some).deep in
-        let known = transfer_known call source target sound is from_reached to_reached transfer e fits deep in
-        let it = between t.nodes (found call source) (found call target) transfer e in
-        moved_fits transfer name known from to b (λ same.
-        within_folder t root (way_of call source) (way_of call target) transfer sound known.outside it other target_other
-        (no_starts call source target sound is from_reached to_reached transfer.node it.source fits) (inside ∙ same))
-    carried_fits transfer false true other e inside owner some = crossed_fits transfer e some
-    carried_fits transfer true true other e inside owner some =
-        let known = (copies_are transfer e some).known in
-        let it = between t.nodes (found call source) (found call target) transfer e in
-        let above = within_folder t root (way_of call source) (way_of call target) transfer sound known.outside it other target_other
-        (no_starts call source target sound is from_reached to_reached transfer.node it.source fits) inside in
-        absurd (both_ways (crosses t.nodes transfer) (within_owner t transfer known.source.0 sound known.source.1 above) owner)
-
-    moves_fit : (overwrite : Bool) → (way_of call source).itself ≡ false → option_and_then (carry_limit t) (transfer_of t.nodes places) ≡ None
-        → FitsCall (needs_at (source_act true
-        (is_within t.nodes root (Some (way_of call source)) (Some (way_of call target)))) (way_of call source)
-        ++ target_needs making.Moved t.nodes root (is_within t.nodes root (Some (way_of call source)) (Some (way_of call target))) (way_of call target))
-        (changed t call.now (moved t call.now name (transfer_of t.nodes places)))
-    moves_fit overwrite other some = here (transfer_of t.nodes places) refl some
-      where
-        within : Bool
-        within = is_within t.nodes root (Some (way_of call source)) (Some (way_of call target))
-
-        asked : List Need
-        asked = needs_at (source_act true within) (way_of call source)
-            ++ target_needs making.Moved t.nodes root within (way_of call target)
-
-        here : (o : Option Transfer) → transfer_of t.nodes places ≡ o → option_and_then (carry_limit t) o ≡ None
-            → FitsCall asked (changed t call.now (moved t call.now name o))
-        here None e some = same_fits t asked (OneOther call) sound
-        here (Some transfer) e some =
-            let it = between t.nodes (found call source) (found call target) transfer e in
-            subst (λ (needs : List Need). FitsCall needs (changed t call.now (moved t call.now name (Some transfer))))
-            (sym (move_needs t.nodes root source target overwrite (way_of call source) (way_of call target) transfer within it target_other
-            (no_starts call source target sound is from_reached to_reached transfer.node it.source fits).1 refl))
-            (carried_fits transfer within (crosses t.nodes transfer) other e refl refl some)
-
-    copies_fit : (overwrite : Bool) → option_and_then (copy_limit t) (transfer_of t.nodes places) ≡ None
-        → FitsCall (needed_for (Copy source target overwrite)) (changed t call.now (copied t call.now name (transfer_of t.nodes places)))
-    copies_fit overwrite some = here (transfer_of t.nodes places) refl some
-      where
-        here : (o : Option Transfer) → transfer_of t.nodes places ≡ o → option_and_then (copy_limit t) o ≡ None
-            → FitsCall (needed_for (Copy source target overwrite)) (changed t call.now (copied t call.now name o))
-        here None e some = same_fits t (needed_for (Copy source target overwrite)) (OneOther call) sound
-        here (Some transfer) e some =
-            let it = between t.nodes (found call source) (found call target) transfer e in
-            subst (λ (needs : List Need). FitsCall needs (changed t call.now (copied t call.now name (Some transfer))))
-            (sym (copy_needs t.nodes root source target overwrite (way_of call source) (way_of call target) transfer it target_other
-            (no_starts call source target sound is from_reached to_reached transfer.node it.source fits).1))
-            (copied_fits transfer e some)
-
-  move_fits : (source target : Spot) (overwrite b : Bool) → call.request.wanted ≡ Move source target overwrite → (way_of call source).itself ≡ b
-      → (b ≡ false → Reached source) → Reached target
-      → unfit_between t.nodes root b (record { source = Some (way_of call source); target = Some (way_of call target) }) ≡ None
-      → limited t (if b then record { source = None; target = None } else record { source = Some (found call source); target = Some (found call target) })
-      making.Moved ≡ None
-      → FitsCall (if b then [] else needs_at (source_act true
-      (is_within t.nodes root (Some (way_of call source)) (Some (way_of call target)))) (way_of call source)
-      ++ target_needs making.Moved t.nodes root (is_within t.nodes root (Some (way_of call source)) (Some (way_of call target))) (way_of call target))
-      (changed t call.now (if b then mount_renamed call (way_of call source) (last_name target)
-      else moved t call.now (last_name target)
-      (transfer_of t.nodes (if b then record { source = None; target = None } else record { source = Some (found call source); target = Some (found call target) }))))
-  move_fits source target overwrite true wanted itself from_reached to_reached fits some =
-      mount_fits source (named_row (last_name target)) report.Made [] itself (λ old. refl) (λ old. refl)
-      (λ old own. is_renamed source target overwrite wanted own)
-  move_fits source target overwrite false wanted itself from_reached to_reached fits some =
-      moves_fit source target (from_reached refl) to_reached fits overwrite itself some
-
-  asks_fit : (places : Places) (asked : ShareAsk) (needs : List Need) → call.request.wanted ≡ Share asked
-      → fault_of_ask (access_of call.state) call asked ≡ None
-      → FitsCall needs (changed t call.now (shared (access_of call.state) call places asked))
-  asks_fit places asked needs wanted fits =
-      elim (asks_share call sound places asked wanted fits) [
-        | inl same ↦ subst (FitsCall needs) (sym same) (same_fits t needs (OneOther call) sound)
-        | inr one ↦ record {
-          follow = λ node differs. absurd (differs (ap (λ (rows : List NodeRow). node_row rows node) one.nodes));
-          others = inr (inr one);
-          rest = one.rest;
-        }
-      ]
-
-  -- what isn't asked about users and groups
-  begin_fits : (wanted : Wanted) → call.request.wanted ≡ wanted → is_about_people wanted ≡ false → WantedPasses call wanted
-      → FitsCall (needed_for wanted) (changed t call.now (given (access_of call.state) call (places_at call wanted) wanted))
-  begin_fits (Get spot) asked other p = served_fits (way_of call spot).mount (found call spot) (needed_for (Get spot))
-  begin_fits (Put spot size) asked other p = stored_fits (by_of call spot) (last_name spot) size (found call spot) (needed_for (Put spot size))
-  begin_fits (Mkcol spot) asked other p = made_fits spot (found call spot) p.place.target refl
-  begin_fits (Delete spot) asked other p = delete_fits spot (way_of call spot).itself asked refl p.place.source
-  begin_fits (Move source target overwrite) asked other p =
-      move_fits source target overwrite (way_of call source).itself asked refl p.place.source p.place.target p.fits p.few
-  begin_fits (Copy source target overwrite) asked other p =
-      copies_fit source target (p.place.source refl) p.place.target p.fits overwrite p.few
-  begin_fits (Share asks) asked other p = asks_fit (places_at call (Share asks)) asks (needed_for (Share asks)) asked p.sharing
-  begin_fits (People asks) asked other p = absurd (false≢true (sym other))
-
--- ---- an End
-
-put_fits : (t made : Tables) (now : ℕ) (by : By) (key : LockKey) (content : List Piece) (Other : Tables → Type 0) → AreSound t
-    → IsPut t made now key content → Fits t (needed_by by key) Other made
-put_fits t made now by (Node node) content Other sound is =
-    let need = need_of act.Update node by.mount in
-    refilled_fits t made now node content (need ∷ []) Other sound is (first_needed need [])
-put_fits t made now by (Slot folder name) content Other sound is =
-    let need = need_of act.Create folder by.mount in
-    added_fits t made now folder name File content (need ∷ []) Other sound is (first_needed need [])
 
 -- ---- the law
 
@@ -622,36 +52,58 @@ record AreAllowed (s : State) (e : Entry) (event : Event) (made : Tables) : Type
   others : KeepsShares s.tables made ⊎ (IsRemounted s e made ⊎ IsSharing s e made)
   rest : KeepsRest s.tables made
 
-allowed_so : (s : State) (e : Entry) (event : Event) (seeker : Seeker) (Other : Tables → Type 0) (made : Tables)
-    → seeker_at s e.seat e.moment event ≡ Some seeker → All (MayDo s e.moment seeker) (needs_of s e.seat e.moment event)
-    → Fits s.tables (needs_of s e.seat e.moment event) Other made → (Other made → IsRemounted s e made ⊎ IsSharing s e made) → AreAllowed s e event made
-allowed_so s e event seeker Other made is may fits other = record {
-  nodes = λ node differs. record { seeker = seeker; acts = is; may = may; follows = fits.follow node differs };
-  others = elim fits.others [ inl keeps ↦ inl keeps | inr one ↦ inr (other one) ];
-  rest = fits.rest;
-}
+-- so it is in sound tables
+abbrev IsFine : State → Entry → Tables → Type 0
+IsFine s e made = AreSound made → ChangesAllowed s e made
 
-same_allowed : (s : State) (e : Entry) (event : Event) → IsSound s → AreAllowed s e event s.tables
-same_allowed s e event sound =
-    let fits = same_fits s.tables [] (λ made. ⊥) sound.rows in
-    record { nodes = λ node differs. absurd (differs refl); others = elim fits.others [ inl keeps ↦ inl keeps | inr none ↦ absurd none ]; rest = refl }
+-- then nothing of the trash goes, and the items are as they were
+all_fine : (s : State) (e : Entry) (event : Event) (made : Tables) → e.event ≡ event → AreAllowed s e event made → ChangesAllowed s e made
+all_fine s e event made is all = here (subst (λ (event : Event). AreAllowed s e event made) (sym is) all)
+  where
+    here : AreAllowed s e e.event made → ChangesAllowed s e made
+    here all = record {
+      between = made;
+      allowed = inl (record {
+        nodes = all.nodes;
+        others = all.others;
+        items = subst (ItemsFollow (needs_of s e.seat e.moment e.event) e.moment s.tables.items) (sym (ap (λ (u : Tables). u.items) all.rest))
+            (same_items (needs_of s e.seat e.moment e.event) e.moment s.tables.items);
+        rest = subst
+            (λ (u : Tables). u ≡ record s.tables { meta = u.meta; nodes = u.nodes; shares = u.shares; mounts = u.mounts; items = u.items })
+            (sym all.rest) refl;
+      });
+      settled = none_settled s e made;
+    }
+
+fits_fine : (s : State) (e : Entry) (event : Event) (seeker : Seeker) (Other : Tables → Type 0) (made : Tables) → e.event ≡ event → AreSound s.tables
+    → seeker_at s e.seat e.moment event ≡ Some seeker → All (MayDo s e.moment seeker) (needs_of s e.seat e.moment event)
+    → Fits s.tables (needs_of s e.seat e.moment event) Other made → (Other made → IsRemounted s e made ⊎ IsSharing s e made) → IsFine s e made
+fits_fine s e event seeker Other made at sound is may fits other fine =
+    all_fine s e event made at (record {
+      nodes = λ node differs. record { seeker = seeker; acts = is; may = may; follows = fits.follow node differs };
+      others = elim fits.others [
+        | inl keeps ↦ inl (record { shares = keeps.shares ∙ gone_present s.tables made sound fine fits.present; mounts = keeps.mounts })
+        | inr one ↦ inr (other one)
+      ];
+      rest = fits.rest;
+    })
 
 abbrev nothing : Tables → Type 0
 nothing made = ⊥
 
-goal_allowed : (s : State) (e : Entry) (outcome : Outcome) (goal : Goal) (act : Allowed) → IsSound s → goal_at s e.seat ≡ Some goal
-    → IsStorable s.tables goal → ends_at (access_of s) s.tables e.moment outcome (Some goal) ≡ Ok act → Known s.tables e.moment act
-    → AreAllowed s e (End outcome) (changed s.tables e.moment act)
-goal_allowed s e (Body digest size) (Store by key wanted) act sound at held is known =
+goal_fine : (s : State) (e : Entry) (outcome : Outcome) (goal : Goal) (act : Allowed) → e.event ≡ End outcome → IsSound s
+    → goal_at s e.seat ≡ Some goal → IsStorable s.tables goal → ends_at (access_of s) s.tables e.moment outcome (Some goal) ≡ Ok act
+    → Known s.tables e.moment act → IsFine s e (changed s.tables e.moment act)
+goal_fine s e (Body digest size) (Store by key wanted) act ends sound at held is known =
     let t = s.tables in
     let now = e.moment in
     let stores = stored_at t now key digest size in
     let h = not_refused (end_refusal (access_of s) t now by key size) stores act is in
     let passes = end_passes (access_of s) t now by key size h.0 in
     let content = content_in (blob_for t.meta.next_blob size) digest size in
-    let put = put_rows t now key digest size sound.rows held (subst (λ (a : Allowed). Known t now a) (sym h.1) known) in
+    let put = put_rows t now key digest size sound.rows held.0 (subst (λ (a : Allowed). Known t now a) (sym h.1) known) in
     let needs : needs_of s e.seat now (End outcome_of) ≡ needed_by by key = ap (λ (o : Option Goal). option_map_or needs_of_goal o []) at in
-    allowed_so s e (End outcome_of) by.seeker nothing (changed t now act) (ap (option_and_then seeker_of_goal) at)
+    fits_fine s e (End outcome_of) by.seeker nothing (changed t now act) ends sound.rows (ap (option_and_then seeker_of_goal) at)
     (subst (All (MayDo s now by.seeker)) (sym needs) (needs_pass (access_of s) (ground_of t) by.seeker now (needed_by by key) passes.allowed))
     (subst (λ (needs : List Need). Fits t needs nothing (changed t now act)) (sym needs)
     (subst (λ (a : Allowed). Fits t (needed_by by key) nothing (changed t now a)) h.1
@@ -659,79 +111,194 @@ goal_allowed s e (Body digest size) (Store by key wanted) act sound at held is k
   where
     outcome_of : Outcome
     outcome_of = Body digest size
-goal_allowed s e outcome goal act sound at held is known =
+goal_fine s e outcome goal act ends sound at held is known =
     let closes : allowed.Close ≡ act = cc in
-    subst (λ (a : Allowed). AreAllowed s e (End outcome) (changed s.tables e.moment a)) closes (same_allowed s e (End outcome) sound)
+    subst (λ (a : Allowed). IsFine s e (changed s.tables e.moment a)) closes (λ fine. same_allowed s e sound)
 
--- what isn't asked about users and groups
-begin_allowed : (s : State) (e : Entry) (words : Words) (request : Request) (act : Allowed) → e.event ≡ Begin words request → IsSound s
-    → MayWant request → call_decision (call_of s e.seat e.moment words request) ≡ Ok act → is_about_people request.wanted ≡ false
-    → AreAllowed s e (Begin words request) (changed s.tables e.moment act)
-begin_allowed s e words request act begins sound may is other =
-    let call = call_of s e.seat e.moment words request in
-    let passes = call_passes call act is in
-    let wants = wanted_passes call may passes.0 in
-    let fits = begin_fits call sound.rows (has_asker call passes.0.token wants.place.linked) request.wanted refl other wants in
-    allowed_so s e (Begin words request) (seeker_of call) (OneOther call) (changed s.tables e.moment act) refl
-    (acts_pass (access_of s) call passes.0.acts)
-    (subst (λ (a : Allowed). Fits s.tables (needed call) (OneOther call) (changed s.tables e.moment a)) passes.1 fits)
-    (λ other. elim other [
-      | inl one ↦ inl (record {
-        words = words;
-        request = request;
-        begins = begins;
-        old = one.old;
-        row = one.row;
-        there = one.there;
-        becomes = one.becomes;
-        mounts = one.mounts;
-        nodes = one.nodes;
-        shares = one.shares;
+module _ (s : State) (e : Entry) (words : Words) (request : Request) (decided : Allowed) (begins : e.event ≡ Begin words request) (sound : IsSound s)
+    (later : s.tables.meta.last ≤ e.moment) (may : MayWant request) (is : call_decision (call_of s e.seat e.moment words request) ≡ Ok decided) where
+  abbrev call : Call
+  call = call_of s e.seat e.moment words request
+
+  abbrev passes : Passes (access_of s) call × (allowed_of (access_of s) call ≡ decided)
+  passes = call_passes call decided is
+
+  abbrev wants : WantedPasses call request.wanted
+  wants = wanted_passes call may passes.0
+
+  abbrev asking : IsAsking call
+  asking = has_asker call passes.0.token wants.place.linked
+
+  -- what isn't asked about users, groups and the trash, and is no DELETE of a node
+  plain_fine : is_apart call request.wanted ≡ false → IsFine s e (changed s.tables e.moment decided)
+  plain_fine other =
+      let fits = begin_fits call sound.rows later asking request.wanted refl other wants in
+      fits_fine s e (Begin words request) (seeker_of call) (OneOther call) (changed s.tables e.moment decided) begins sound.rows refl
+      (acts_pass (access_of s) call passes.0.acts)
+      (subst (λ (a : Allowed). Fits s.tables (needed call) (OneOther call) (changed s.tables e.moment a)) passes.1 fits)
+      (λ made. elim made [
+        | inl one ↦ inl (record {
+          words = words;
+          request = request;
+          begins = begins;
+          old = one.old;
+          row = one.row;
+          there = one.there;
+          becomes = one.becomes;
+          mounts = one.mounts;
+          nodes = one.nodes;
+          shares = one.shares;
+        })
+        | inr one ↦ inr (record {
+          words = words;
+          request = request;
+          begins = begins;
+          row = one.row;
+          one = one.one;
+          shares = one.shares;
+          mounts = one.mounts;
+          mounted = one.mounted;
+          nodes = one.nodes;
+        })
+      ])
+
+  -- a DELETE of a node
+  deletes_allowed : (spot : Spot) → request.wanted ≡ Delete spot → (way_of call spot).itself ≡ false
+      → ChangesAllowed s e (changed s.tables e.moment (deleted s.tables e.moment (node_found (found call spot))))
+  deletes_allowed spot wanted itself = here (found call spot) refl
+    where
+      t : Tables
+      t = s.tables
+
+      p : WantedPasses call (Delete spot)
+      p = subst (WantedPasses call) wanted wants
+
+      asked : needed call ≡ needs_at act.Delete (way_of call spot) ++ []
+      asked =
+          ap (λ (w : Wanted). needs_between t.nodes (root_of call) (asked_of w) (option_map (way_of call) (asked_of w).source)
+          (option_map (way_of call) (asked_of w).target)) wanted
+          ∙ rw itself refl
+
+      here : (place : Found) → found call spot ≡ place → ChangesAllowed s e (changed t e.moment (deleted t e.moment (node_found place)))
+      here (At top) leads =
+          let reached = p.place.source itself in
+          let there = way_there call spot sound.rows asking top reached leads in
+          let row = there.0 in
+          let id : row.id ≡ top = row_id t.nodes top row there.1 in
+          let at : node_row t.nodes row.id ≡ Some row = ap (node_row t.nodes) id ∙ there.1 in
+          let present = subst (LeadsToRoot t.nodes) (sym id) (node_present call spot sound.rows asking top reached leads) in
+          let need = need_of act.Delete top (way_of call spot).mount in
+          let needs : needed call ≡ need ∷ [] = asked ∙ rw leads refl in
+          let needed_there : IsNeeded (needed call) act.Delete row.id =
+          subst (λ (n : List Need). IsNeeded n act.Delete row.id) (sym needs)
+          (subst (IsNeeded (need ∷ []) act.Delete) (sym id) (first_needed need [])) in
+          let known = wanted_known call sound.rows asking (Delete spot) p in
+          let discards : given (access_of s) call (places_at call (Delete spot)) (Delete spot) ≡ discard t e.moment row =
+          rw (itself, leads, there.1) refl in
+          subst (λ (o : Option NodeRow). ChangesAllowed s e (changed t e.moment (option_map_or (discard t e.moment) o nothing_done))) (sym there.1)
+          (delete_allowed s e sound row at present later (seeker_of call)
+          (ap (seeker_at s e.seat e.moment) begins)
+          (subst (λ (event : Event). All (MayDo s e.moment (seeker_of call)) (needs_of s e.seat e.moment event)) (sym begins)
+          (acts_pass (access_of s) call passes.0.acts))
+          (subst (λ (event : Event). IsNeeded (needs_of s e.seat e.moment event) act.Delete row.id) (sym begins) needed_there)
+          (subst (Known t e.moment) discards known))
+      here nowhere leads = same_allowed s e sound
+
+  abbrev does : (wanted : Wanted) → request.wanted ≡ wanted → given (access_of s) call (places_of call) wanted ≡ decided
+  does wanted same = ap (given (access_of s) call (places_of call)) (sym same) ∙ passes.1
+
+  plain : (wanted : Wanted) → request.wanted ≡ wanted → is_apart call wanted ≡ false → IsFine s e (changed s.tables e.moment decided)
+  plain wanted same other = plain_fine (ap (is_apart call) same ∙ other)
+
+  -- a DELETE, of a mount's own path or of a node
+  deletes_fine : (spot : Spot) → request.wanted ≡ Delete spot → (b : Bool) → (way_of call spot).itself ≡ b
+      → IsFine s e (changed s.tables e.moment decided)
+  deletes_fine spot wanted true itself fine = plain (Delete spot) wanted (ap not itself) fine
+  deletes_fine spot wanted false itself fine =
+      let node : deleted s.tables e.moment (node_found (found call spot)) ≡ given (access_of s) call (places_of call) (Delete spot) =
+      rw (wanted, itself) refl in
+      subst (λ (a : Allowed). ChangesAllowed s e (changed s.tables e.moment a)) (node ∙ does (Delete spot) wanted)
+      (deletes_allowed spot wanted itself)
+
+  -- what is asked about users and groups
+  people_fine : (asked : PeopleAsk) → request.wanted ≡ People asked → ChangesAllowed s e (changed s.tables e.moment decided)
+  people_fine asked wanted =
+      let provided = people_provide s e words request begins sound may passes.0 asked wanted in
+      subst (λ (a : Allowed). ChangesAllowed s e (changed s.tables e.moment a)) (does (People asked) wanted)
+      (record {
+        between = provided.between;
+        allowed = elim provided.provides [
+          | inl same ↦ inl (subst (NodesAllowed s e) (sym same) (same_nodes s e sound))
+          | inr one ↦ inr (inl one)
+        ];
+        settled = provided.settled;
       })
-      | inr one ↦ inr (record {
-        words = words;
-        request = request;
-        begins = begins;
-        row = one.row;
-        one = one.one;
-        shares = one.shares;
-        mounts = one.mounts;
-        mounted = one.mounted;
-        nodes = one.nodes;
-      })
-    ])
 
--- and what is, which members of the group `admin` alone ask
-people_allowed : (s : State) (e : Entry) (words : Words) (request : Request) (act : Allowed) → e.event ≡ Begin words request → IsSound s
-    → MayWant request → call_decision (call_of s e.seat e.moment words request) ≡ Ok act → is_about_people request.wanted ≡ true
-    → AreAllowed s e (Begin words request) (changed s.tables e.moment act) ⊎ IsProviding s e (changed s.tables e.moment act)
-people_allowed s e words request act begins sound may is about =
-    elim (people_provide s e words request act begins sound may is about) [
-      | inl same ↦ inl (subst (AreAllowed s e (Begin words request)) (sym same) (same_allowed s e (Begin words request) sound))
-      | inr one ↦ inr one
-    ]
+  -- and whatever a request asks
+  begin_fine : (wanted : Wanted) → request.wanted ≡ wanted → IsFine s e (changed s.tables e.moment decided)
+  begin_fine (Get spot) is fine = plain (Get spot) is refl fine
+  begin_fine (Put spot size) is fine = plain (Put spot size) is refl fine
+  begin_fine (Mkcol spot) is fine = plain (Mkcol spot) is refl fine
+  begin_fine (Delete spot) is fine = deletes_fine spot is (way_of call spot).itself refl fine
+  begin_fine (Move source target overwrite) is fine = plain (Move source target overwrite) is refl fine
+  begin_fine (Copy source target overwrite) is fine = plain (Copy source target overwrite) is refl fine
+  begin_fine (Share asked) is fine = plain (Share asked) is refl fine
+  begin_fine (People asked) is fine = people_fine asked is
+  begin_fine (Trash asked) is fine =
+      subst (λ (a : Allowed). ChangesAllowed s e (changed s.tables e.moment a)) (does (Trash asked) is)
+      (trash_allowed s e sound words request begins asked is)
 
-act_allowed : (s : State) (e : Entry) (event : Event) (act : Allowed) → e.event ≡ event → IsSound s → MayAsk s e.seat event
-    → decision_of s e.seat e.moment event ≡ Ok act
-    → AreAllowed s e event (changed s.tables e.moment act) ⊎ IsProviding s e (changed s.tables e.moment act)
-act_allowed s e (Begin words request) act begins sound may is =
-    elim (cases_Bool (is_about_people request.wanted)) [
-      | inl about ↦ people_allowed s e words request act begins sound may.1 is about
-      | inr other ↦ inl (begin_allowed s e words request act begins sound may.1 is other)
-    ]
-act_allowed s e (End outcome) act ends sound may is = inl (here (goal_at s e.seat) refl may is (goal_held s e.seat sound))
+act_fine : (s : State) (e : Entry) (event : Event) (act : Allowed) → e.event ≡ event → IsSound s → s.tables.meta.last ≤ e.moment
+    → MayAsk s e.seat event → decision_of s e.seat e.moment event ≡ Ok act → IsFine s e (changed s.tables e.moment act)
+act_fine s e (Begin words request) act begins sound later may is =
+    begin_fine s e words request act begins sound later may.1 is request.wanted refl
+act_fine s e (End outcome) act ends sound later may is = here (goal_at s e.seat) refl may is (goal_held s e.seat sound)
   where
     here : (goal : Option Goal) → goal_at s e.seat ≡ goal → MayEnd goal outcome → ends_at (access_of s) s.tables e.moment outcome goal ≡ Ok act
-        → IfSome goal (IsStorable s.tables) → AreAllowed s e (End outcome) (changed s.tables e.moment act)
+        → IfSome goal (IsStorable s.tables) → IsFine s e (changed s.tables e.moment act)
     here None at may is held = absurd may
     here (Some goal) at brings goes held =
-        goal_allowed s e outcome goal act sound at held goes (known_change s e.seat e.moment (End outcome) act sound may is)
+        goal_fine s e outcome goal act ends sound at held goes (known_change s e.seat e.moment (End outcome) act sound may is)
 
 pub changes_allowed : ChangesWhatMayBeChanged
 changes_allowed n s e sound may =
-    entry_has (λ t tickets blob. ChangesAllowed s e t) s e e.mark
-    (inl (all_so (same_allowed s e e.event sound)))
-    (λ act is. elim (act_allowed s e e.event act refl sound may.asked is) [ inl all ↦ inl (all_so all) | inr one ↦ inr one ])
+    entry_has (λ t tickets blob. IsFine s e t) s e e.mark (λ fine. same_allowed s e sound)
+    (λ act is. act_fine s e e.event act refl sound (omega (arith, sound.seen, may.not_before)) may.asked is)
+    (sound_after n s e sound may).rows
+
+-- ---- an End
+
+-- it is no Begin
+both_events : (outcome : Outcome) (words : Words) (request : Request) → End outcome ≡ Begin words request → ⊥
+both_events outcome words request same = cc
+
+-- it settles no trash
+end_settles : (s : State) (e : Entry) (outcome : Outcome) (user : ℕ) → e.event ≡ End outcome → Settles s e user → ⊥
+end_settles s e outcome _ ends (by_delete node needed) =
+    here (goal_at s e.seat) (subst (λ (event : Event). IsNeeded (needs_of s e.seat e.moment event) act.Delete node) ends needed)
   where
-    all_so : {made : Tables} → AreAllowed s e e.event made → NodesAllowed s e made
-    all_so all = record { nodes = all.nodes; others = all.others; rest = all.rest }
+    one : (need : Need) → need.act ≢ act.Delete → IsNeeded (need ∷ []) act.Delete node → ⊥
+    one need other (mount, (zero, within, same)) = other (ap (λ (n : Need). n.act) same)
+    one need other (mount, (suc k, within, same)) = omega (arith, within)
+
+    here : (goal : Option Goal) → IsNeeded (option_map_or needs_of_goal goal []) act.Delete node → ⊥
+    here None (mount, (k, within, same)) = omega (arith, within)
+    here (Some (Serve content)) (mount, (k, within, same)) = omega (arith, within)
+    here (Some (Store by (Node key) length)) is = one (need_of act.Update key by.mount) (λ same. cc) is
+    here (Some (Store by (Slot folder name) length)) is = one (need_of act.Create folder by.mount) (λ same. cc) is
+end_settles s e outcome _ ends (by_asking words request asked begins wanted) = both_events outcome words request (sym ends ∙ begins)
+end_settles s e outcome _ ends (by_quota words request user quota row begins wanted named) = both_events outcome words request (sym ends ∙ begins)
+
+-- so the nodes that it makes are allowed as they stand
+pub end_allowed : (s : State) (e : Entry) (made : Tables) (outcome : Outcome) → e.event ≡ End outcome → ChangesAllowed s e made → NodesAllowed s e made
+end_allowed s e made outcome ends changes =
+    subst (NodesAllowed s e) (sym (same changes.settled.tops changes.settled.settles changes.settled.gone)) (nodes changes.allowed)
+  where
+    nodes : NodesAllowed s e changes.between ⊎ (IsProviding s e changes.between ⊎ IsRestoring s e changes.between) → NodesAllowed s e changes.between
+    nodes (inl allowed) = allowed
+    nodes (inr (inl one)) = absurd (both_events outcome one.words one.request (sym ends ∙ one.begins))
+    nodes (inr (inr one)) = absurd (both_events outcome one.words one.request (sym ends ∙ one.begins))
+
+    same : (tops : List ℕ) → (tops ≢ [] → Settles s e changes.settled.user) → made ≡ purged_all changes.between tops → made ≡ changes.between
+    same [] settles gone = gone
+    same (top ∷ tops) settles gone = absurd (end_settles s e outcome changes.settled.user ends (settles (λ none. cc)))

@@ -1,7 +1,7 @@
 -- The blob that an act stores, and what an event stores in it. Whole blobs stay whole, and what is stored has the next number.
-use Rattle.std.proofs.Common.{◌≡◌, ℕ, ◌<◌, ◌==◌, Bool, true, false, if◌then◌else◌, List, [], ◌∷◌, length, get_or, inl, inr, refl, sym, ap, subst, ◌∙◌, arith, ◌&&◌, Result, Ok, Err, ◌⊎◌}
-use Rattle.std.specs.Prelude.{None, Option, option_map, Some}
-use Rattle.std.specs.List.{All}
+use Rattle.std.proofs.Common.{◌≡◌, ℕ, ◌<◌, ◌==◌, Bool, true, false, if◌then◌else◌, List, [], ◌∷◌, length, get_or, filter, inl, inr, not, refl, sym, ap, subst, ◌∙◌, arith, ◌&&◌, Result, Ok, Err, ◌⊎◌}
+use Rattle.std.specs.Prelude.{None, Option, option_and_then, option_map, Some}
+use Rattle.std.specs.List.{All, list_any}
 use Rattle.std.specs.Option.{IfSome, option_map_or}
 use Rattle.std.proofs.lemmas.List.Elements.{All-append, All-cons, All-nil}
 use Rattle.std.proofs.lemmas.Option.{none-some, slice_get-get_or}
@@ -15,12 +15,12 @@ use Rattle.nf_base.specs.declared.rows.MountRow.{MountRow}
 use Rattle.nf_base.specs.declared.rows.NodeRow.{NodeRow}
 use Rattle.nf_base.specs.declared.rows.Row.{Row}
 use Rattle.nf_base.specs.declared.rows.ShareRow.{ShareRow}
-use Rattle.nf_base.specs.declared.rows.UserRow.{UserRow}
 use Rattle.nf_base.specs.Content.{content_eq}
 use Rattle.nf_base.specs.declared.changes.Change.TheVariants.{Drop, Put}
 use Rattle.nf_base.specs.declared.changes.RowKey.TheVariants as keys
 use Rattle.nf_base.specs.declared.rows.Row.TheVariants as rows
 use Rattle.nf_defs.specs.Prelude.{Access, blob_at, Blobs, content_of, filled, is_folder, made, node_key, node_row, put_all, put_blob, relinked, Tables, user_named, with_blob}
+use Rattle.nf_defs.specs.Tree.{trashed}
 use Rattle.nf_defs.proofs.Blobs.{new_at, put_at, put_elsewhere, still_at}
 use Rattle.nf_defs.proofs.Puts.{all_put}
 use Rattle.nf_defs.specs.declared.Found.{Found}
@@ -31,9 +31,10 @@ use Rattle.nf_laws.proofs.Gone.{all_cleared}
 use Rattle.nf_laws.proofs.Lists.{AreBuilt, IsBuilt}
 use Rattle.nf_laws.proofs.Mirrored.{mirrored}
 use Rattle.nf_laws.proofs.OneRow.{with_all}
+use Rattle.nf_laws.proofs.Purged.{purged_keeps}
 use Rattle.nf_laws.proofs.Rows.{content_has, found_is, stamped_has}
 use Rattle.nf_laws.specs.Wholes.{BlobsAreNew, Brings, IsGoalHeld, IsHeld, IsThere, StaysWhole, blob_in, blob_under}
-use Rattle.nf_words.specs.Prelude.{access_of, after_mark, allowed_of, altered, AreSound, blob_after, blob_for, blob_of, by_of, Call, call_of, carried, changed, cleared, content_in, contents_of, copies_to, crosses, decision_of, deleted, end_refusal, ends_at, ends_goal, given, goal_at, goal_of, hold_of, IsGoalSound, IsPieceSound, IsSound, IsTicketSound, joined, last_name, left_row, listing_of, made_folder, MayAsk, mount_left, mount_renamed, moved, named_row, node_at, own_mount, places_of, raised, refilled, refusal_of, served, stamped, State, stored, stored_at, told, transfer_of, unless_refused, way_of, with_goal, with_mount_row, without, is_member, joined_by, left_by, membership, mounts_for, mounts_joined, nothing_done, share_told, shared, share_made, offered, share_shown, share_set, perms_after, people_changed, put_mounts, requoted, row_named, same_end, set_row, share_steered, share_ended, until_after}
+use Rattle.nf_words.specs.Prelude.{access_of, after_mark, allowed_of, altered, AreSound, blob_after, blob_for, blob_of, by_of, Call, call_of, carried, changed, cleared, content_in, contents_of, copies_to, crosses, decision_of, deed_done, deleted, discard, end_refusal, ends_at, ends_goal, given, gone_of, goal_at, goal_of, hold_of, IsGoalSound, IsPieceSound, IsSound, IsTicketSound, item_dropped, item_for, item_restored, items_of, joined, last_name, left_row, listing_of, made_folder, MayAsk, mount_left, mount_renamed, moved, named_row, node_at, own_item, own_mount, people_done, places_of, quota_of, raised, refilled, refusal_of, served, stamped, State, stored, stored_at, told, transfer_of, trash_done, unless_refused, way_of, with_goal, with_mount_row, without, is_member, joined_by, left_by, membership, mounts_for, mounts_joined, nothing_done, share_told, shared, share_made, offered, share_shown, share_set, perms_after, people_changed, put_mounts, requoted, row_named, same_end, set_row, share_steered, share_ended, until_after}
 use Rattle.nf_words.specs.declared.answer.Allowed.{Allowed}
 use Rattle.nf_words.specs.declared.answer.Allowed.TheVariants as allowed
 use Rattle.nf_words.specs.declared.answer.Goal.{Goal}
@@ -46,6 +47,8 @@ use Rattle.nf_words.proofs.Ends.{known_change}
 use Rattle.nf_words.proofs.Fits.{KnownRow, KnownRows, no_more, one_more, user_more}
 use Rattle.nf_words.proofs.Known.{Known, KnownCopies}
 use Rattle.nf_words.specs.declared.answer.By.{By}
+use Rattle.nf_words.specs.declared.answer.Deed.{Deed}
+use Rattle.nf_words.specs.declared.answer.Deed.TheVariants as deed
 use Rattle.nf_words.specs.declared.answer.Denial.{Denial}
 use Rattle.nf_words.specs.declared.answer.LockKey.{LockKey}
 use Rattle.nf_words.specs.declared.answer.Report.{Report}
@@ -61,6 +64,8 @@ use Rattle.nf_words.specs.declared.request.Places.{Places}
 use Rattle.nf_words.specs.declared.request.ShareAsk.{ShareAsk}
 use Rattle.nf_words.specs.declared.request.ShareAsk.TheVariants as ask
 use Rattle.nf_words.specs.declared.request.Spot.{Spot}
+use Rattle.nf_words.specs.declared.request.TrashAsk.{TrashAsk}
+use Rattle.nf_words.specs.declared.request.TrashAsk.TheVariants as trash
 use Rattle.nf_words.specs.declared.request.Wanted.{Wanted}
 use Rattle.nf_words.specs.declared.request.Wanted.TheVariants as wanted
 
@@ -101,6 +106,14 @@ act_next t now (allowed.Change changes blob report) known = changes_next t (rais
 act_next t now act known = tt
 
 pub altered_next : (t : Tables) (now : ℕ) (act : Allowed) → (altered t now act).meta.next_blob ≡ blob_after t.meta.next_blob (blob_of act)
+altered_next t now (allowed.Trash did gone report) =
+    purged_keeps (λ (u : Tables). u.meta.next_blob ≡ t.meta.next_blob) (λ u top same. same) (deed_done t did) gone (done did)
+  where
+    done : (did : Deed) → (deed_done t did).meta.next_blob ≡ t.meta.next_blob
+    done deed.Nothing = refl
+    done (deed.Discard item) = refl
+    done (deed.Restore top folder name) = refl
+    done (deed.Requote row) = refl
 altered_next t now allowed.Close = refl
 altered_next t now act = refl
 
@@ -218,10 +231,6 @@ left_of : (group user : ℕ) (b : Bool) → AreOf [] (if b then Drop (keys.Membe
 left_of group user true = (tt, tt)
 left_of group user false = tt
 
-requoted_of : (row : UserRow) (b : Bool) → AreOf [] (if b then [] else Put (rows.User row) ∷ [])
-requoted_of row true = tt
-requoted_of row false = (tt, tt)
-
 where_found : {X : Type 0} (changes : X → List Change) (o : Option X) → ((x : X) → AreOf [] (changes x)) → AreOf [] (option_map_or changes o [])
 where_found changes None of = tt
 where_found changes (Some x) of = of x
@@ -232,10 +241,38 @@ people_of t now (people.NewGroup name) = (tt, tt)
 people_of t now (people.AddMember user group) = where_found (joined_by t) (membership t user group) (λ row. joined_of t row (is_member t row))
 people_of t now (people.DropMember user group) =
     where_found (left_by t) (membership t user group) (λ row. left_of row.group row.user (is_member t row))
-people_of t now (people.SetQuota user quota) =
-    where_found (requoted quota) (row_named t user) (λ row. requoted_of (record row { quota = quota }) (row.quota == quota))
+people_of t now (people.SetQuota user quota) = tt
 people_of t now (people.AddToken user token) =
     where_found (λ user. Put (rows.Token (record { digest = token; user = user })) ∷ []) (user_named t.users user) (λ id. (tt, tt))
+
+people_alters : (call : Call) (asked : PeopleAsk) → Alters call.state.tables (people_done call.state.tables call.now asked)
+people_alters call (people.SetQuota user quota) =
+    let t = call.state.tables in
+    found_alters t (requoted t call.now quota) (row_named t user) (λ row.
+    if_alters t (row.quota == quota) nothing_done
+    (allowed.Trash (deed.Requote (record row { quota = quota })) (gone_of t call.now quota (items_of t row.id)) report.Plain) (refl, inl tt) tt)
+people_alters call (people.NewUser name token quota) =
+    (refl, inl (people_of call.state.tables call.now (people.NewUser name token quota)))
+people_alters call (people.NewGroup name) = (refl, inl (people_of call.state.tables call.now (people.NewGroup name)))
+people_alters call (people.AddMember user group) = (refl, inl (people_of call.state.tables call.now (people.AddMember user group)))
+people_alters call (people.DropMember user group) = (refl, inl (people_of call.state.tables call.now (people.DropMember user group)))
+people_alters call (people.AddToken user token) = (refl, inl (people_of call.state.tables call.now (people.AddToken user token)))
+
+-- what is put in the trash, goes or comes back has its content
+deleted_alters : (t : Tables) (now : ℕ) (node : Option ℕ) → Alters t (deleted t now node)
+deleted_alters t now node =
+    found_alters t (discard t now) (option_and_then (node_row t.nodes) node) (λ row.
+    let gone = gone_of t now (quota_of t row.owner) (item_for now row ∷ items_of t row.owner) in
+    if_alters t (list_any (λ node. node == row.id) gone) (allowed.Trash deed.Nothing (row.id ∷ filter (λ node. not (node == row.id)) gone) report.Done)
+    (allowed.Trash (deed.Discard (item_for now row)) gone report.Done) tt tt)
+
+trash_alters : (call : Call) (asked : TrashAsk) → Alters call.state.tables (trash_done call asked)
+trash_alters call (trash.List user) = (refl, inl tt)
+trash_alters call (trash.Drop user item) =
+    found_alters call.state.tables (item_dropped call.state.tables call.now) (own_item call item) (λ item. tt)
+trash_alters call (trash.Empty user) = tt
+trash_alters call (trash.Restore user item) =
+    found_alters call.state.tables (item_restored call.state.tables call.now) (own_item call item) (λ item. tt)
 
 pub given_alters : (call : Call) (places : Places) (asked : Wanted)
     → ((spot : Spot) × (asked ≡ wanted.Get spot)) ⊎ Alters call.state.tables (given (access_of call.state) call places asked)
@@ -245,8 +282,8 @@ given_alters call places (wanted.Mkcol spot) = inr (folder_alters call.state.tab
 given_alters call places (wanted.Delete spot) =
     let t = call.state.tables in
     let way = way_of call spot in
-    inr (if_alters t way.itself (mount_left call way) (deleted (node_at places.source)) (mount_alters t (option_map left_row (own_mount call way.mount)) report.Done)
-    (either_alters t allowed.Delete (node_at places.source) (λ node. tt)))
+    inr (if_alters t way.itself (mount_left call way) (deleted t call.now (node_at places.source))
+    (mount_alters t (option_map left_row (own_mount call way.mount)) report.Done) (deleted_alters t call.now (node_at places.source)))
 given_alters call places (wanted.Move source target overwrite) =
     let t = call.state.tables in
     let way = way_of call source in
@@ -261,7 +298,8 @@ given_alters call places (wanted.Copy source target overwrite) =
     inr (either_alters t (λ transfer. allowed.Copy (copies_to t call.now transfer (last_name target)) transfer.replaced)
     (transfer_of t.nodes places) (λ transfer. tt))
 given_alters call places (wanted.Share asked) = inr (shared_alters call places asked)
-given_alters call places (wanted.People asked) = inr (refl, inl (people_of call.state.tables call.now asked))
+given_alters call places (wanted.People asked) = inr (people_alters call asked)
+given_alters call places (wanted.Trash asked) = inr (trash_alters call asked)
 
 -- so a Begin stores nothing
 alters_stores : (t : Tables) (body : List ℕ) (act : Allowed) → Alters t act → StoresBody t body act
@@ -417,6 +455,15 @@ joined_held t now copies replaced opening start blobs sound known kept =
     (all_cleared (IsRowHeld opening start blobs) t.nodes replaced kept)
     (copies_held t now copies replaced opening start blobs sound known kept)
 
+-- what is put in the trash or comes back keeps its content
+done_held : (t : Tables) (did : Deed) (opening : List Row) (start blobs : Blobs) → All (IsRowHeld opening start blobs) t.nodes
+    → All (IsRowHeld opening start blobs) (deed_done t did).nodes
+done_held t deed.Nothing opening start blobs kept = kept
+done_held t (deed.Discard item) opening start blobs kept = with_all (IsRowHeld opening start blobs) t.nodes item.node trashed (λ row held. held) kept
+done_held t (deed.Restore top folder name) opening start blobs kept =
+    with_all (IsRowHeld opening start blobs) t.nodes top (relinked folder name) (λ row held. held) kept
+done_held t (deed.Requote row) opening start blobs kept = kept
+
 -- where the old nodes' pieces are held with the body, the new nodes' are
 altered_held : (t : Tables) (now : ℕ) (act : Allowed) (opening : List Row) (start blobs : Blobs) (body : List ℕ)
     → AreSound t → Known t now act
@@ -441,8 +488,9 @@ altered_held t now (allowed.Change changes blob report) opening start blobs body
           of_have Held t (content_in (blob_for t.meta.next_blob (length body)) (sha256 body) (length body)) changes some.1
           (λ row is. stored_held t.meta.next_blob opening start blobs body blob row.content some.0 is) kept
     ]
-altered_held t now (allowed.Delete node) opening start blobs body sound known kept stores =
-    all_cleared (IsRowHeld opening start blobs) t.nodes (Some node) kept
+altered_held t now (allowed.Trash did gone report) opening start blobs body sound known kept stores =
+    purged_keeps (λ (u : Tables). All (IsRowHeld opening start blobs) u.nodes)
+    (λ u top held. all_cleared (IsRowHeld opening start blobs) u.nodes (Some top) held) (deed_done t did) gone (done_held t did opening start blobs kept)
 altered_held t now (allowed.Move transfer name) opening start blobs body sound known kept stores =
     with_all (IsRowHeld opening start blobs) (cleared t.nodes transfer.replaced) transfer.node (relinked transfer.folder name)
     (λ row held. held)

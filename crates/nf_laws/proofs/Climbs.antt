@@ -1,5 +1,5 @@
 -- Rows by their numbers, and the folders that a climb passes.
-use Rattle.std.proofs.Common.{sym, option_map, if◌then◌else◌, ℕ, suc, zero, ◌+◌, ◌==◌, ◌≡◌, ◌≤◌, Bool, true, List, [], ◌∷◌, Option, None, Some, filter, get_or, refl, ap, ◌∙◌, arith}
+use Rattle.std.proofs.Common.{sym, option_map, if◌then◌else◌, ℕ, suc, zero, ◌+◌, ◌==◌, ◌≡◌, ◌≤◌, Bool, true, List, [], ◌∷◌, Option, None, Some, filter, get_or, refl, ap, subst, ◌∙◌, arith}
 use Rattle.std.specs.Prelude.{is_some}
 use Rattle.std.specs.List.{All}
 use Rattle.std.specs.Option.{option_and_then}
@@ -105,10 +105,20 @@ row_of_those test (x ∷ rows) node passes =
     (λ e. ap (λ (o : Option NodeRow). if x.id == node then Some x else o) rest)
     (λ e. rest ∙ simp (ne_eqb x.id node (λ same. both_ways (test x.id) e (rw same passes))))
 
--- where the folder of what passes the test passes it, a climb from there stays the same
-pub climb_those : (test : ℕ → Bool) (rows : List NodeRow)
-    → ((node parent : ℕ) → parent_of rows node ≡ Some parent → test node ≡ true → test parent ≡ true)
-    → (k node : ℕ) → test node ≡ true → climb (those test rows) k node ≡ climb rows k node
+-- the folder of what passes passes
+abbrev pub IsClosed : List NodeRow → (ℕ → Bool) → Type 0
+IsClosed rows test = (node parent : ℕ) → parent_of rows node ≡ Some parent → test node ≡ true → test parent ≡ true
+
+-- then a climb from there stays the same
+pub climb_those : (test : ℕ → Bool) (rows : List NodeRow) → IsClosed rows test → (k node : ℕ) → test node ≡ true → climb (those test rows) k node ≡ climb rows k node
 climb_those test rows up k node passes =
     climb_same rows (those test rows) (λ k node. test node ≡ true) (λ k node parent passes above. up node parent above passes)
     (λ k node passes. ap (option_and_then (λ row. folder_of row.place)) (row_of_those test rows node passes)) k node passes
+
+-- and what passes climbs to what passes
+pub climb_passes : (test : ℕ → Bool) (rows : List NodeRow) → IsClosed rows test → (k node top : ℕ) → climb rows k node ≡ Some top
+    → test node ≡ true → test top ≡ true
+climb_passes test rows closed zero node top is passes = subst (λ (n : ℕ). test n ≡ true) (same_Some node top is) passes
+climb_passes test rows closed (suc k) node top is passes =
+    option_and_then_some (climb rows k) (parent_of rows node) top is (λ parent above is.
+    climb_passes test rows closed k parent top is (closed node parent above passes))

@@ -16,18 +16,19 @@ use Rattle.nf_base.specs.declared.rows.Place.TheVariants.{Inside}
 use Rattle.nf_defs.specs.Prelude.{child_of, climb, content_of, depth, is_folder, is_folder_kind, is_in, is_place_in, is_root, is_root_place, node_row, owner_of, piece_count, Tables, walk_of, walk_within}
 use Rattle.nf_laws.proofs.Added.{new_apart}
 use Rattle.nf_laws.proofs.Climbs.{node_row_each, parent_at}
-use Rattle.nf_laws.proofs.Gone.{cleared_all, clearing_sound, counts_cleared, folder_stays, free_cleared, left_sound, row_cleared}
+use Rattle.nf_laws.proofs.Gone.{cleared_all, cleared_leads, clearing_sound, counts_cleared, folder_stays, free_cleared, left_sound, row_cleared}
 use Rattle.nf_laws.proofs.Mirrored.{mirrored}
 use Rattle.nf_laws.proofs.Moved.{depth_cleared, unmounted_cleared}
-use Rattle.nf_laws.proofs.Others.{all_off, IsOff, kept_present, new_off, others_still, root_row, Still, was_same, WasThere}
+use Rattle.nf_laws.proofs.Others.{all_off, IsOff, kept_present, new_off, others_still, root_row, Still, trash_kept, was_same, WasThere}
 use Rattle.nf_laws.proofs.Paths.{child_there}
+use Rattle.nf_laws.proofs.Present.{kept_leads}
 use Rattle.nf_laws.proofs.Rows.{child_folder, climb_kept, counters_up, folder_kept, folder_there, kept_joined, node_kept, parent_there, pieces_kept, root_kept, row_is, row_joined, stamp, top_kept}
 use Rattle.nf_laws.proofs.Upwards.{climbs_depth, deepest_among, depth_up}
 use Rattle.nf_laws.proofs.Walked.{AllPairs-append, walks_take}
 use Rattle.nf_laws.specs.Numbers.{AreHigher}
 use Rattle.nf_laws.specs.Transfers.{IsCopyOf, Mirrors, is_replaced}
 use Rattle.nf_words.proofs.Known.{KnownCopies, KnownCross, KnownTransfer}
-use Rattle.nf_words.specs.Prelude.{AreApart, AreSound, cleared, HasRoot, IsNodeSound, IsPieceSound, IsPlaceSound, IsTop, IsUnmounted, joined, pieces_in, removed, stored_pieces}
+use Rattle.nf_words.specs.Prelude.{AreApart, AreSound, cleared, HasRoot, IsNodeSound, IsPieceSound, IsPlaceSound, IsTop, IsUnmounted, joined, LeadsToRoot, pieces_in, removed, stored_pieces}
 use Rattle.nf_words.specs.declared.request.Transfer.{Transfer}
 
 -- ---- lists
@@ -160,7 +161,7 @@ module _ (t : Tables) (now : ℕ) (transfer : Transfer) (name : List ℕ) (rows 
       AllPairs-append (λ (a b : NodeRow). a.id < b.id) left.nodes rows left_fine.rising (copies_rise t now transfer name rows mirrors)
       (λ i d within k e also. omega (arith, (left_fine.nodes i d within).given, (copy k e also).id))
 
-  copy_there : (d : NodeRow) (k : ℕ) → k < length rows → node_row made.nodes (t.meta.next_node + k) ≡ Some (get_or rows k d)
+  pub copy_there : (d : NodeRow) (k : ℕ) → k < length rows → node_row made.nodes (t.meta.next_node + k) ≡ Some (get_or rows k d)
   copy_there d k within =
       let same = get_or-append-add left.nodes rows k d in
       let there = node_row_each made.nodes joined_rises (length left.nodes + k) d (omega (arith, length-append left.nodes rows)) in
@@ -330,6 +331,7 @@ module _ (t : Tables) (now : ℕ) (transfer : Transfer) (name : List ℕ) (rows 
     of_mounts = λ k d within. left_was (get_or left.mounts k d).node (left_fine.others.mounts k d within).node;
     present = kept_present left made.nodes left_fine (kept_joined left.nodes rows);
     off = All-append (IsOff left) left.nodes rows (all_off left left_fine) copies_off;
+    trashed = trash_kept left.nodes made.nodes (kept_joined left.nodes rows);
   }
 
   -- ---- all rows
@@ -373,7 +375,14 @@ copied_sound t now rows replaced sound later copies =
 
 -- ---- what goes to another owner
 
--- the source is there with the copies, as it was
+-- the source hasn't to go with what is replaced
+crossed_left : (t : Tables) (now : ℕ) (rows : List NodeRow) (replaced : Option ℕ) (node : ℕ) → KnownCross t now rows replaced node
+    → is_replaced t.nodes replaced node ≡ false
+crossed_left t now rows replaced node cross =
+    subst (λ (n : ℕ). is_replaced t.nodes replaced n ≡ false) (sym cross.node_is)
+    (subst (λ (o : Option ℕ). is_replaced t.nodes o cross.copies.transfer.node ≡ false) (sym cross.copies.replaced_is) cross.copies.known.apart)
+
+-- it is there with the copies, as it was
 pub crossed_row : (t : Tables) (now : ℕ) (rows : List NodeRow) (replaced : Option ℕ) (node : ℕ) → AreSound t → KnownCross t now rows replaced node
     → node_row (joined t rows replaced).nodes node ≡ node_row t.nodes node
 crossed_row t now rows replaced node sound cross =
@@ -382,9 +391,7 @@ crossed_row t now rows replaced node sound cross =
     let source = row_is t transfer.node copies.known.source.0 sound copies.known.source.1 in
     let given : node < t.meta.next_node = omega (arith, cross.node_is, source.0, source.1.given) in
     old_joined t now transfer copies.name rows (mirrored t now rows replaced sound copies) (cleared t.nodes replaced) node given
-    ∙ row_cleared t.nodes replaced node
-    (subst (λ (n : ℕ). is_replaced t.nodes replaced n ≡ false) (sym cross.node_is)
-    (subst (λ (o : Option ℕ). is_replaced t.nodes o transfer.node ≡ false) (sym copies.replaced_is) copies.known.apart))
+    ∙ row_cleared t.nodes replaced node (crossed_left t now rows replaced node cross)
 
 pub crossed_no_root : (t : Tables) (now : ℕ) (rows : List NodeRow) (replaced : Option ℕ) (node : ℕ) → AreSound t → KnownCross t now rows replaced node
     → is_root (joined t rows replaced).nodes node ≡ false
@@ -392,8 +399,16 @@ crossed_no_root t now rows replaced node sound cross =
     ap (λ (o : Option NodeRow). option_map_or (λ row. is_root_place row.place) o false) (crossed_row t now rows replaced node sound cross)
     ∙ ap (is_root t.nodes) cross.node_is ∙ cross.copies.known.no_root
 
+-- and present
+pub crossed_present : (t : Tables) (now : ℕ) (rows : List NodeRow) (replaced : Option ℕ) (node : ℕ) → AreSound t → KnownCross t now rows replaced node
+    → LeadsToRoot (joined t rows replaced).nodes node
+crossed_present t now rows replaced node sound cross =
+    kept_leads (cleared t.nodes replaced) (joined t rows replaced).nodes node (kept_joined (cleared t.nodes replaced) rows)
+    (cleared_leads t replaced node sound (crossed_left t now rows replaced node cross)
+    (subst (LeadsToRoot t.nodes) (sym cross.node_is) cross.copies.known.present))
+
 pub crossed_sound : (t : Tables) (now : ℕ) (rows : List NodeRow) (replaced : Option ℕ) (node : ℕ)
     → AreSound t → t.meta.last ≤ now → KnownCross t now rows replaced node → AreSound (stamp (removed (joined t rows replaced) node) now)
 crossed_sound t now rows replaced node sound later cross =
     left_sound (stamp (joined t rows replaced) now) node (copied_sound t now rows replaced sound later cross.copies)
-    (crossed_no_root t now rows replaced node sound cross)
+    (crossed_no_root t now rows replaced node sound cross) (crossed_present t now rows replaced node sound cross)

@@ -4,11 +4,14 @@ use Rattle.nf_base.specs.declared.rows.MetaRow.{MetaRow}
 use Rattle.nf_defs.specs.Tables.{Tables}
 use Rattle.nf_laws.proofs.Entries.{entry_has}
 use Rattle.nf_laws.proofs.Lists.{raised_higher}
+use Rattle.nf_laws.proofs.Purged.{purged_keeps}
 use Rattle.nf_laws.proofs.Rows.{stamp, stamped_has}
 use Rattle.nf_laws.specs.Numbers.{AreHigher, CountersRise}
-use Rattle.nf_words.specs.Prelude.{after, after_mark, altered, changed, replay, State, told}
+use Rattle.nf_words.specs.Prelude.{after, after_mark, altered, changed, deed_done, replay, State, told}
 use Rattle.nf_words.specs.declared.answer.Allowed.{Allowed}
 use Rattle.nf_words.specs.declared.answer.Allowed.TheVariants as allowed
+use Rattle.nf_words.specs.declared.answer.Deed.{Deed}
+use Rattle.nf_words.specs.declared.answer.Deed.TheVariants as deed
 use Rattle.nf_words.specs.declared.history.Entry.{Entry}
 use Rattle.nf_words.specs.declared.history.Mark.{Mark}
 
@@ -18,10 +21,19 @@ up meta now nodes more = record { users = le_refl _; groups = le_refl _; nodes =
 same : (meta : MetaRow) → AreHigher meta meta
 same meta = up meta meta.last meta.next_node (le_refl _)
 
+-- no deed of the trash changes one
+done_up : (t : Tables) (now : ℕ) (did : Deed) → AreHigher t.meta (stamp (deed_done t did) now).meta
+done_up t now deed.Nothing = up t.meta now t.meta.next_node (le_refl _)
+done_up t now (deed.Discard item) = up t.meta now t.meta.next_node (le_refl _)
+done_up t now (deed.Restore top folder name) = up t.meta now t.meta.next_node (le_refl _)
+done_up t now (deed.Requote row) = up t.meta now t.meta.next_node (le_refl _)
+
 altered_up : (t : Tables) (now : ℕ) (act : Allowed) → AreHigher t.meta (stamp (altered t now act) now).meta
 altered_up t now (allowed.Change changes blob report) = raised_higher t now changes blob
 altered_up t now (allowed.Copy rows replaced) = up t.meta now (t.meta.next_node + length rows) (omega arith)
 altered_up t now (allowed.Cross rows replaced node) = up t.meta now (t.meta.next_node + length rows) (omega arith)
+altered_up t now (allowed.Trash did gone report) =
+    purged_keeps (λ (u : Tables). AreHigher t.meta (record u.meta { last = now })) (λ u top h. h) (deed_done t did) gone (done_up t now did)
 altered_up t now act = up t.meta now t.meta.next_node (le_refl _)
 
 pub changed_up : (t : Tables) (now : ℕ) (act : Allowed) → AreHigher t.meta (changed t now act).meta

@@ -24,7 +24,7 @@ use Rattle.nf_words.proofs.Known.{KnownCopies, KnownCross}
 use Rattle.nf_words.specs.Prelude.{AreSound, cleared, closed_under, dropped_under, ended_for, ended_row, gone_under, is_closing, joined}
 use Rattle.nf_words.specs.declared.request.Transfer.{Transfer}
 
-none_pass : (p : NodeRow → Bool) (rows : List NodeRow) → All (λ (row : NodeRow). p row ≡ false) rows → filter p rows ≡ []
+pub none_pass : (p : NodeRow → Bool) (rows : List NodeRow) → All (λ (row : NodeRow). p row ≡ false) rows → filter p rows ≡ []
 none_pass p [] fail = refl
 none_pass p (row ∷ rows) fail =
     simp (All-head (λ (row : NodeRow). p row ≡ false) row rows fail) (none_pass p rows (All-tail (λ (row : NodeRow). p row ≡ false) row rows fail))

@@ -7,7 +7,7 @@ use Rattle.nf_base.specs.declared.rows.NodeRow.{NodeRow}
 use Rattle.nf_base.specs.declared.rows.Row.TheVariants as kind
 use Rattle.nf_base.specs.declared.rows.ShareRow.{ShareRow}
 use Rattle.nf_defs.specs.Prelude.{is_under, node_row, owner_of, Tables}
-use Rattle.nf_laws.proofs.Acting.{some_told}
+use Rattle.nf_laws.proofs.Discarding.{some_told}
 use Rattle.nf_laws.proofs.Crossed.{crossed_under}
 use Rattle.nf_laws.proofs.Ended.{any, are_ended, ended_twice, replaced_ended}
 use Rattle.nf_laws.proofs.Entries.{step_changed}

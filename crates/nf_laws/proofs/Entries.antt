@@ -6,13 +6,16 @@ use Rattle.std.proofs.lemmas.List.Elements.{All-filter, All-push}
 use Rattle.nf_defs.specs.Prelude.{made, Tables}
 use Rattle.nf_laws.proofs.Lists.{changes_have, with_born, with_filled, with_remounted, with_share}
 use Rattle.nf_laws.proofs.Peopled.{people_alone, with_rooted}
+use Rattle.nf_laws.proofs.Purged.{purged_keeps}
 use Rattle.nf_laws.proofs.Rows.{stamp, stamped_has}
 use Rattle.nf_laws.specs.Wholes.{blob_under}
 use Rattle.nf_words.proofs.Ends.{known_change}
 use Rattle.nf_words.proofs.Known.{Known}
-use Rattle.nf_words.specs.Prelude.{after, after_mark, altered, AreSound, blob_by, blob_of, changed, decided, decision_of, goal_of, hold_of, IsSound, MayCome, State, step, ticket_for, told, with_goal, without}
+use Rattle.nf_words.specs.Prelude.{after, after_mark, altered, AreSound, blob_by, blob_of, changed, decided, decision_of, deed_done, goal_of, hold_of, IsSound, MayCome, purged, State, step, ticket_for, told, with_goal, without}
 use Rattle.nf_words.specs.declared.answer.Allowed.{Allowed}
 use Rattle.nf_words.specs.declared.answer.Allowed.TheVariants as allowed
+use Rattle.nf_words.specs.declared.answer.Deed.{Deed}
+use Rattle.nf_words.specs.declared.answer.Deed.TheVariants as deed
 use Rattle.nf_words.specs.declared.answer.Denial.{Denial}
 use Rattle.nf_words.specs.declared.answer.Goal.{Goal}
 use Rattle.nf_words.specs.declared.answer.Hold.{Hold}
@@ -100,9 +103,17 @@ RestKept t u =
       nodes = u.nodes;
       shares = u.shares;
       mounts = u.mounts;
+      items = u.items;
     }
 
--- no act makes other rows of other kinds
+-- no deed of the trash makes other rows of other kinds
+rest_done : (t : Tables) (did : Deed) → RestKept t (deed_done t did)
+rest_done t deed.Nothing = refl
+rest_done t (deed.Discard item) = refl
+rest_done t (deed.Restore top folder name) = refl
+rest_done t (deed.Requote row) = refl
+
+-- nor does any act
 pub rest_kept : (t : Tables) (now : ℕ) (act : Allowed) → AreSound t → Known t now act
     → RestKept t (altered t now act)
 rest_kept t now (allowed.Change changes blob report) sound known =
@@ -114,5 +125,7 @@ rest_kept t now (allowed.Change changes blob report) sound known =
     subst (RestKept t) (sym (people_alone u change it))
     (ap (λ (v : Tables). record v { users = by.users; tokens = by.tokens; groups = by.groups; members = by.members }) same))
     (λ u row root same it. ap (λ (v : Tables). with_rooted v row root) same) refl
+rest_kept t now (allowed.Trash did gone report) sound known =
+    purged_keeps (RestKept t) (λ u top same. ap (λ (v : Tables). purged v top) same) (deed_done t did) gone (rest_done t did)
 rest_kept t now allowed.Close sound known = refl
 rest_kept t now act sound known = refl

@@ -23,7 +23,7 @@ use Rattle.nf_laws.proofs.Rows.{folder_there, found_is, parent_there}
 use Rattle.nf_laws.proofs.Sources.{source_stays, was_given}
 use Rattle.nf_laws.proofs.Transferred.{are_copied, moved_rows}
 use Rattle.nf_laws.proofs.Upwards.{derived, never_climbs}
-use Rattle.nf_laws.specs.Access.{Follows, IsMadeIn, IsNeeded, in_it, in_made, is_gone, is_gone_from, is_made, is_updated, shares_without}
+use Rattle.nf_laws.specs.Access.{Follows, IsMadeIn, IsNeeded, in_it, in_made, is_gone, is_made, is_updated}
 use Rattle.nf_laws.specs.Acts.{IsAdded, IsRefilled}
 use Rattle.nf_laws.specs.Transfers.{AreCopied, IsPlacedCopy, Mirrors, is_replaced}
 use Rattle.nf_words.proofs.Found.{child_parent}
@@ -37,7 +37,7 @@ abbrev pub AllFollow : List Need → List NodeRow → List NodeRow → Type 0
 AllFollow needs before after = (node : ℕ) → node_row after node ≢ node_row before node → Follows needs before after node
 
 -- so it is, where it is of one node and of every other
-one_follows : (needs : List Need) (before after : List NodeRow) (one : ℕ) → Follows needs before after one
+pub one_follows : (needs : List Need) (before after : List NodeRow) (one : ℕ) → Follows needs before after one
     → ((node : ℕ) → node ≢ one → node_row after node ≢ node_row before node → Follows needs before after node)
     → AllFollow needs before after
 one_follows needs before after one follows others node differs =
@@ -65,6 +65,14 @@ refilled_follow t made now node content needs is needed =
 -- the shares of nodes that pass a test are ended
 abbrev pub shares_by : (ℕ → Bool) → List ShareRow → List ShareRow
 shares_by goes shares = map (λ share. if goes share.node then ended_row share else share) shares
+
+-- the node was there, and isn't any more
+abbrev pub is_gone_from : List NodeRow → List NodeRow → ℕ → Bool
+is_gone_from before after node = is_some (node_row before node) && not (is_some (node_row after node))
+
+-- the shares, where those are ended whose nodes are gone
+abbrev pub shares_gone : List NodeRow → List NodeRow → List ShareRow → List ShareRow
+shares_gone before after shares = shares_by (is_gone_from before after) shares
 
 ended_by : (rows : List NodeRow) (replaced : Option ℕ) (shares : List ShareRow) → ended_for rows replaced shares ≡ shares_by (is_replaced rows replaced) shares
 ended_by rows None shares = sym (map-id shares)
@@ -109,7 +117,7 @@ same_or false b c same = same refl
 shares_laid : (t : Tables) (after : List NodeRow) (goes : ℕ → Bool) → AreSound t
     → ((node : ℕ) → goes node ≡ true → is_some (node_row t.nodes node) ≡ true) → ((node : ℕ) → goes node ≡ true → node_row after node ≡ None)
     → ((node : ℕ) → node < t.meta.next_node → goes node ≡ false → is_some (node_row t.nodes node) ≡ true → is_some (node_row after node) ≡ true)
-    → shares_by goes t.shares ≡ shares_without t.nodes after t.shares
+    → shares_by goes t.shares ≡ shares_gone t.nodes after t.shares
 shares_laid t after goes sound were gone stay =
     shares_agree goes (is_gone_from t.nodes after) t.shares (λ k d within.
     let share = get_or t.shares k d in same share.node (sound.others.shares k d within).node)
@@ -129,7 +137,7 @@ shares_laid t after goes sound were gone stay =
 -- where every node stays, they are as they were
 pub kept_shares : (t : Tables) (after : List NodeRow) → AreSound t
     → ((node : ℕ) → is_some (node_row t.nodes node) ≡ true → is_some (node_row after node) ≡ true)
-    → t.shares ≡ shares_without t.nodes after t.shares
+    → t.shares ≡ shares_gone t.nodes after t.shares
 kept_shares t after sound stay =
     sym (map-id t.shares)
     ∙ shares_laid t after (λ node. false) sound (λ node goes. absurd (false≢true goes)) (λ node goes. absurd (false≢true goes))
@@ -144,6 +152,7 @@ goes_with needs before after None node needed goes gone = absurd (false≢true g
 goes_with needs before after (Some top) node needed goes gone =
     let c = under_climb before node top goes in is_gone top needed (derived c.0 before top node c.2) gone
 
+-- what goes for good is gone with its top
 pub deleted_follow : (t : Tables) (top : ℕ) (needs : List Need) → IsNeeded needs Delete top → AllFollow needs t.nodes (removed t top).nodes
 deleted_follow t top needs needed node differs =
     elim (cases_Bool (is_under t.nodes node top)) [
@@ -174,15 +183,8 @@ replaced_there t (Some top) folder name node sound there goes =
     let row = inside_there t.nodes top folder (child_parent t.nodes folder name top sound.rising there) in
     under_there t.nodes node top (ap is_some row.1) goes
 
-pub deleted_shares : (t : Tables) (top : ℕ) → AreSound t → is_some (node_row t.nodes top) ≡ true
-    → (removed t top).shares ≡ shares_without t.nodes (removed t top).nodes t.shares
-deleted_shares t top sound there =
-    shares_laid t (removed t top).nodes (λ node. is_under t.nodes node top) sound (λ node goes. under_there t.nodes node top there goes)
-    (λ node goes. row_gone t.nodes (Some top) node goes)
-    (λ node given stays there. ap is_some (row_cleared t.nodes (Some top) node stays) ∙ there)
-
 pub moved_shares : (t : Tables) (transfer : Transfer) (name : List ℕ) → AreSound t → KnownTransfer t transfer name
-    → (transferred t transfer name).shares ≡ shares_without t.nodes (transferred t transfer name).nodes t.shares
+    → (transferred t transfer name).shares ≡ shares_gone t.nodes (transferred t transfer name).nodes t.shares
 moved_shares t transfer name sound known =
     let is = moved_rows t transfer name sound known in
     let after = (transferred t transfer name).nodes in
@@ -435,13 +437,13 @@ module _ (t : Tables) (now : ℕ) (copies : List NodeRow) (replaced : Option ℕ
 
   -- ---- the shares
 
-  pub copied_shares : (joined t copies replaced).shares ≡ shares_without t.nodes with_copies t.shares
+  pub copied_shares : (joined t copies replaced).shares ≡ shares_gone t.nodes with_copies t.shares
   copied_shares =
       ended_by t.nodes replaced t.shares
       ∙ shares_laid t with_copies (is_replaced t.nodes replaced) sound laid.were laid.gone
       (λ node given stays there. ap is_some (is.others node given stays) ∙ there)
 
-  pub crossed_shares : (removed (joined t copies replaced) top).shares ≡ shares_without t.nodes without_source t.shares
+  pub crossed_shares : (removed (joined t copies replaced) top).shares ≡ shares_gone t.nodes without_source t.shares
   crossed_shares =
       ap (shares_by (λ node. is_under with_copies node top)) (ended_by t.nodes replaced t.shares)
       ∙ both_shares (is_replaced t.nodes replaced) (λ node. is_under with_copies node top) t.shares

@@ -50,7 +50,7 @@ module _ (call : Call) (spot : Spot) (node : ℕ) (wanted : call.request.wanted 
   rows = call.state.tables.nodes
 
   abbrev all : List Touch
-  all = touches rows (asked_by call) (places_of call)
+  all = touches call.state.tables (asked_by call) (places_of call)
 
   one_touch : is_folder rows node ≡ false → all ≡ touch_key (Node node) Shared ∷ []
   one_touch file = rw (wanted, at, file) refl

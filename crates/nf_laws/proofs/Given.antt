@@ -48,7 +48,7 @@ contains_cases : {X : Type 0} (y x : X) (xs : List X) → Contains (y ∷ xs) x 
 contains_cases y x xs (zero, within, same) = inl same
 contains_cases y x xs (suc k, within, same) = inr (k, omega (arith, within), same)
 
-put_contains : {R : Type 0} (key : R → List ℕ) (row x : R) (rows : List R) → key row ≢ key x → Contains rows x → Contains (put key row rows) x
+pub put_contains : {R : Type 0} (key : R → List ℕ) (row x : R) (rows : List R) → key row ≢ key x → Contains rows x → Contains (put key row rows) x
 put_contains key row x [] other is = absurd (omega (arith, is.1))
 put_contains {R = R} key row x (y ∷ rows) other is =
     here (key_cmp (key row) (key y)) refl (contains_cases y x rows is) (put_contains key row x rows other)

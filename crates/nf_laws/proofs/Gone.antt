@@ -1,27 +1,30 @@
 -- The tables without what is removed are sound.
-use Rattle.std.proofs.Common.{inl, inr, ℕ, zero, suc, ◌==◌, ◌≡◌, ◌<◌, ◌≤◌, Bool, true, false, not, List, Option, None, Some, length, refl, sym, ap, subst, ◌∙◌, arith, le_refl}
+use Rattle.std.proofs.Common.{inl, inr, ℕ, suc, ◌==◌, ◌≡◌, ◌<◌, ◌≤◌, Bool, true, false, not, List, Option, None, Some, length, refl, sym, ap, subst, ◌∙◌, arith, le_refl}
 use Rattle.std.specs.List.{All}
-use Rattle.std.specs.Option.{option_map_or}
+use Rattle.std.specs.Option.{IfSome, option_map_or}
 use Rattle.std.proofs.lemmas.Bool.{both_ways, cases_Bool, false_from_ne_true, false≢true, ne_eqb, not-true, not_from_false}
 use Rattle.std.proofs.lemmas.List.Elements.{All-filter, All-weaker, filter_passes}
 use Rattle.std.proofs.lemmas.List.Filters.{length-filter_both, sum_by-filter_both}
 use Rattle.std.proofs.lemmas.List.Kept.{AllPairs-filter}
-use Rattle.std.proofs.lemmas.Option.{none-some, option_and_then_some, same_Some}
+use Rattle.std.proofs.lemmas.Option.{none-some, same_Some}
+use Rattle.nf_base.specs.declared.rows.ItemRow.{ItemRow}
 use Rattle.nf_base.specs.declared.rows.NodeRow.{NodeRow}
 use Rattle.nf_base.specs.declared.rows.Place.{Place}
 use Rattle.nf_base.specs.declared.rows.Place.TheVariants.{Inside, Root, Trash}
 use Rattle.nf_base.specs.declared.rows.UserRow.{UserRow}
 use Rattle.nf_defs.proofs.Climbs.{climb_under, under_climb}
 use Rattle.nf_defs.specs.Prelude.{child_of, climb, folder_of, is_root, is_root_place, is_under, node_row, parent_of, piece_count, Tables}
-use Rattle.nf_laws.proofs.Climbs.{climb_those, climbs_no_further, node_row_each, parent_at, row_of_those, those}
-use Rattle.nf_laws.proofs.Others.{others_ended, without}
+use Rattle.nf_laws.proofs.Climbs.{climb_passes, climb_those, climbs_no_further, IsClosed, node_row_each, parent_at, row_of_those, those}
+use Rattle.nf_laws.proofs.Others.{all_off, IsOff, items_all, items_left, ItemsLeft, others_ended, those_were, was_same, without}
 use Rattle.nf_laws.proofs.Paths.{child_is, child_there}
+use Rattle.nf_laws.proofs.Present.{those_leads, trash_outside}
 use Rattle.nf_laws.proofs.Rows.{finds_none, kept_row, node_still, root_still}
-use Rattle.nf_laws.proofs.Upwards.{inside_no_root, never_climbs, no_rings}
+use Rattle.nf_laws.proofs.Upwards.{never_climbs, no_rings}
 use Rattle.nf_laws.specs.Transfers.{is_replaced}
 use Rattle.nf_words.proofs.Found.{child_parent}
 use Rattle.nf_words.proofs.Known.{KnownTransfer}
-use Rattle.nf_words.specs.Prelude.{AreApart, AreSound, cleared, ended_for, HasRoot, IsNodeSound, IsPlaceSound, removed}
+use Rattle.nf_words.proofs.Ways.{inside_no_root, inside_present}
+use Rattle.nf_words.specs.Prelude.{AreApart, AreSound, cleared, ended_for, HasRoot, IsNodeSound, IsPlaceSound, LeadsToRoot, removed}
 use Rattle.nf_words.specs.declared.request.Transfer.{Transfer}
 
 -- ---- the tables without the nodes that go
@@ -29,75 +32,68 @@ use Rattle.nf_words.specs.declared.request.Transfer.{Transfer}
 abbrev pub stays : (ℕ → Bool) → ℕ → Bool
 stays gone node = not (gone node)
 
--- the folder of what passes passes
-abbrev pub IsClosed : List NodeRow → (ℕ → Bool) → Type 0
-IsClosed rows test = (node parent : ℕ) → parent_of rows node ≡ Some parent → test node ≡ true → test parent ≡ true
+module _ (t : Tables) (gone : ℕ → Bool) (items : List ItemRow) (sound : AreSound t) (closed : IsClosed t.nodes (stays gone))
+    (left : ItemsLeft t gone items) where
+  -- what passes has its place, its climb and its root as before
+  place_left : (row : NodeRow) → node_row t.nodes row.id ≡ Some row → stays gone row.id ≡ true → (place : Place) → row.place ≡ place
+      → IsPlaceSound t row place → IsPlaceSound (without t gone items) row place
+  place_left row there passes Root is h = h
+  place_left row there passes (Inside folder) is h =
+      let above = parent_at t.nodes row.id folder row there is in
+      let e = row_of_those (stays gone) t.nodes folder (closed row.id folder above passes) in
+      (rw e h.0, rw e h.1)
+  place_left row there passes Trash is h = (h.0, left.there row.id row there is passes)
 
--- what passes has its place, its climb and its root as before
-place_left : (t : Tables) (gone : ℕ → Bool) (row : NodeRow) → IsClosed t.nodes (stays gone) → node_row t.nodes row.id ≡ Some row → stays gone row.id ≡ true
-    → (place : Place) → row.place ≡ place → IsPlaceSound t row place → IsPlaceSound (without t gone) row place
-place_left t gone row closed there passes Root is h = h
-place_left t gone row closed there passes (Inside folder) is h =
-    let above = parent_at t.nodes row.id folder row there is in
-    let e = row_of_those (stays gone) t.nodes folder (closed row.id folder above passes) in
-    (rw e h.0, rw e h.1)
-place_left t gone row closed there passes Trash is h = h
+  node_left : (row : NodeRow) → node_row t.nodes row.id ≡ Some row → stays gone row.id ≡ true → IsNodeSound t row → IsNodeSound (without t gone items) row
+  node_left row there passes h =
+      node_still t (without t gone items) row row.place row.name (le_refl _) (le_refl _) (le_refl _) h
+      (place_left row there passes row.place refl h.place)
+      (record {
+        steps = h.steps;
+        shallow = h.shallow;
+        top = h.top;
+        climbs = climb_those (stays gone) t.nodes closed h.steps row.id passes ∙ h.climbs;
+        ends = record {
+          row = h.ends.row;
+          there = row_of_those (stays gone) t.nodes h.top (climb_passes (stays gone) t.nodes closed h.steps row.id h.top h.climbs passes) ∙ h.ends.there;
+          ends = h.ends.ends;
+        };
+      })
 
--- what passes climbs to what passes
-climb_passes : (test : ℕ → Bool) (rows : List NodeRow) → IsClosed rows test → (k node top : ℕ) → climb rows k node ≡ Some top
-    → test node ≡ true → test top ≡ true
-climb_passes test rows closed zero node top is passes = subst (λ (n : ℕ). test n ≡ true) (same_Some node top is) passes
-climb_passes test rows closed (suc k) node top is passes =
-    option_and_then_some (climb rows k) (parent_of rows node) top is (λ parent above is.
-    climb_passes test rows closed k parent top is (closed node parent above passes))
+  root_stays : (user : UserRow) → stays gone user.root ≡ true → HasRoot t user → HasRoot (without t gone items) user
+  root_stays user passes root =
+      root_still t (without t gone items) user root
+      (kept_row (those (stays gone) t.nodes) user.root root.row (row_of_those (stays gone) t.nodes user.root passes ∙ root.there))
 
-node_left : (t : Tables) (gone : ℕ → Bool) (row : NodeRow) → IsClosed t.nodes (stays gone) → node_row t.nodes row.id ≡ Some row → stays gone row.id ≡ true
-    → IsNodeSound t row → IsNodeSound (without t gone) row
-node_left t gone row closed there passes h =
-    node_still t (without t gone) row row.place row.name (le_refl _) (le_refl _) (le_refl _) h
-    (place_left t gone row closed there passes row.place refl h.place)
-    (record {
-      steps = h.steps;
-      shallow = h.shallow;
-      top = h.top;
-      climbs = climb_those (stays gone) t.nodes closed h.steps row.id passes ∙ h.climbs;
-      ends = record {
-        row = h.ends.row;
-        there = row_of_those (stays gone) t.nodes h.top (climb_passes (stays gone) t.nodes closed h.steps row.id h.top h.climbs passes) ∙ h.ends.there;
-        ends = h.ends.ends;
-      };
-    })
-
-root_stays : (t : Tables) (gone : ℕ → Bool) (user : UserRow) → stays gone user.root ≡ true → HasRoot t user → HasRoot (without t gone) user
-root_stays t gone user passes root =
-    root_still t (without t gone) user root
-    (kept_row (those (stays gone) t.nodes) user.root root.row (row_of_those (stays gone) t.nodes user.root passes ∙ root.there))
-
-pub those_sound : (t : Tables) (gone : ℕ → Bool) → AreSound t → IsClosed t.nodes (stays gone)
-    → ((user : UserRow) → HasRoot t user → stays gone user.root ≡ true) → AreSound (without t gone)
-those_sound t gone sound closed roots =
-    let passes : NodeRow → Bool = λ row. stays gone row.id in
-    record {
-      counters = sound.counters;
-      rising = AllPairs-filter (λ a b. a.id < b.id) passes t.nodes sound.rising;
-      nodes = λ k d within. node_left t gone _ closed
-          (All-filter passes (λ row. node_row t.nodes row.id ≡ Some row) t.nodes (node_row_each t.nodes sound.rising) k d within)
-          (filter_passes passes t.nodes k d within)
-          (All-filter passes (IsNodeSound t) t.nodes sound.nodes k d within);
-      names = AllPairs-filter AreApart passes t.nodes sound.names;
-      roots = All-weaker (HasRoot t) (HasRoot (without t gone)) (λ user root. root_stays t gone user (roots user root) root) t.users sound.roots;
-      users_given = sound.users_given;
-      members_there = sound.members_there;
-      groups_given = sound.groups_given;
-      few_nodes = omega (arith, sound.few_nodes, length-filter_both passes (λ row. not (passes row)) (λ row. refl) t.nodes);
-      few_pieces = omega (
-        arith,
-        sound.few_pieces,
-        sum_by-filter_both passes (λ row. not (passes row)) (λ row. refl) (λ row. length row.content) t.nodes,
-      );
-      later = sound.later;
-      others = others_ended t gone sound;
-    }
+  pub those_sound : ((user : UserRow) → HasRoot t user → stays gone user.root ≡ true) → AreSound (without t gone items)
+  those_sound roots =
+      let passes : NodeRow → Bool = λ row. stays gone row.id in
+      let made = without t gone items in
+      record {
+        counters = sound.counters;
+        rising = AllPairs-filter (λ a b. a.id < b.id) passes t.nodes sound.rising;
+        nodes = λ k d within. node_left _
+            (All-filter passes (λ row. node_row t.nodes row.id ≡ Some row) t.nodes (node_row_each t.nodes sound.rising) k d within)
+            (filter_passes passes t.nodes k d within)
+            (All-filter passes (IsNodeSound t) t.nodes sound.nodes k d within);
+        names = AllPairs-filter AreApart passes t.nodes sound.names;
+        roots = All-weaker (HasRoot t) (HasRoot made) (λ user root. root_stays user (roots user root) root) t.users sound.roots;
+        users_given = sound.users_given;
+        members_there = sound.members_there;
+        groups_given = sound.groups_given;
+        few_nodes = omega (arith, sound.few_nodes, length-filter_both passes (λ row. not (passes row)) (λ row. refl) t.nodes);
+        few_pieces = omega (
+          arith,
+          sound.few_pieces,
+          sum_by-filter_both passes (λ row. not (passes row)) (λ row. refl) (λ row. length row.content) t.nodes,
+        );
+        later = sound.later;
+        others = others_ended t gone made.nodes items sound
+            (λ n row there. was_same t.nodes n row (those_were (stays gone) t.nodes n row there).1)
+            (λ n passes up. those_leads (stays gone) t.nodes n closed (ap not passes) up)
+            (All-filter passes (IsOff t) t.nodes (all_off t sound))
+            (items_left t made gone items (le_refl _) (row_of_those (stays gone) t.nodes) left) left.rise;
+      }
 
 -- ---- the tables without the nodes under a top
 
@@ -114,7 +110,7 @@ folder_left t top sound node parent above left =
     never_climbs t node top sound outside (suc c.0) (rw above c.2)))
 
 -- a root is left, since a top that it is under is that root
-root_left : (t : Tables) (top : ℕ) → is_root t.nodes top ≡ false → (user : UserRow) → HasRoot t user → is_left t.nodes top user.root ≡ true
+pub root_left : (t : Tables) (top : ℕ) → is_root t.nodes top ≡ false → (user : UserRow) → HasRoot t user → is_left t.nodes top user.root ≡ true
 root_left t top no_root user root =
     not_from_false (is_under t.nodes user.root top) (false_from_ne_true (is_under t.nodes user.root top) (λ under.
     let c = under_climb t.nodes user.root top under in
@@ -125,9 +121,22 @@ root_left t top no_root user root =
     let is : is_root t.nodes user.root ≡ true = rw root.there (ap is_root_place root.place) in
     both_ways (is_root t.nodes top) no_root (subst (λ (n : ℕ). is_root t.nodes n ≡ true) same is)))
 
-pub left_sound : (t : Tables) (top : ℕ) → AreSound t → is_root t.nodes top ≡ false → AreSound (removed t top)
-left_sound t top sound no_root =
-    those_sound t (λ node. is_under t.nodes node top) sound (folder_left t top sound) (root_left t top no_root)
+-- and so is what is in the trash, where the top is present
+trash_left : (rows : List NodeRow) (top : ℕ) → LeadsToRoot rows top → (node : ℕ) (row : NodeRow) → node_row rows node ≡ Some row
+    → row.place ≡ Trash → is_left rows top node ≡ true
+trash_left rows top present node row there place =
+    not_from_false (is_under rows node top) (false_from_ne_true (is_under rows node top) (λ under.
+    let c = under_climb rows node top under in trash_outside c.0 rows node top row present there place c.2))
+
+pub left_sound : (t : Tables) (top : ℕ) → AreSound t → is_root t.nodes top ≡ false → LeadsToRoot t.nodes top → AreSound (removed t top)
+left_sound t top sound no_root present =
+    let gone : ℕ → Bool = λ node. is_under t.nodes node top in
+    those_sound t gone t.items sound (folder_left t top sound) (items_all t gone sound (trash_left t.nodes top present)) (root_left t top no_root)
+
+-- what is present and isn't under the top is present without it
+pub left_leads : (t : Tables) (top node : ℕ) → AreSound t → is_under t.nodes node top ≡ false → LeadsToRoot t.nodes node
+    → LeadsToRoot (removed t top).nodes node
+left_leads t top node sound outside = those_leads (is_left t.nodes top) t.nodes node (folder_left t top sound) (ap not outside)
 
 -- ---- the tables without what has to go, if anything has
 
@@ -135,9 +144,15 @@ abbrev pub cleared_all : Tables → Option ℕ → Tables
 cleared_all t replaced = record t { nodes = cleared t.nodes replaced; shares = ended_for t.nodes replaced t.shares }
 
 pub cleared_sound : (t : Tables) (replaced : Option ℕ) → AreSound t → option_map_or (is_root t.nodes) replaced false ≡ false
-    → AreSound (cleared_all t replaced)
-cleared_sound t None sound no_root = sound
-cleared_sound t (Some top) sound no_root = left_sound t top sound no_root
+    → IfSome replaced (LeadsToRoot t.nodes) → AreSound (cleared_all t replaced)
+cleared_sound t None sound no_root present = sound
+cleared_sound t (Some top) sound no_root present = left_sound t top sound no_root present
+
+-- what is present and hasn't to go is present
+pub cleared_leads : (t : Tables) (replaced : Option ℕ) (node : ℕ) → AreSound t → is_replaced t.nodes replaced node ≡ false
+    → LeadsToRoot t.nodes node → LeadsToRoot (cleared t.nodes replaced) node
+cleared_leads t None node sound stays up = up
+cleared_leads t (Some top) node sound stays up = left_leads t top node sound stays up
 
 -- a node that hasn't to go has its row as before
 pub row_cleared : (rows : List NodeRow) (replaced : Option ℕ) (node : ℕ) → is_replaced rows replaced node ≡ false
@@ -214,6 +229,13 @@ replaced_no_root t None folder name sound is = refl
 replaced_no_root t (Some top) folder name sound is =
     inside_no_root t.nodes top folder (child_parent t.nodes folder name top sound.rising is)
 
+-- where its folder is present, it is
+replaced_present : (t : Tables) (replaced : Option ℕ) (folder : ℕ) (name : List ℕ) → AreSound t → LeadsToRoot t.nodes folder
+    → child_of t.nodes folder name ≡ replaced → IfSome replaced (LeadsToRoot t.nodes)
+replaced_present t None folder name sound up is = tt
+replaced_present t (Some top) folder name sound up is =
+    inside_present t.nodes top folder (child_parent t.nodes folder name top sound.rising is) up
+
 -- and its folder hasn't to go
 pub folder_stays : (t : Tables) (replaced : Option ℕ) (folder : ℕ) (name : List ℕ) → AreSound t → child_of t.nodes folder name ≡ replaced
     → is_replaced t.nodes replaced folder ≡ false
@@ -225,3 +247,4 @@ pub clearing_sound : (t : Tables) (transfer : Transfer) (name : List ℕ) → Ar
     → AreSound (cleared_all t transfer.replaced)
 clearing_sound t transfer name sound known =
     cleared_sound t transfer.replaced sound (replaced_no_root t transfer.replaced transfer.folder name sound known.there)
+    (replaced_present t transfer.replaced transfer.folder name sound known.folder_present known.there)

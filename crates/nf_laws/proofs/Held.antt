@@ -1,31 +1,40 @@
 -- What is held stays as it is by each step that leaves it alone.
-use Rattle.std.proofs.Common.{◌≡◌, ◌≢◌, ℕ, zero, ◌<◌, ◌≤◌, ◌++◌, ◌&&◌, bytes_eq, get_or, not, suc, ◌+◌, true, false, List, [], ◌∷◌, Option, None, Some, refl, sym, ap, subst, ◌∙◌, arith}
-use Rattle.std.specs.Prelude.{find, option_map}
+use Rattle.std.proofs.Common.{◌≡◌, ◌≢◌, inl, inr, ℕ, zero, ◌<◌, ◌≤◌, ◌++◌, ◌&&◌, bytes_eq, get_or, not, suc, ◌+◌, true, false, List, [], ◌∷◌, Option, None, Some, refl, sym, ap, subst, ◌∙◌, arith}
+use Rattle.std.specs.Prelude.{find, is_some, option_map, slice_get}
 use Rattle.std.specs.List.{All}
 use Rattle.std.specs.Option.{IfSome, option_map_or}
 use Rattle.std.proofs.lemmas.Bool.{and_parts, both_ways, false_from_ne_true, ne_eqb}
-use Rattle.std.proofs.lemmas.List.Elements.{All-append, All-cons, All-nil}
+use Rattle.std.proofs.lemmas.List.Elements.{All-append, All-cons, All-head, All-nil}
 use Rattle.std.proofs.lemmas.Slice.Eq.{bytes_eq-Decides}
 use Rattle.nf_base.specs.declared.rows.NodeRow.{NodeRow}
-use Rattle.nf_base.specs.declared.rows.Place.TheVariants.{Inside, Root}
+use Rattle.nf_base.specs.declared.rows.Place.TheVariants.{Inside, Root, Trash}
 use Rattle.nf_defs.proofs.Climbs.{climb_under}
 use Rattle.nf_defs.proofs.Walks.{inside_of}
-use Rattle.nf_defs.specs.Prelude.{child_of, filled, is_folder_kind, is_in, is_under, node_row, relinked, Tables}
+use Rattle.nf_defs.specs.Prelude.{child_of, filled, is_folder_kind, is_in, is_under, node_row, relinked, Tables, with_node}
+use Rattle.nf_defs.specs.Tree.{trashed}
 use Rattle.nf_laws.proofs.Crossed.{crossed_under}
-use Rattle.nf_laws.proofs.Copied.{copy_at}
-use Rattle.nf_laws.proofs.Gone.{all_cleared, row_cleared}
+use Rattle.nf_laws.proofs.Copied.{copied_sound, copy_at}
+use Rattle.nf_laws.proofs.Gone.{all_cleared, cleared_leads, left_leads, row_cleared}
 use Rattle.nf_laws.proofs.Lists.{nodes_have, with_filled}
 use Rattle.nf_laws.proofs.Mirrored.{mirrored}
-use Rattle.nf_laws.proofs.OneRow.{row_other, with_all}
-use Rattle.nf_laws.proofs.Rows.{each_fails, finds_none, folder_there, no_value, row_is, row_joined, stamped_has}
+use Rattle.nf_laws.proofs.Moved.{outside_leads, transferred_leads}
+use Rattle.nf_laws.proofs.OneRow.{KeepsId, row_other, with_all}
+use Rattle.nf_laws.proofs.Others.{stamp_sound}
+use Rattle.nf_laws.proofs.Present.{kept_leads}
+use Rattle.nf_laws.proofs.Purged.{item_outside, trash_keeps}
+use Rattle.nf_laws.proofs.Replaced.{kept_replaced}
+use Rattle.nf_laws.proofs.Rows.{each_fails, finds_none, folder_there, kept_joined, no_value, row_is, row_joined, stamp, stamped_has}
+use Rattle.nf_laws.proofs.Upwards.{never_climbs}
 use Rattle.nf_laws.specs.Locks.{IsFree, KeyStays}
 use Rattle.nf_laws.specs.Transfers.{is_replaced, IsPlacedCopy, Mirrors}
 use Rattle.nf_words.proofs.Fits.{KnownFilled}
-use Rattle.nf_words.proofs.Known.{Known, KnownCopies, KnownCross}
-use Rattle.nf_words.proofs.Spared.{Spares, SparesChange, SparesRow, SparesTarget, SparesUnder}
-use Rattle.nf_words.specs.Prelude.{altered, AreSound, changed, cleared, IsHeld, joined, node_of_key, removed, told, transferred}
+use Rattle.nf_words.proofs.Known.{Known, KnownCopies, KnownCross, KnownDeed, KnownGone, KnownTrash}
+use Rattle.nf_words.proofs.Spared.{Spares, SparesChange, SparesDeed, SparesGone, SparesRow, SparesTarget, SparesUnder}
+use Rattle.nf_words.specs.Prelude.{altered, AreSound, changed, cleared, deed_done, IsHeld, joined, LeadsToRoot, node_of_key, purged, purged_all, removed, told, transferred}
 use Rattle.nf_words.specs.declared.answer.Allowed.{Allowed}
 use Rattle.nf_words.specs.declared.answer.Allowed.TheVariants as allowed
+use Rattle.nf_words.specs.declared.answer.Deed.{Deed}
+use Rattle.nf_words.specs.declared.answer.Deed.TheVariants as deed
 use Rattle.nf_words.specs.declared.answer.Hold.{Hold}
 use Rattle.nf_words.specs.declared.answer.LockKey.{LockKey}
 use Rattle.nf_words.specs.declared.answer.LockKey.TheVariants.{Node, Slot}
@@ -225,22 +234,108 @@ module _ (t : Tables) (hold : Hold) (sound : AreSound t) (held : IsHeld t hold.k
         all_cleared (Spared key) (joined t rows replaced).nodes (Some top) beside.1,
       )
 
-  altered_stays : (now : ℕ) (act : Allowed) → Known t now act → Spares t now hold act → Stays (altered t now act).nodes
-  altered_stays now (allowed.Change changes blob report) known spares =
+  -- ---- what the trash takes and gives back
+
+  -- it stays in tables, and is present there
+  abbrev Stands : Tables → Type 0
+  Stands u = Stays u.nodes × LeadsToRoot u.nodes node
+
+  -- where the row of a node is changed that it isn't under
+  changed_stands : (top : ℕ) (change : NodeRow → NodeRow) → KeepsId change → ((old : NodeRow) → Spared key old → Spared key (change old))
+      → SparesUnder t key top → LeadsToRoot t.nodes node → Stands (record t { nodes = with_node t.nodes top change })
+  changed_stands top change keeps spared spares up = (
+    (row_other t.nodes top change keeps node (ne_eqb node top (not_moved top spares)), with_all (Spared key) t.nodes top change spared first.1),
+    outside_leads t.nodes top change keeps node (never_climbs t node top sound spares) up,
+  )
+
+  -- nothing is put in the trash over it, and nothing comes back under a name that is held
+  deed_stands : (now : ℕ) (did : Deed) → KnownDeed t now did → SparesDeed t key did → LeadsToRoot t.nodes node → Stands (deed_done t did)
+  deed_stands now deed.Nothing known spares up = (first, up)
+  deed_stands now (deed.Discard item) known spares up =
+      changed_stands item.node trashed (λ r. refl) (λ old h. spared_row key (trashed old) (λ folder place same. absurd (nowhere folder place))) spares up
+    where
+      nowhere : (folder : ℕ) → Trash ≢ Inside folder
+      nowhere folder = λ same. cc
+  deed_stands now (deed.Restore top folder name) known spares up =
+      changed_stands top (relinked folder name) (λ r. refl)
+      (λ old h. spared_row key (relinked folder name old) (λ other place same.
+      spares (same ∙ ap (λ (n : ℕ). Slot n name) (sym (inside folder other place)))))
+      (item_outside t top node sound (ap is_some known.there) up) up
+    where
+      inside : (a b : ℕ) → Inside a ≡ Inside b → a ≡ b
+      inside a b same = cc
+  deed_stands now (deed.Requote row) known spares up = (first, up)
+
+  -- without what it isn't under
+  purged_stands : (u : Tables) (top : ℕ) → AreSound u → is_under u.nodes node top ≡ false → Stands u → Stands (purged u top)
+  purged_stands u top fine outside h = (
+    (row_cleared u.nodes (Some top) node outside ∙ h.0.0, all_cleared (Spared key) u.nodes (Some top) h.0.1),
+    left_leads u top node fine outside h.1,
+  )
+
+  trash_stands : (now : ℕ) (did : Deed) (gone : List ℕ) → t.meta.last ≤ now → KnownTrash t now did gone
+      → SparesDeed t key did × All (SparesGone t key) gone → LeadsToRoot t.nodes node → Stands (purged_all (deed_done t did) gone)
+  trash_stands now did gone later known spares up =
+      trash_keeps Stands t now did gone sound later known (deed_stands now did known.known spares.0 up) (here gone spares.1)
+      (λ u top fine is h. purged_stands u top fine (item_outside u top node fine is h.1) h)
+    where
+      here : (gone : List ℕ) → All (SparesGone t key) gone
+          → IfSome (slice_get gone 0) (λ (top : ℕ). KnownGone t top → Stands (stamp t now) → Stands (purged (stamp t now) top))
+      here [] spared = tt
+      here (top ∷ tops) spared =
+          λ present. purged_stands (stamp t now) top (stamp_sound t now sound later)
+          (elim (All-head (SparesGone t key) top tops spared) [ inl item ↦ item_outside t top node sound item up | inr outside ↦ outside ])
+
+  -- ---- every act
+
+  altered_stays : (now : ℕ) (act : Allowed) → t.meta.last ≤ now → Known t now act → Spares t now hold act → LeadsToRoot t.nodes node
+      → Stays (altered t now act).nodes
+  altered_stays now (allowed.Change changes blob report) later known spares up =
       nodes_have Stays (SparesChange t key) t now changes blob report sound.rising known spares
       (λ u row stays it is. new_stays u.nodes row stays it.fresh (is.slot it.fresh)) (λ u row stays it is. filled_stays u blob row stays it is)
       (λ u row root stays it. new_stays u.nodes root stays it.2 (λ folder inside. absurd (no_folder folder (sym it.1.place ∙ inside)))) first
     where
       no_folder : (folder : ℕ) → Root ≢ Inside folder
       no_folder folder = λ same. cc
-  altered_stays now (allowed.Delete top) known spares = cleared_stays (Some top) spares
-  altered_stays now (allowed.Move transfer name) known spares = moved_stays transfer name spares.0 spares.1
-  altered_stays now (allowed.Copy rows replaced) known spares = copied_stays now rows replaced spares.0 spares.1
-  altered_stays now (allowed.Cross rows replaced top) known spares = crossed_stays now rows replaced top known spares
-  altered_stays now act known spares = first
+  altered_stays now (allowed.Trash did gone report) later known spares up = (trash_stands now did gone later known spares up).0
+  altered_stays now (allowed.Move transfer name) later known spares up = moved_stays transfer name spares.0 spares.1
+  altered_stays now (allowed.Copy rows replaced) later known spares up = copied_stays now rows replaced spares.0 spares.1
+  altered_stays now (allowed.Cross rows replaced top) later known spares up = crossed_stays now rows replaced top known spares
+  altered_stays now act later known spares up = first
 
   -- so it does by an act that leaves it alone
-  pub act_stays : (now : ℕ) (act : Allowed) → Known t now act → Spares t now hold act → KeyStays t (changed t now act) key
-  act_stays now act known spares =
-      let stays = stamped_has (λ (u : Tables). Stays u.nodes) t (altered t now act) now (told t act) first (altered_stays now act known spares) in
+  pub act_stays : (now : ℕ) (act : Allowed) → t.meta.last ≤ now → Known t now act → Spares t now hold act → LeadsToRoot t.nodes node
+      → KeyStays t (changed t now act) key
+  act_stays now act later known spares up =
+      let stays = stamped_has (λ (u : Tables). Stays u.nodes) t (altered t now act) now (told t act) first (altered_stays now act later known spares up) in
       record { row = stays.0; free = free_of (changed t now act).nodes key stays.1 }
+
+  -- ---- what is held and present stays present
+
+  copied_leads : (now : ℕ) (rows : List NodeRow) (replaced : Option ℕ) (known : KnownCopies t now rows replaced)
+      → SparesTarget t key known.transfer known.name → LeadsToRoot t.nodes node → LeadsToRoot (joined t rows replaced).nodes node
+  copied_leads now rows replaced known target up =
+      let stays = not_replaced replaced (subst (λ (o : Option ℕ). IfSome o (SparesUnder t key)) (sym known.replaced_is) target.replaced) in
+      kept_leads (cleared t.nodes replaced) (joined t rows replaced).nodes node (kept_joined (cleared t.nodes replaced) rows)
+      (cleared_leads t replaced node sound stays up)
+
+  altered_leads : (now : ℕ) (act : Allowed) → t.meta.last ≤ now → Known t now act → Spares t now hold act → LeadsToRoot t.nodes node
+      → LeadsToRoot (altered t now act).nodes node
+  altered_leads now (allowed.Change changes blob report) later known spares up =
+      nodes_have (λ (rows : List NodeRow). LeadsToRoot rows node) (λ change. Unit {0}) t now changes blob report sound.rising known (λ k d within. tt)
+      (λ u row h it is. kept_leads u.nodes (u.nodes ++ row ∷ []) node (kept_joined u.nodes (row ∷ [])) h)
+      (λ u row h it is. kept_leads u.nodes (with_filled u row).nodes node (kept_replaced u.nodes row.changed row.id row.content) h)
+      (λ u row root h it. kept_leads u.nodes (u.nodes ++ root ∷ []) node (kept_joined u.nodes (root ∷ [])) h) up
+  altered_leads now (allowed.Trash did gone report) later known spares up = (trash_stands now did gone later known spares up).1
+  altered_leads now (allowed.Move transfer name) later known spares up =
+      transferred_leads t transfer name node sound known (not_replaced transfer.replaced spares.1.replaced) up
+  altered_leads now (allowed.Copy rows replaced) later known spares up = copied_leads now rows replaced spares.0 spares.1 up
+  altered_leads now (allowed.Cross rows replaced top) later known spares up =
+      left_leads (stamp (joined t rows replaced) now) top node (copied_sound t now rows replaced sound later spares.0)
+      (crossed_under t now rows replaced top sound known node ∙ spares.2) (copied_leads now rows replaced spares.0 spares.1 up)
+  altered_leads now act later known spares up = up
+
+  pub act_leads : (now : ℕ) (act : Allowed) → t.meta.last ≤ now → Known t now act → Spares t now hold act → LeadsToRoot t.nodes node
+      → LeadsToRoot (changed t now act).nodes node
+  act_leads now act later known spares up =
+      stamped_has (λ (u : Tables). LeadsToRoot u.nodes node) t (altered t now act) now (told t act) up (altered_leads now act later known spares up)

@@ -10,13 +10,16 @@ use Rattle.nf_defs.specs.Prelude.{is_under, made, put, share_key, Tables}
 use Rattle.nf_laws.proofs.Lists.{changes_have, KnownShare}
 use Rattle.nf_laws.proofs.Others.{row_ended, same_field, unless_gone}
 use Rattle.nf_laws.proofs.Peopled.{people_shares}
+use Rattle.nf_laws.proofs.Purged.{purged_keeps}
 use Rattle.nf_laws.proofs.Puts.{other_number}
 use Rattle.nf_laws.proofs.Rows.{found_is, stamped_has}
 use Rattle.nf_words.proofs.Asks.{share_found}
 use Rattle.nf_words.proofs.Known.{Known}
-use Rattle.nf_words.specs.Prelude.{altered, AreSound, changed, ended_for, IsLinkTo, IsNewShare, IsOtherShare, joined, told}
+use Rattle.nf_words.specs.Prelude.{altered, AreSound, changed, deed_done, ended_for, IsLinkTo, IsNewShare, IsOtherShare, joined, purged, told}
 use Rattle.nf_words.specs.declared.answer.Allowed.{Allowed}
 use Rattle.nf_words.specs.declared.answer.Allowed.TheVariants as allowed
+use Rattle.nf_words.specs.declared.answer.Deed.{Deed}
+use Rattle.nf_words.specs.declared.answer.Deed.TheVariants as deed
 
 -- the share is there, of the node and of the kind of the old one
 pub record IsSameShare (shares : List ShareRow) (id : ℕ) (old : ShareRow) : Type 0 where
@@ -96,6 +99,13 @@ known_share_keeps first t row known = elim known [ inl new ↦ new_share_keeps t
 
 -- ---- every act
 
+-- what is put in the trash ends shares, and what comes back changes none
+deed_shares : (t : Tables) (did : Deed) → KeepsShares t (deed_done t did)
+deed_shares t (deed.Discard item) = ended_shares t.nodes (Some item.node) t.shares
+deed_shares t deed.Nothing = all_shares t.shares
+deed_shares t (deed.Restore top folder name) = all_shares t.shares
+deed_shares t (deed.Requote row) = all_shares t.shares
+
 altered_shares : (t : Tables) (now : ℕ) (act : Allowed) → AreSound t → Known t now act → KeepsShares t (altered t now act)
 altered_shares t now (allowed.Change changes blob report) sound known =
     changes_have (KeepsShares t) t now changes blob report sound.rising known (λ u row keeps it. keeps) (λ u row keeps it. keeps)
@@ -103,7 +113,9 @@ altered_shares t now (allowed.Change changes blob report) sound known =
     (λ u row keeps it. then_shares t.shares u.shares (put share_key row u.shares) keeps (known_share_keeps t u row it))
     (λ u change keeps it. subst (AreSameShares t.shares) (sym (people_shares u change it)) keeps) (λ u row root keeps it. keeps)
     (all_shares t.shares)
-altered_shares t now (allowed.Delete node) sound known = ended_shares t.nodes (Some node) t.shares
+altered_shares t now (allowed.Trash did gone report) sound known =
+    purged_keeps (KeepsShares t) (λ u top keeps. then_shares t.shares u.shares (purged u top).shares keeps (ended_shares u.nodes (Some top) u.shares))
+    (deed_done t did) gone (deed_shares t did)
 altered_shares t now (allowed.Move transfer name) sound known = ended_shares t.nodes transfer.replaced t.shares
 altered_shares t now (allowed.Copy rows replaced) sound known = ended_shares t.nodes replaced t.shares
 altered_shares t now (allowed.Cross rows replaced node) sound known =

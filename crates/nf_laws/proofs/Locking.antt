@@ -18,7 +18,7 @@ use Rattle.nf_words.proofs.Known.{Known}
 use Rattle.nf_words.proofs.Marks.{early, early_pass}
 use Rattle.nf_words.proofs.Spared.{found_apart, holds_turned, least_has, none_least, Spares, step_spares}
 use Rattle.nf_words.proofs.Steps.{other_without}
-use Rattle.nf_words.specs.Prelude.{access_of, allowed_of, answered_by, AreApartHolds, AreSound, asked_by, blocks, Call, call_of, changed, clashes, decision_of, earlier_rules, first_that_holds, IsHeld, IsSound, IsTicketSound, key_in_way, later_rules, least, lesser, limit_by, limit_rule, limited, locked_rule, Pass, places_of, refusal_of, room_rule, Rule, State, ticket_of, Touch, touches, unless_refused, without, quota_rule, exceeded}
+use Rattle.nf_words.specs.Prelude.{access_of, allowed_of, answered_by, AreApartHolds, AreSound, asked_by, blocks, Call, call_of, changed, clashes, decision_of, earlier_rules, first_that_holds, IsHeld, IsSound, IsTicketSound, key_in_way, later_rules, LeadsToRoot, least, lesser, limit_by, limit_rule, limited, locked_rule, node_of_key, Pass, places_of, refusal_of, room_rule, Rule, State, ticket_of, Touch, touches, unless_refused, without, quota_rule, exceeded}
 use Rattle.nf_words.specs.declared.answer.Allowed.{Allowed}
 use Rattle.nf_words.specs.declared.answer.Denial.{Denial}
 use Rattle.nf_words.specs.declared.answer.Denial.TheVariants as denial
@@ -55,11 +55,12 @@ holds_agree s seat other ticket another sound differ one two =
 -- ---- the steps of others
 
 -- what a ticket holds stays as it is by an act that leaves it alone
-held_stays : (t : Tables) (now : ℕ) (act : Allowed) (o : Option Hold) → AreSound t → Known t now act
-    → IfSome o (λ (hold : Hold). IsHeld t hold.key) → IfSome o (λ (hold : Hold). Spares t now hold act)
+held_stays : (t : Tables) (now : ℕ) (act : Allowed) (o : Option Hold) → AreSound t → t.meta.last ≤ now → Known t now act
+    → IfSome o (λ (hold : Hold). IsHeld t hold.key) → IfSome o (λ (hold : Hold). LeadsToRoot t.nodes (node_of_key hold.key))
+    → IfSome o (λ (hold : Hold). Spares t now hold act)
     → IfSome o (λ (hold : Hold). KeyStays t (changed t now act) hold.key)
-held_stays t now act None sound known held spares = tt
-held_stays t now act (Some hold) sound known held spares = act_stays t hold sound held now act known spares
+held_stays t now act None sound later known held present spares = tt
+held_stays t now act (Some hold) sound later known held present spares = act_stays t hold sound held now act later known spares present
 
 nothing_stays : (t : Tables) (o : Option Hold) → IfSome o (λ (hold : Hold). IsHeld t hold.key)
     → IfSome o (λ (hold : Hold). KeyStays t t hold.key)
@@ -71,8 +72,8 @@ others_spare n s e seat ticket sound may differ is =
     entry_has (λ t tickets blob. IfSome ticket.hold (λ (hold : Hold). KeyStays s.tables t hold.key)) s e e.mark
     (nothing_stays s.tables ticket.hold held)
     (λ act decides.
-    held_stays s.tables e.moment act ticket.hold sound.rows
-    (known_change s e.seat e.moment e.event act sound may.asked decides) held (spared act decides))
+    held_stays s.tables e.moment act ticket.hold sound.rows (omega (arith, sound.seen, may.not_before))
+    (known_change s e.seat e.moment e.event act sound may.asked decides) held (ticket_sound s seat ticket sound is).present (spared act decides))
   where
     held : IfSome ticket.hold (λ (hold : Hold). IsHeld s.tables hold.key)
     held = (ticket_sound s seat ticket sound is).held
@@ -140,7 +141,7 @@ one_of tickets differ a b one two same =
 
 module _ (call : Call) where
   abbrev all : List Touch
-  all = touches call.state.tables.nodes (asked_by call) (places_of call)
+  all = touches call.state.tables (asked_by call) (places_of call)
 
   abbrev test : Ticket → Bool
   test ticket = blocks call.state.tables.nodes call.seat all ticket

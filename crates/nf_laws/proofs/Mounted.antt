@@ -16,10 +16,10 @@ use Rattle.nf_base.specs.declared.rows.Place.TheVariants.{Inside, Root, Trash}
 use Rattle.nf_base.specs.declared.rows.ShareRow.{ShareRow}
 use Rattle.nf_defs.proofs.Puts.{all_put, put_rising, put_length}
 use Rattle.nf_defs.specs.Prelude.{by_order, key_cmp, mount_key, node_row, put, Tables, user_row}
-use Rattle.nf_laws.proofs.Others.{kind_still, others_from}
-use Rattle.nf_laws.proofs.Rows.{each_fails, found_is, no_value, node_still, row_is}
+use Rattle.nf_laws.proofs.Others.{items_still, kind_still, others_from, trash_kept}
+use Rattle.nf_laws.proofs.Rows.{each_fails, found_is, kept_row, no_value, node_still, row_is}
 use Rattle.nf_words.proofs.Mounting.{same_key}
-use Rattle.nf_words.specs.Others.{AreMountsApart, IsMountSound, IsShareSound, AreOthersSound}
+use Rattle.nf_words.specs.Others.{AreMountsApart, IsItemSound, IsMountSound, IsShareSound, AreOthersSound}
 use Rattle.nf_words.specs.Prelude.{AreSound, HasRoot, IsNodeSound, IsPlaceSound, IsRemounted, IsNewMount}
 use Rattle.nf_access.specs.Shares.{chain_within}
 use Rattle.nf_base.specs.declared.limits.TheConstants.{MAX_CHAIN, MAX_MOUNTS}
@@ -88,6 +88,9 @@ module _ (t : Tables) (shares : List ShareRow) (mounts : List MountRow) where
     of_node = fine.of_node;
   }
 
+  pub items_beside : All (IsItemSound t) t.items → All (IsItemSound beside) t.items
+  items_beside = items_still t beside (le_refl _) (trash_kept t.nodes t.nodes (kept_row t.nodes))
+
   place_beside : (row : NodeRow) (place : Place) → IsPlaceSound t row place → IsPlaceSound beside row place
   place_beside row Root fine = fine
   place_beside row (Inside folder) fine = fine
@@ -144,7 +147,8 @@ module _ (t : Tables) (row : MountRow) (sound : AreSound t) where
       (all_put mount_key (IsMountSound made) row t.mounts (mount_beside t t.shares (put mount_key row t.mounts) row fine)
       (All-weaker (IsMountSound t) (IsMountSound made) (mount_beside t t.shares (put mount_key row t.mounts)) t.mounts sound.others.mounts))
       (put_rising mount_key row t.mounts sound.others.mounts_rise)
-      (put_apart row t.mounts (new_apart_mount apart) sound.others.mounts_apart) few)
+      (put_apart row t.mounts (new_apart_mount apart) sound.others.mounts_apart) few (items_beside t t.shares (put mount_key row t.mounts) sound.others.items)
+      sound.others.items_rise)
 
   pub mounted_sound : IsRemounted t row ⊎ IsNewMount t row → AreSound (record t { mounts = put mount_key row t.mounts })
   mounted_sound (inl is) =

@@ -5,6 +5,7 @@ use Rattle.std.specs.List.{All}
 use Rattle.std.proofs.lemmas.List.Elements.{All-append, All-push, All-weaker}
 use Rattle.nf_base.specs.declared.rows.NodeRow.{NodeRow}
 use Rattle.nf_defs.specs.Prelude.{filled, node_row, relinked, Tables}
+use Rattle.nf_defs.specs.Tree.{trashed}
 use Rattle.nf_laws.proofs.Climbs.{row_there}
 use Rattle.nf_laws.proofs.Counters.{after_up}
 use Rattle.nf_laws.proofs.Entries.{after_has}
@@ -12,12 +13,15 @@ use Rattle.nf_laws.proofs.Gone.{all_cleared}
 use Rattle.nf_laws.proofs.Lists.{nodes_have}
 use Rattle.nf_laws.proofs.OneRow.{numbers_with}
 use Rattle.nf_laws.proofs.Owned.{copies_new}
+use Rattle.nf_laws.proofs.Purged.{purged_keeps}
 use Rattle.nf_laws.proofs.Stays.{sound_after}
 use Rattle.nf_laws.specs.Numbers.{NumbersAreNew}
 use Rattle.nf_words.proofs.Known.{Known, KnownCopies}
-use Rattle.nf_words.specs.Prelude.{after, altered, AreSound, cleared, IsLegalFrom, IsSound, joined, replay, State}
+use Rattle.nf_words.specs.Prelude.{after, altered, AreSound, cleared, deed_done, IsLegalFrom, IsSound, joined, replay, State}
 use Rattle.nf_words.specs.declared.answer.Allowed.{Allowed}
 use Rattle.nf_words.specs.declared.answer.Allowed.TheVariants as allowed
+use Rattle.nf_words.specs.declared.answer.Deed.{Deed}
+use Rattle.nf_words.specs.declared.answer.Deed.TheVariants as deed
 use Rattle.nf_words.specs.declared.history.Entry.{Entry}
 
 -- the number of a node that was there first, or one that wasn't given then
@@ -35,6 +39,12 @@ numbers_copied first t now rows replaced sound later all known =
     (All-weaker (λ (row : NodeRow). t.meta.next_node ≤ row.id) (λ (row : NodeRow). IsOldOrNew first row.id)
     (λ row new. inr (omega (arith, later, new))) rows (copies_new t now rows replaced sound known))
 
+numbers_done : (first t : Tables) (did : Deed) → AreOldOrNew first t → AreOldOrNew first (deed_done t did)
+numbers_done first t deed.Nothing all = all
+numbers_done first t (deed.Discard item) all = numbers_with (IsOldOrNew first) t.nodes item.node trashed (λ row. refl) all
+numbers_done first t (deed.Restore top folder name) all = numbers_with (IsOldOrNew first) t.nodes top (relinked folder name) (λ row. refl) all
+numbers_done first t (deed.Requote row) all = all
+
 numbers_changed : (first t : Tables) (now : ℕ) (act : Allowed) → AreSound t → first.meta.next_node ≤ t.meta.next_node
     → AreOldOrNew first t → Known t now act → AreOldOrNew first (altered t now act)
 numbers_changed first t now (allowed.Change changes blob report) sound later all known =
@@ -42,8 +52,9 @@ numbers_changed first t now (allowed.Change changes blob report) sound later all
     (λ u row all it any. All-push (λ (row : NodeRow). IsOldOrNew first row.id) u.nodes row all (inr (omega (arith, later, it.fresh))))
     (λ u row all it any. numbers_with (IsOldOrNew first) u.nodes row.id (filled row.content row.changed) (λ r. refl) all)
     (λ u row root all it. All-push (λ (row : NodeRow). IsOldOrNew first row.id) u.nodes root all (inr (omega (arith, later, it.2)))) all
-numbers_changed first t now (allowed.Delete node) sound later all known =
-    all_cleared (λ (row : NodeRow). IsOldOrNew first row.id) t.nodes (Some node) all
+numbers_changed first t now (allowed.Trash did gone report) sound later all known =
+    purged_keeps (AreOldOrNew first) (λ u top all. all_cleared (λ (row : NodeRow). IsOldOrNew first row.id) u.nodes (Some top) all) (deed_done t did) gone
+    (numbers_done first t did all)
 numbers_changed first t now (allowed.Move transfer name) sound later all known =
     numbers_with (IsOldOrNew first) (cleared t.nodes transfer.replaced) transfer.node (relinked transfer.folder name) (λ row. refl)
     (all_cleared (λ (row : NodeRow). IsOldOrNew first row.id) t.nodes transfer.replaced all)

@@ -1,8 +1,9 @@
 -- Rows where that of one node is changed.
-use Rattle.std.proofs.Common.{ℕ, suc, zero, ◌+◌, ◌<◌, ◌==◌, ◌≡◌, ◌⊎◌, ◌≤◌, Bool, true, false, List, [], ◌∷◌, Option, None, Some, filter, option_map, if◌then◌else◌, length, get_or, refl, sym, ap, subst, ◌∙◌, inl, inr, arith}
+use Rattle.std.proofs.Common.{ℕ, suc, zero, ◌+◌, ◌<◌, ◌==◌, ◌≡◌, ◌≢◌, ◌⊎◌, ◌≤◌, Bool, true, false, List, [], ◌∷◌, Option, None, Some, filter, option_map, if◌then◌else◌, length, get_or, refl, sym, ap, subst, ◌∙◌, inl, inr, arith}
 use Rattle.std.specs.List.{All, AllPairs}
 use Rattle.std.specs.Option.{option_map_or}
 use Rattle.std.proofs.lemmas.Bool.{both_ways, cases_Bool, cond_both, eq-eqb, eqb-true, ne_eqb}
+use Rattle.std.proofs.lemmas.List.Elements.{All-cons, All-head, All-tail}
 use Rattle.std.proofs.lemmas.List.Sums.{sum_by-cons}
 use Rattle.nf_base.specs.declared.rows.NodeRow.{NodeRow}
 use Rattle.nf_defs.specs.Tree.{node_row, piece_count, with_node}
@@ -99,6 +100,24 @@ pub with_each : (P Q : NodeRow → Type 0) (rows : List NodeRow) (node : ℕ) (c
 with_each P Q rows node change same changed all k d within =
     let old : Q (get_or rows k d) = all k d (omega (arith, length_with rows node change)) in
     elim (each_either rows node change k d) [ inl e ↦ subst P (sym e) (same _ old) | inr h ↦ subst P (sym h.1) (changed _ h.0 old) ]
+
+-- where rows rise, each row but that of the node is another node's
+pub with_others : (P Q : NodeRow → Type 0) (rows : List NodeRow) (node : ℕ) (change : NodeRow → NodeRow)
+    → AllPairs (λ (a b : NodeRow). a.id < b.id) rows → ((row : NodeRow) → row.id ≢ node → Q row → P row)
+    → ((row : NodeRow) → node_row rows node ≡ Some row → Q row → P (change row)) → All Q rows → All P (with_node rows node change)
+with_others P Q [] node change rising same changed all = λ k d within. absurd (omega (arith, within))
+with_others P Q (row ∷ rows) node change rising same changed all =
+    cond_both (row.id == node) (change row ∷ rows) (row ∷ with_node rows node change) (All P)
+    (λ e.
+    All-cons P (change row) rows (changed row (rw e refl) (All-head Q row rows all))
+    (λ k d within.
+    same (get_or rows k d) (λ is. absurd (omega (arith, rising 0 (suc k) d (omega arith) (omega (arith, within)), is, eqb-true row.id node e)))
+    (All-tail Q row rows all k d within)))
+    (λ e.
+    All-cons P row (with_node rows node change)
+    (same row (λ is. both_ways (row.id == node) e (eq-eqb row.id node is)) (All-head Q row rows all))
+    (with_others P Q rows node change (λ i j d before within. rising (suc i) (suc j) d (omega (arith, before)) (omega (arith, within))) same
+    (λ row is. changed row (rw e is)) (All-tail Q row rows all)))
 
 -- so what a change of a row keeps
 pub with_all : (P : NodeRow → Type 0) (rows : List NodeRow) (node : ℕ) (change : NodeRow → NodeRow)

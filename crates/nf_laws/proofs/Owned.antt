@@ -5,6 +5,7 @@ use Rattle.std.proofs.lemmas.Bool.{cases_Bool, eqb-true}
 use Rattle.std.proofs.lemmas.List.Elements.{All-cons, All-nil}
 use Rattle.nf_base.specs.declared.rows.NodeRow.{NodeRow}
 use Rattle.nf_defs.specs.Prelude.{filled, made, node_row, relinked, Tables, with_node}
+use Rattle.nf_defs.specs.Tree.{trashed}
 use Rattle.nf_laws.proofs.Climbs.{map_some}
 use Rattle.nf_laws.proofs.Copied.{copies_numbered, old_joined}
 use Rattle.nf_laws.proofs.Gone.{kept_cleared}
@@ -12,11 +13,14 @@ use Rattle.nf_laws.proofs.Lists.{changes_have, with_born, with_filled}
 use Rattle.nf_laws.proofs.Mirrored.{mirrored}
 use Rattle.nf_laws.proofs.OneRow.{KeepsId, row_itself, row_other}
 use Rattle.nf_laws.proofs.Peopled.{people_nodes}
+use Rattle.nf_laws.proofs.Purged.{purged_keeps}
 use Rattle.nf_laws.proofs.Rows.{row_joined, stamped_has}
 use Rattle.nf_words.proofs.Known.{Known, KnownCopies}
-use Rattle.nf_words.specs.Prelude.{altered, AreSound, changed, cleared, joined, removed, told, transferred}
+use Rattle.nf_words.specs.Prelude.{altered, AreSound, changed, cleared, deed_done, discarded, joined, purged, removed, restored, told, transferred}
 use Rattle.nf_words.specs.declared.answer.Allowed.{Allowed}
 use Rattle.nf_words.specs.declared.answer.Allowed.TheVariants as allowed
+use Rattle.nf_words.specs.declared.answer.Deed.{Deed}
+use Rattle.nf_words.specs.declared.answer.Deed.TheVariants as deed
 
 -- the row is that of the same owner
 abbrev WasOf : List NodeRow → ℕ → NodeRow → Type 0
@@ -70,6 +74,9 @@ then_owners t made replaced keeps node row given there =
     let h = keeps node row given there in
     let old = cleared_owners t replaced node h.0 given h.1 in (old.0, old.1, h.2 ∙ old.2)
 
+pub all_owners : (t : Tables) → KeepsOwners t t
+all_owners t node row given there = (row, there, refl)
+
 -- ---- copies
 
 -- a copy's number wasn't given before
@@ -85,10 +92,22 @@ copied_owners t now rows replaced sound known node row given there =
     (cleared t.nodes replaced) node given in
     cleared_owners t replaced node row given (sym same ∙ there)
 
--- ---- every act
+-- ---- the trash
 
-pub all_owners : (t : Tables) → KeepsOwners t t
-all_owners t node row given there = (row, there, refl)
+-- what is put in the trash or comes back is its owner's
+deed_owners : (t : Tables) (did : Deed) → KeepsOwners t (deed_done t did)
+deed_owners t deed.Nothing = all_owners t
+deed_owners t (deed.Discard item) =
+    λ node row given. with_owners t (discarded t item) item.node trashed (λ row. refl) (λ row. refl) refl node row
+deed_owners t (deed.Restore top folder name) =
+    λ node row given. with_owners t (restored t top folder name) top (relinked folder name) (λ row. refl) (λ row. refl) refl node row
+deed_owners t (deed.Requote row) = all_owners t
+
+purged_owners : (t u : Tables) (top : ℕ) → KeepsOwners t u → KeepsOwners t (purged u top)
+purged_owners t u top keeps =
+    also_owners t u (purged u top) keeps (λ node row there. (row, (kept_cleared u.nodes (Some top) node row there).1, refl))
+
+-- ---- every act
 
 altered_owners : (t : Tables) (now : ℕ) (act : Allowed) → AreSound t → Known t now act → KeepsOwners t (altered t now act)
 altered_owners t now (allowed.Change changes blob report) sound known =
@@ -97,7 +116,8 @@ altered_owners t now (allowed.Change changes blob report) sound known =
     (λ u change keeps it. also_owners t u (made u change) keeps
     (λ node row there. (row, ap (λ (rows : List NodeRow). node_row rows node) (sym (people_nodes u change it)) ∙ there, refl)))
     (λ u row root keeps it. new_owners t u root keeps it.2) (all_owners t)
-altered_owners t now (allowed.Delete node) sound known = cleared_owners t (Some node)
+altered_owners t now (allowed.Trash did gone report) sound known =
+    purged_keeps (KeepsOwners t) (λ u top keeps. purged_owners t u top keeps) (deed_done t did) gone (deed_owners t did)
 altered_owners t now (allowed.Move transfer name) sound known =
     then_owners t (transferred t transfer name) transfer.replaced
     (λ node row given.

@@ -35,7 +35,8 @@ use Rattle.nf_defs.proofs.Puts.{all_put}
 use Rattle.nf_defs.specs.Prelude.{by_order, child_of, dropped, folder_of, group_key, is_in, is_place_in, key_cmp, made, member_key, node_row, put, Tables, token_key, user_key, user_row}
 use Rattle.nf_laws.proofs.Added.{new_there}
 use Rattle.nf_laws.proofs.Climbs.{some_there}
-use Rattle.nf_laws.proofs.Others.{others_from}
+use Rattle.nf_laws.proofs.Others.{items_still, others_from, trash_kept}
+use Rattle.nf_laws.proofs.Present.{kept_leads}
 use Rattle.nf_laws.proofs.Puts.{number_found, other_number, put_new}
 use Rattle.nf_laws.proofs.Rows.{AreKept, climb_kept, folder_kept, found_is, kept_joined, kept_row, node_still, or_none, root_still, row_joined, top_kept}
 use Rattle.nf_words.proofs.Fits.{with_user}
@@ -97,7 +98,7 @@ module _ (t : Tables) (users : List UserRow) (tokens : List TokenRow) (groups : 
     kind = kind_seen share.kind fine.kind;
     chained = fine.chained;
     parent = fine.parent;
-    present = λ live. ap is_some same ∙ fine.present live;
+    present = λ live. kept_leads t.nodes nodes share.node seen.kept (fine.present live);
     of_node = λ of there. fine.of_node of (sym same ∙ there);
   }
 
@@ -157,7 +158,8 @@ module _ (t : Tables) (users : List UserRow) (tokens : List TokenRow) (groups : 
     others = others_from after sound.later
         (λ k d within. share_seen _ (seen.of_shares k d within) (sound.others.shares k d within)) sound.others.shares_rise sound.others.few_shares
         (λ k d within. mount_seen _ (seen.of_mounts k d within) (sound.others.mounts k d within)) sound.others.mounts_rise
-        sound.others.mounts_apart sound.others.few_mounts;
+        sound.others.mounts_apart sound.others.few_mounts (items_still t after (le_refl _) (trash_kept t.nodes nodes seen.kept) sound.others.items)
+        sound.others.items_rise;
   }
 
 -- where the nodes are as they were

@@ -1,9 +1,9 @@
 -- What is asked about users and groups changes nothing, or makes of the tables what is asked.
-use Rattle.std.proofs.Common.{◌≡◌, ◌⊎◌, inl, inr, ℕ, ◌==◌, ◌||◌, not, Bool, true, false, List, [], ◌∷◌, filter, get_or, map, Ok, Option, if◌then◌else◌, refl, sym, ap, subst, ◌∙◌}
+use Rattle.std.proofs.Common.{◌≡◌, ◌⊎◌, inl, inr, ℕ, ◌==◌, ◌||◌, not, Bool, true, false, List, [], ◌∷◌, filter, get_or, map, Option, if◌then◌else◌, refl, sym, ap, subst, ◌∙◌}
 use Rattle.std.specs.Prelude.{None, Some, is_some}
 use Rattle.std.specs.List.{All, Contains, list_all}
 use Rattle.std.specs.Option.{option_map_or}
-use Rattle.std.proofs.lemmas.Bool.{and_parts, false≢true, or_parts}
+use Rattle.std.proofs.lemmas.Bool.{and_parts, or_parts}
 use Rattle.std.proofs.lemmas.List.Elements.{All-contains_itself, All-filter, All-map, filter_passes}
 use Rattle.nf_access.specs.Mounts.{is_mounted}
 use Rattle.nf_base.specs.declared.changes.Change.{Change}
@@ -18,17 +18,19 @@ use Rattle.nf_defs.specs.People.{is_admin}
 use Rattle.nf_defs.specs.Prelude.{Access, group_named, holder_of, member_key, put, Tables, token_key, user_key, user_named}
 use Rattle.nf_laws.proofs.Given.{all_mounted, ensured_with, mounts_given, mounts_put, of_passing}
 use Rattle.nf_laws.proofs.Puts.{put_new}
-use Rattle.nf_laws.specs.Access.{IsMountJoined, IsProviding, Provides, has_quota, has_token, joins, leaves, makes_group, makes_user}
+use Rattle.nf_laws.proofs.Rows.{stamp, stamped_has}
+use Rattle.nf_laws.proofs.Settling.{gone_of_user, none_settled, some_settled}
+use Rattle.nf_laws.specs.Access.{by_quota, IsMountJoined, IsProviding, IsSettled, Provides, has_quota, has_token, joins, leaves, makes_group, makes_user}
 use Rattle.nf_words.proofs.Begins.{wanted_passes, WantedPasses}
 use Rattle.nf_words.proofs.Ensured.{each_new, each_of}
 use Rattle.nf_words.proofs.Fits.{newest}
-use Rattle.nf_words.proofs.Passing.{call_passes, Passes}
+use Rattle.nf_words.proofs.Passing.{Passes}
 use Rattle.nf_words.proofs.Provided.{none_of}
-use Rattle.nf_words.specs.Prelude.{access_of, allowed_of, AreSound, asked_by, asker_of, Call, call_decision, call_of, changed, given, is_about_people, is_caller, is_joined, is_member, is_taken, joined_by, IsInBounds, IsSound, left_by, may_ask, MayWant, membership, mounts_joined, new_root, new_user, not_you_rule, people_changed, places_of, put_mounts, raised, requoted, row_named, State, users_of}
-use Rattle.nf_words.specs.declared.answer.Allowed.{Allowed}
+use Rattle.nf_words.specs.Prelude.{access_of, altered, AreSound, asked_by, asker_of, Call, call_of, changed, deed_done, given, gone_of, is_about_people, is_caller, is_joined, is_member, is_taken, joined_by, IsInBounds, IsSound, items_of, left_by, may_ask, MayWant, membership, mounts_joined, new_root, new_user, nothing_done, not_you_rule, people_changed, people_done, places_of, put_mounts, raised, requoted, row_named, State, told, users_of}
 use Rattle.nf_words.specs.declared.answer.Allowed.TheVariants as allowed
 use Rattle.nf_words.specs.declared.answer.Breach.{Breach}
 use Rattle.nf_words.specs.declared.answer.Breach.TheVariants as rule
+use Rattle.nf_words.specs.declared.answer.Deed.TheVariants as deed
 use Rattle.nf_words.specs.declared.answer.Denial.{Denial}
 use Rattle.nf_words.specs.declared.answer.Denial.TheVariants as denial
 use Rattle.nf_words.specs.declared.answer.Report.TheVariants as report
@@ -37,7 +39,6 @@ use Rattle.nf_words.specs.declared.history.Event.TheVariants.{Begin}
 use Rattle.nf_words.specs.declared.request.PeopleAsk.{PeopleAsk}
 use Rattle.nf_words.specs.declared.request.PeopleAsk.TheVariants as people
 use Rattle.nf_words.specs.declared.request.Request.{Request}
-use Rattle.nf_words.specs.declared.request.Wanted.{Wanted}
 use Rattle.nf_words.specs.declared.request.Wanted.TheVariants as wanted
 use Rattle.nf_words.specs.declared.request.Words.{Words}
 
@@ -117,15 +118,7 @@ module _ (t : Tables) (now : ℕ) (sound : AreSound t) where
       here : (o : Option MemberRow) → membership t user group ≡ o → ProvidesAtMost (people.DropMember user group) (option_map_or (left_by t) o [])
       here None e = inl refl
       here (Some row) e = left user group row e (is_member t row) refl
-  provides (people.SetQuota user quota) free = here (row_named t user) refl
-    where
-      here : (o : Option UserRow) → row_named t user ≡ o → ProvidesAtMost (people.SetQuota user quota) (option_map_or (requoted quota) o [])
-      here None e = inl refl
-      here (Some row) e = another (row.quota == quota)
-        where
-          another : (b : Bool) → ProvidesAtMost (people.SetQuota user quota) (if b then [] else Put (rows.User (record row { quota = quota })) ∷ [])
-          another true = inl refl
-          another false = inr (has_quota user quota row e refl)
+  provides (people.SetQuota user quota) free = inl refl
   provides (people.AddToken user token) free = here (user_named t.users user) refl
     where
       here : (o : Option ℕ) → user_named t.users user ≡ o
@@ -147,39 +140,91 @@ asks_admin access call none about =
     passed true none = refl
     passed false none = absurd (cc)
 
-pub people_provide : (s : State) (e : Entry) (words : Words) (request : Request) (act : Allowed) → e.event ≡ Begin words request → IsSound s
-    → MayWant request → call_decision (call_of s e.seat e.moment words request) ≡ Ok act → is_about_people request.wanted ≡ true
-    → (changed s.tables e.moment act ≡ s.tables) ⊎ IsProviding s e (changed s.tables e.moment act)
-people_provide s e words request act begins sound may is about = here request.wanted refl about
-  where
-    call : Call
-    call = call_of s e.seat e.moment words request
+-- of what is asked about users and groups: the tables with it done, and what goes then
+pub record Provided (s : State) (e : Entry) (made : Tables) : Type 0 where
+  pub between : Tables
+  pub provides : (between ≡ s.tables) ⊎ IsProviding s e between
+  pub settled : IsSettled s e between made
 
-    passes : Passes (access_of s) call × (allowed_of (access_of s) call ≡ act)
-    passes = call_passes call act is
+module _ (s : State) (e : Entry) (words : Words) (request : Request) (begins : e.event ≡ Begin words request) (sound : IsSound s)
+    (may : MayWant request) (passes : Passes (access_of s) (call_of s e.seat e.moment words request)) where
+  abbrev call : Call
+  call = call_of s e.seat e.moment words request
 
-    untaken : (b : Bool) → ◌≡◌ {A = Option Breach} (if b then Some rule.Taken else None) None → b ≡ false
-    untaken false none = refl
-    untaken true none = absurd (cc)
+  abbrev all : Tables
+  all = s.tables
 
-    here : (wanted : Wanted) → request.wanted ≡ wanted → is_about_people wanted ≡ true
-        → (changed s.tables e.moment act ≡ s.tables) ⊎ IsProviding s e (changed s.tables e.moment act)
-    here (wanted.People asked) want about =
-        let p = subst (WantedPasses call) want (wanted_passes call may passes.0) in
-        let same = ap (given (access_of s) call (places_of call)) (sym want) ∙ passes.1 in
-        subst (λ (a : Allowed). (changed s.tables e.moment a ≡ s.tables) ⊎ IsProviding s e (changed s.tables e.moment a)) same
-        (elim (provides s.tables e.moment sound.rows asked (untaken (is_taken s.tables asked) p.sharing)) [
-          | inl none ↦ inl none
-          | inr provided ↦ inr (record {
-            words = words;
-            request = request;
-            begins = begins;
-            asked = asked;
-            wanted = want;
-            by_admin = asks_admin (access_of s) call passes.0.not_you (ap is_about_people want);
-            modest = subst IsInBounds want may.bounds;
-            few = p.room;
-            provides = provided;
+  abbrev Does : PeopleAsk → Type 0
+  Does asked = request.wanted ≡ wanted.People asked → Provided s e (changed all e.moment (people_done all e.moment asked))
+
+  providing : (asked : PeopleAsk) (made : Tables) → request.wanted ≡ wanted.People asked → Provides all e.moment made asked → IsProviding s e made
+  providing asked made want provides = record {
+    words = words;
+    request = request;
+    begins = begins;
+    asked = asked;
+    wanted = want;
+    by_admin = asks_admin (access_of s) call passes.not_you (ap is_about_people want);
+    modest = subst IsInBounds want may.bounds;
+    few = (subst (WantedPasses call) want (wanted_passes call may passes)).room;
+    provides = provides;
+  }
+
+  same_provided : Provided s e all
+  same_provided = record { between = all; provides = inl refl; settled = none_settled s e all }
+
+  -- rows of users, groups, tokens and members
+  rows_provided : (asked : PeopleAsk) → request.wanted ≡ wanted.People asked
+      → Provided s e (with_changes all e.moment sound.rows (people_changed all e.moment asked))
+  rows_provided asked want =
+      let made = with_changes all e.moment sound.rows (people_changed all e.moment asked) in
+      let p = subst (WantedPasses call) want (wanted_passes call may passes) in
+      record {
+        between = made;
+        provides = elim (provides all e.moment sound.rows asked (untaken (is_taken all asked) p.sharing)) [
+          | inl same ↦ inl same
+          | inr is ↦ inr (providing asked made want is)
+        ];
+        settled = none_settled s e made;
+      }
+    where
+      untaken : (b : Bool) → ◌≡◌ {A = Option Breach} (if b then Some rule.Taken else None) None → b ≡ false
+      untaken false none = refl
+      untaken true none = absurd (cc)
+
+  -- another quota, with which some of the user's trash goes
+  quota_provided : (user : List ℕ) (quota : ℕ) → Does (people.SetQuota user quota)
+  quota_provided user quota want = here (row_named all user) refl
+    where
+      another : (row : UserRow) → row_named all user ≡ Some row → (b : Bool)
+          → Provided s e (changed all e.moment (if b then nothing_done else allowed.Trash (deed.Requote (record row { quota = quota }))
+          (gone_of all e.moment quota (items_of all row.id)) report.Plain))
+      another row named true = same_provided
+      another row named false =
+          let did = deed.Requote (record row { quota = quota }) in
+          let gone = gone_of all e.moment quota (items_of all row.id) in
+          let act = allowed.Trash did gone report.Plain in
+          let made = deed_done all did in
+          stamped_has (Provided s e) all (altered all e.moment act) e.moment (told all act) same_provided
+          (record {
+            between = stamp made e.moment;
+            provides = inr (providing (people.SetQuota user quota) (stamp made e.moment) want (has_quota user quota row named refl));
+            settled = some_settled s e made row.id gone (gone_of_user all sound.rows e.moment quota row.id)
+                (by_quota words request user quota row begins want named);
           })
-        ])
-    here other want about = absurd (false≢true about)
+
+      here : (o : Option UserRow) → row_named all user ≡ o → Provided s e (changed all e.moment (option_map_or (requoted all e.moment quota) o nothing_done))
+      here None named = same_provided
+      here (Some row) named = another row named (row.quota == quota)
+
+  asked_provided : (asked : PeopleAsk) → Does asked
+  asked_provided (people.SetQuota user quota) want = quota_provided user quota want
+  asked_provided (people.NewUser name token quota) want = rows_provided (people.NewUser name token quota) want
+  asked_provided (people.NewGroup name) want = rows_provided (people.NewGroup name) want
+  asked_provided (people.AddMember user group) want = rows_provided (people.AddMember user group) want
+  asked_provided (people.DropMember user group) want = rows_provided (people.DropMember user group) want
+  asked_provided (people.AddToken user token) want = rows_provided (people.AddToken user token) want
+
+  pub people_provide : (asked : PeopleAsk) → request.wanted ≡ wanted.People asked
+      → Provided s e (changed all e.moment (given (access_of s) call (places_of call) (wanted.People asked)))
+  people_provide asked want = asked_provided asked want

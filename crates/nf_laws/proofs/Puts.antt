@@ -20,7 +20,7 @@ use Rattle.nf_defs.proofs.Climbs.{under_climb, walk_among}
 use Rattle.nf_defs.proofs.Puts.{below_one, below_rest, compared, put_last, put_rising, tail_rising}
 use Rattle.nf_defs.specs.Prelude.{by_order, climb, dropped, folder_of, is_under, IsRising, key_cmp, node_key, node_row, parent_of, put, put_all, share_key, Tables, walk_of, with_node, without_under}
 use Rattle.nf_laws.proofs.Climbs.{some_there, those}
-use Rattle.nf_laws.proofs.Others.{others_ended}
+use Rattle.nf_laws.proofs.Others.{ended_rising}
 use Rattle.nf_laws.proofs.Rows.{found_is}
 use Rattle.nf_words.specs.Prelude.{AreSound, cleared, closed_under, dropped_under, ended_for, ended_row, ended_under, gone_for, gone_under, is_closing, removed}
 use Rattle.nf_words.proofs.Found.{put_is_found, put_leaves}
@@ -148,7 +148,7 @@ put_share (x ∷ done) shares row share same rising =
 same_ended : (share : ShareRow) → share.ended ≡ true → ended_row share ≡ share
 same_ended share is = ap (λ (b : Bool). record share { ended = b }) (sym is)
 
-closes : (t : Tables) (nodes : List NodeRow) (top : ℕ) (done shares : List ShareRow) (rest : List Change) → IsRising share_key (done ++ shares)
+pub closes : (t : Tables) (nodes : List NodeRow) (top : ℕ) (done shares : List ShareRow) (rest : List Change) → IsRising share_key (done ++ shares)
     → put_all (record t { shares = done ++ shares }) (closed_under nodes shares top ++ rest)
     ≡ put_all (record t { shares = done ++ ended_under nodes top shares }) rest
 closes t nodes top done [] rest rising = refl
@@ -206,7 +206,7 @@ gone_all t (Some top) rest sound = gone_one t top rest sound.rising sound.others
 -- shares rise as before where some of them are ended
 pub ended_rise : (t : Tables) (replaced : Option ℕ) → AreSound t → IsRising share_key (ended_for t.nodes replaced t.shares)
 ended_rise t None sound = sound.others.shares_rise
-ended_rise t (Some top) sound = (others_ended t (λ node. is_under t.nodes node top) sound).shares_rise
+ended_rise t (Some top) sound = ended_rising t (λ node. is_under t.nodes node top) sound.others.shares_rise
 
 -- ---- rows that differ
 

@@ -1,9 +1,9 @@
 -- No act takes a charge beyond its quota.
-use Rattle.std.proofs.Common.{ℕ, ◌+◌, ◌-◌, ◌==◌, ◌&&◌, ◌≡◌, ◌≤◌, ◌⊎◌, Bool, true, false, List, [], ◌∷◌, ◌++◌, Option, None, Some, Result, Ok, if◌then◌else◌, inl, inr, refl, ap, subst, ◌∙◌, arith, le_refl}
+use Rattle.std.proofs.Common.{ℕ, ◌+◌, ◌==◌, ◌&&◌, ◌≡◌, ◌≤◌, ◌⊎◌, Bool, true, false, List, [], ◌∷◌, ◌++◌, Option, None, Some, Result, Ok, if◌then◌else◌, inl, inr, refl, ap, subst, ◌∙◌, arith, le_refl}
 use Rattle.std.specs.Prelude.{sum_by}
 use Rattle.std.specs.Option.{IfSome, option_map_or}
-use Rattle.std.proofs.lemmas.Bool.{and_cases, cond_both, eqb-true, ltb-false}
-use Rattle.std.proofs.lemmas.List.Sums.{sum_by-append, sum_by-cons, sum_by_push}
+use Rattle.std.proofs.lemmas.Bool.{cond_both, eqb-true}
+use Rattle.std.proofs.lemmas.List.Sums.{sum_by-append, sum_by_push}
 use Rattle.nf_base.specs.Content.{content_eq}
 use Rattle.nf_base.specs.declared.changes.Change.{Change}
 use Rattle.nf_base.specs.declared.changes.Change.TheVariants.{Put}
@@ -11,27 +11,28 @@ use Rattle.nf_base.specs.declared.content.Piece.{Piece}
 use Rattle.nf_base.specs.declared.rows.MetaRow.{MetaRow}
 use Rattle.nf_base.specs.declared.rows.NodeRow.{NodeRow}
 use Rattle.nf_base.specs.declared.rows.Row.TheVariants as rows
-use Rattle.nf_defs.specs.Prelude.{Access, filled, node_row, owner_of, relinked, Tables, with_node}
+use Rattle.nf_defs.specs.Prelude.{Access, filled, node_row, owner_of, relinked, Tables}
 use Rattle.nf_laws.proofs.Affording.{Affords, call_affords}
-use Rattle.nf_laws.proofs.Charging.{alike, charge_owned}
+use Rattle.nf_laws.proofs.Charging.{alike, charge_beside}
 use Rattle.nf_laws.proofs.Entries.{entry_has}
 use Rattle.nf_laws.proofs.Lists.{nodes_have}
-use Rattle.nf_laws.proofs.Rows.{stamped_has}
+use Rattle.nf_laws.proofs.Recharged.{fits, KeepsCharge, sums_with, trash_keeps}
+use Rattle.nf_laws.proofs.Rows.{stamp, stamped_has}
 use Rattle.nf_laws.proofs.Stays.{sound_after}
-use Rattle.nf_laws.proofs.Stored.{Comes, stored_comes}
+use Rattle.nf_laws.proofs.Stored.{Comes, end_other, stored_comes}
+use Rattle.nf_laws.proofs.Trashing.{act_kept, all_kept, IsOther, KeepsTrash, trash_same}
 use Rattle.nf_laws.proofs.Weighing.{cleared_fewer, cleared_owned, copies_owned, row_owned, without_fewer}
-use Rattle.nf_laws.specs.Charges.{bytes_at, bytes_owned, owned_bytes, QuotasAreKept}
+use Rattle.nf_laws.specs.Charges.{bytes_at, bytes_owned, bytes_trashed, owned_bytes, QuotasAreKept}
 use Rattle.nf_words.proofs.Bodies.{IsOfBody}
 use Rattle.nf_words.proofs.Ends.{goal_held, known_change}
 use Rattle.nf_words.proofs.Fits.{KnownChange}
 use Rattle.nf_words.proofs.Known.{Known, KnownCopies}
 use Rattle.nf_words.proofs.Passing.{end_passes, not_refused}
 use Rattle.nf_words.specs.Listing.{size_of}
-use Rattle.nf_words.specs.Prelude.{access_of, after, call_of, decision_of, goal_at, IsHeld, IsSound, IsStorable, node_of_key, MayAsk, State, told, altered, AreSound, blob_for, cleared, content_in, copy_excess, end_refusal, ends_at, ends_goal, excess, excess_at, is_over, joined, place_of, quota_of, refilled, stored_at}
+use Rattle.nf_words.specs.Prelude.{access_of, after, altered, AreSound, blob_for, call_of, charge_of, cleared, content_in, copy_excess, decision_of, end_refusal, ends_at, ends_goal, excess, excess_at, goal_at, IsHeld, IsSound, IsStorable, joined, MayAsk, node_of_key, place_of, quota_of, refilled, State, stored_at, told}
 use Rattle.nf_words.specs.declared.answer.Allowed.{Allowed}
 use Rattle.nf_words.specs.declared.answer.Allowed.TheVariants as allowed
 use Rattle.nf_words.specs.declared.answer.Denial.{Denial}
-use Rattle.nf_words.specs.declared.answer.Excess.{Excess}
 use Rattle.nf_words.specs.declared.answer.Goal.{Goal}
 use Rattle.nf_words.specs.declared.answer.Goal.TheVariants.{Serve, Store}
 use Rattle.nf_words.specs.declared.answer.LockKey.{LockKey}
@@ -44,35 +45,23 @@ use Rattle.nf_words.specs.declared.history.Outcome.{Outcome}
 use Rattle.nf_words.specs.declared.history.Outcome.TheVariants.{Body}
 use Rattle.nf_words.specs.declared.request.Transfer.{Transfer}
 
--- what is the user's is no more than before, or within the quota
+-- what is the user's is no more than before, or within the quota beside what was in the trash
 abbrev Keeps : Tables → ℕ → Tables → Type 0
-Keeps t user made = (bytes_owned made.nodes user ≤ bytes_owned t.nodes user) ⊎ (bytes_owned made.nodes user ≤ quota_of made user)
-
--- where no quota is passed, what comes is no more than what goes, or within the quota with the rest
-fits : (t : Tables) (user old new : ℕ) → AreSound t → excess t user old new ≡ None
-    → (new ≤ old) ⊎ (bytes_owned t.nodes user - old + new ≤ quota_of t user)
-fits t user old new sound none =
-    elim (and_cases _ _ (never (is_over t user old new) _ none)) [
-      | inl fewer ↦ inl (ltb-false old new fewer)
-      | inr within ↦ inr (omega (arith, ltb-false (quota_of t user) _ within, charge_owned t user sound))
-    ]
-  where
-    never : (over : Bool) (excess : Excess) → (if over then Some excess else None) ≡ None → over ≡ false
-    never true excess none = absurd (cc)
-    never false excess none = refl
+Keeps t user made =
+    (bytes_owned made.nodes user ≤ bytes_owned t.nodes user) ⊎ (bytes_owned made.nodes user ≤ bytes_trashed t user + quota_of made user)
 
 -- what comes for one owner in the place of what goes, where that passes no quota
-owner_keeps : (t made : Tables) (user owner old new : ℕ) → AreSound t → quota_of made user ≡ quota_of t user → excess t owner old new ≡ None
+owner_keeps : (t made : Tables) (user owner old new : ℕ) → quota_of made user ≡ quota_of t user → excess t owner old new ≡ None
     → Comes t owner old new made → Keeps t user made
-owner_keeps t made user owner old new sound quota none comes = here (owner == user) refl (comes user)
+owner_keeps t made user owner old new quota none comes = here (owner == user) refl (comes user)
   where
     here : (own : Bool) → (owner == user) ≡ own
         → bytes_owned made.nodes user + (if own then old else 0) ≡ bytes_owned t.nodes user + (if own then new else 0) → Keeps t user made
     here false other sum = inl (omega (arith, sum))
     here true own sum =
-        elim (fits t user old new sound (subst (λ (n : ℕ). excess t n old new ≡ None) (eqb-true owner user own) none)) [
+        elim (fits t user old new (subst (λ (n : ℕ). excess t n old new ≡ None) (eqb-true owner user own) none)) [
           | inl fewer ↦ inl (omega (arith, sum, fewer))
-          | inr within ↦ inr (omega (arith, sum, within, quota))
+          | inr within ↦ inr (omega (arith, sum, within, quota, charge_beside t user))
         ]
 
 -- ---- copies
@@ -82,7 +71,7 @@ copies_keep : (t : Tables) (now user : ℕ) (rows : List NodeRow) (replaced : Op
     → copy_excess t known.transfer ≡ None → Keeps t user (joined t rows replaced)
 copies_keep t now user rows replaced sound known none =
     owner_keeps t (joined t rows replaced) user (owner_of t.nodes transfer.folder) (option_map_or (size_of t.nodes) transfer.replaced 0)
-    (size_of t.nodes transfer.node) sound refl none
+    (size_of t.nodes transfer.node) refl none
     (λ user.
     omega (
       arith,
@@ -101,7 +90,7 @@ copies_keep t now user rows replaced sound known none =
 stored_keeps : (t : Tables) (now user : ℕ) (key : LockKey) (digest : List ℕ) (size : ℕ) → AreSound t → IsHeld t key
     → excess_at t size (place_of key) ≡ None → Keeps t user (altered t now (stored_at t now key digest size))
 stored_keeps t now user key digest size sound held none =
-    owner_keeps t (altered t now (stored_at t now key digest size)) user (owner_of t.nodes (node_of_key key)) (bytes_at t.nodes key) size sound
+    owner_keeps t (altered t now (stored_at t now key digest size)) user (owner_of t.nodes (node_of_key key)) (bytes_at t.nodes key) size
     (same_quota key) (at_owner key none) (stored_comes t now key digest size sound held)
   where
     at_owner : (key : LockKey) → excess_at t size (place_of key) ≡ None → excess t (owner_of t.nodes (node_of_key key)) (bytes_at t.nodes key) size ≡ None
@@ -130,7 +119,7 @@ goal_keeps access t now user (Body digest size) (Serve content) act sound held i
 goal_keeps access t now user (Body digest size) (Store by key wanted) act sound held is =
     let h = not_refused (end_refusal access t now by key size) (stored_at t now key digest size) act is in
     subst (λ (a : Allowed). Keeps t user (altered t now a)) h.1
-    (stored_keeps t now user key digest size sound held (end_passes access t now by key size h.0).quota)
+    (stored_keeps t now user key digest size sound held.0 (end_passes access t now by key size h.0).quota)
 goal_keeps access t now user outcome goal act sound held is = closed_keeps t now user act is
 
 end_keeps : (access : Access) (t : Tables) (now user : ℕ) (outcome : Outcome) (goal : Option Goal) (act : Allowed) → AreSound t
@@ -170,51 +159,66 @@ rows_keep t now user changes blob report sound known none =
 
 -- ---- a Begin
 
--- a row that is changed, but not in its bytes
-same_owned : (all : List NodeRow) (node user : ℕ) (change : NodeRow → NodeRow) → ((row : NodeRow) → owned_bytes user (change row) ≡ owned_bytes user row)
-    → bytes_owned (with_node all node change) user ≡ bytes_owned all user
-same_owned [] node user change same = refl
-same_owned (row ∷ all) node user change same =
-    cond_both (row.id == node) (change row ∷ all) (row ∷ with_node all node change) (λ made. bytes_owned made user ≡ bytes_owned (row ∷ all) user)
-    (λ e. omega (arith, same row, sum_by-cons (owned_bytes user) (change row) all, sum_by-cons (owned_bytes user) row all))
-    (λ e.
-    let rest = same_owned all node user change same in
-    omega (arith, rest, sum_by-cons (owned_bytes user) row (with_node all node change), sum_by-cons (owned_bytes user) row all))
-
-begin_keeps : (t : Tables) (now user : ℕ) (act : Allowed) → AreSound t → Known t now act → Affords t now act → Keeps t user (altered t now act)
-begin_keeps t now user (allowed.Change changes blob report) sound known affords = rows_keep t now user changes blob report sound known affords
-begin_keeps t now user (allowed.Delete node) sound known affords = inl (without_fewer t.nodes node user)
-begin_keeps t now user (allowed.Move transfer name) sound known affords =
+begin_keeps : (t : Tables) (now user : ℕ) (act : Allowed) → AreSound t → Known t now act → Affords t now act → IsOther act
+    → Keeps t user (altered t now act)
+begin_keeps t now user (allowed.Change changes blob report) sound known affords other = rows_keep t now user changes blob report sound known affords
+begin_keeps t now user (allowed.Trash did gone report) sound known affords other = absurd other
+begin_keeps t now user (allowed.Move transfer name) sound known affords other =
     inl (omega (
       arith,
-      same_owned (cleared t.nodes transfer.replaced) transfer.node user (relinked transfer.folder name) (λ row. refl),
+      sums_with (owned_bytes user) (cleared t.nodes transfer.replaced) transfer.node (relinked transfer.folder name) (λ row. refl),
       cleared_fewer t.nodes transfer.replaced user,
     ))
-begin_keeps t now user (allowed.Copy copies replaced) sound known affords = copies_keep t now user copies replaced sound affords.known affords.within
-begin_keeps t now user (allowed.Cross copies replaced node) sound known affords =
+begin_keeps t now user (allowed.Copy copies replaced) sound known affords other = copies_keep t now user copies replaced sound affords.known affords.within
+begin_keeps t now user (allowed.Cross copies replaced node) sound known affords other =
     let fewer = without_fewer (joined t copies replaced).nodes node user in
     elim (copies_keep t now user copies replaced sound affords.known affords.within) [
       | inl no_more ↦ inl (omega (arith, fewer, no_more))
       | inr within ↦ inr (omega (arith, fewer, within))
     ]
-begin_keeps t now user allowed.Close sound known affords = inl (le_refl _)
-begin_keeps t now user act sound known affords = inl (le_refl _)
+begin_keeps t now user allowed.Close sound known affords other = inl (le_refl _)
+begin_keeps t now user act sound known affords other = inl (le_refl _)
 
 -- ---- the law
 
-act_keeps : (s : State) (seat now user : ℕ) (event : Event) (act : Allowed) → IsSound s → MayAsk s seat event → decision_of s seat now event ≡ Ok act
-    → Keeps s.tables user (altered s.tables now act)
-act_keeps s seat now user (Begin words request) act sound asked is =
-    begin_keeps s.tables now user act sound.rows (known_change s seat now (Begin words request) act sound asked is)
+-- what is the user's is kept with what is in the trash, or the charge is
+abbrev AllKept : Tables → ℕ → Tables → Type 0
+AllKept t user made = (Keeps t user made × KeepsTrash t made.nodes) ⊎ KeepsCharge t user made
+
+asked_keeps : (t : Tables) (now user : ℕ) (act : Allowed) → AreSound t → t.meta.last ≤ now → Known t now act → Affords t now act
+    → AllKept t user (stamp (altered t now act) now)
+unfolding charge_of
+asked_keeps t now user (allowed.Trash did gone report) sound later known affords = inr (trash_keeps t now user did gone sound known.known affords)
+asked_keeps t now user act sound later known affords =
+    inl (begin_keeps t now user act sound known affords tt, act_kept t now act sound later known tt)
+
+act_keeps : (s : State) (seat now user : ℕ) (event : Event) (act : Allowed) → IsSound s → s.tables.meta.last ≤ now → MayAsk s seat event
+    → decision_of s seat now event ≡ Ok act → AllKept s.tables user (stamp (altered s.tables now act) now)
+act_keeps s seat now user (Begin words request) act sound later asked is =
+    asked_keeps s.tables now user act sound.rows later (known_change s seat now (Begin words request) act sound asked is)
     (call_affords (call_of s seat now words request) act sound asked.1 is)
-act_keeps s seat now user (End outcome) act sound asked is = end_keeps (access_of s) s.tables now user outcome (goal_at s seat) act sound.rows (goal_held s seat sound) is
+act_keeps s seat now user (End outcome) act sound later asked is =
+    let known = known_change s seat now (End outcome) act sound asked is in
+    let held = goal_held s seat sound in
+    inl (
+      end_keeps (access_of s) s.tables now user outcome (goal_at s seat) act sound.rows held is,
+      act_kept s.tables now act sound.rows later known (end_other (access_of s) s.tables now outcome (goal_at s seat) act is),
+    )
 
 pub quotas_kept : QuotasAreKept
 quotas_kept n s e user sound may =
-    let same : Keeps s.tables user s.tables = inl (le_refl _) in
-    let kept = entry_has (λ t tickets blob. Keeps s.tables user t) s e e.mark same (λ act is.
-    stamped_has (Keeps s.tables user) s.tables (altered s.tables e.moment act) e.moment (told s.tables act) same
-    (act_keeps s e.seat e.moment user e.event act sound may.asked is)) in
-    let before = charge_owned s.tables user sound.rows in
-    let later = charge_owned (after s e).tables user (sound_after n s e sound may).rows in
-    elim kept [ inl fewer ↦ inl (omega (arith, fewer, before, later)) | inr within ↦ inr (omega (arith, within, later)) ]
+    let same : AllKept s.tables user s.tables = inl (inl (le_refl _), all_kept s.tables sound.rows) in
+    let kept = entry_has (λ t tickets blob. AllKept s.tables user t) s e e.mark same (λ act is.
+    stamped_has (AllKept s.tables user) s.tables (altered s.tables e.moment act) e.moment (told s.tables act) same
+    (act_keeps s e.seat e.moment user e.event act sound (omega (arith, sound.seen, may.not_before)) may.asked is)) in
+    let before = charge_beside s.tables user in
+    let later = charge_beside (after s e).tables user in
+    elim kept [
+      | inl both ↦
+          (let trash = trash_same s.tables (after s e).tables user sound.rows (sound_after n s e sound may).rows both.1 in
+          elim both.0 [
+            | inl fewer ↦ inl (omega (arith, fewer, before, later, trash))
+            | inr within ↦ inr (omega (arith, within, later, trash))
+          ])
+      | inr charge ↦ charge
+    ]

@@ -1,8 +1,8 @@
 -- What who asks is served is what may be read, and what may be read is served: the own, and what a mount leads to.
-use Rattle.std.proofs.Common.{ℕ, ◌≡◌, ◌≢◌, false, subst, true, Bool, List, [], Option, None, Some, Result, Ok, refl, sym, ap, ◌∙◌}
+use Rattle.std.proofs.Common.{ℕ, ◌==◌, ◌≡◌, ◌≢◌, false, filter, not, subst, true, Bool, List, [], ◌∷◌, Option, None, Some, Result, Ok, refl, sym, ap, ◌∙◌}
 use Rattle.std.specs.Prelude.{if◌then◌else◌}
 use Rattle.std.specs.List.{list_any}
-use Rattle.std.specs.Option.{option_map_or}
+use Rattle.std.specs.Option.{option_and_then, option_map_or}
 use Rattle.std.proofs.lemmas.Bool.{both_ways, cond_both}
 use Rattle.std.proofs.lemmas.List.Elements.{All-head}
 use Rattle.nf_access.proofs.Granted.{reach_is_a_chain_lem}
@@ -25,23 +25,28 @@ use Rattle.nf_words.proofs.Passing.{Passes, call_passes, if_none}
 use Rattle.nf_words.proofs.Starts.{has_asker}
 use Rattle.nf_words.proofs.Steps.{ok_reply, put_grants_nothing, reports_nothing}
 use Rattle.nf_words.proofs.Ways.{bounded, way_there}
-use Rattle.nf_words.specs.Prelude.{access_of, allowed_of, answered_by, AreSound, behind, broken_by, by_of, Call, call_decision, call_of, copied, copies_to, crosses, deleted, found, given, last_name, listing_of, made_folder, may_by, MayWant, mount_left, mount_of, mount_renamed, moved, Need, node_at, node_found, nothing_done, offered, people_changed, perms_after, reply_by, reported, root_of, seeker_of, served, share_ended, share_made, share_set, share_shown, share_steered, until_after, share_told, shared, stored, transfer_of, unreached, way_by, way_of}
+use Rattle.nf_words.specs.Prelude.{access_of, allowed_of, answered_by, AreSound, behind, broken_by, by_of, Call, call_decision, call_of, copied, copies_to, crosses, deleted, discard, found, given, gone_of, item_dropped, item_for, item_restored, items_of, last_name, listing_of, made_folder, may_by, MayWant, mount_left, mount_of, mount_renamed, moved, Need, node_at, node_found, nothing_done, offered, own_item, people_done, perms_after, quota_of, reply_by, reported, requoted, root_of, row_named, seeker_of, served, share_ended, share_made, share_set, share_shown, share_steered, until_after, share_told, shared, stored, transfer_of, trash_done, unreached, way_by, way_of}
 use Rattle.nf_words.specs.declared.answer.Allowed.{Allowed}
 use Rattle.nf_words.specs.declared.answer.Allowed.TheVariants as allowed
 use Rattle.nf_words.specs.declared.answer.Report.TheVariants as report
 use Rattle.nf_words.specs.declared.answer.By.{By}
+use Rattle.nf_words.specs.declared.answer.Deed.TheVariants as deed
 use Rattle.nf_words.specs.declared.answer.Denial.{Denial}
 use Rattle.nf_words.specs.declared.answer.Goal.TheVariants.{Serve}
 use Rattle.nf_words.specs.declared.answer.Reply.TheVariants.{Granted, Listing}
 use Rattle.nf_words.specs.declared.answer.Report.{Report}
 use Rattle.nf_words.specs.declared.listing.ListingLine.{ListingLine}
+use Rattle.nf_words.specs.declared.request.PeopleAsk.{PeopleAsk}
+use Rattle.nf_words.specs.declared.request.PeopleAsk.TheVariants as people
 use Rattle.nf_words.specs.declared.request.Places.{Places}
 use Rattle.nf_words.specs.declared.request.ShareAsk.{ShareAsk}
 use Rattle.nf_words.specs.declared.request.ShareAsk.TheVariants as ask
 use Rattle.nf_words.specs.declared.request.Spot.{Spot}
 use Rattle.nf_words.specs.declared.request.Transfer.{Transfer}
+use Rattle.nf_words.specs.declared.request.TrashAsk.{TrashAsk}
+use Rattle.nf_words.specs.declared.request.TrashAsk.TheVariants as trash
 use Rattle.nf_words.specs.declared.request.Wanted.{Wanted}
-use Rattle.nf_words.specs.declared.request.Wanted.TheVariants.{Get, Put, Mkcol, Delete, Move, Copy, People, Share}
+use Rattle.nf_words.specs.declared.request.Wanted.TheVariants.{Get, Put, Mkcol, Delete, Move, Copy, People, Share, Trash}
 
 -- ---- what is shown
 
@@ -55,6 +60,7 @@ report_lists_none report.Made listing = λ is. cc
 report_lists_none report.Done listing = λ is. cc
 report_lists_none (report.Share line) listing = λ is. cc
 report_lists_none (report.Shares lines) listing = λ is. cc
+report_lists_none (report.Items lines) listing = λ is. cc
 report_lists_none report.Plain listing = λ is. cc
 
 -- only a GET is granted a content to send
@@ -62,6 +68,7 @@ pub got : (decision : Result Allowed Denial) (content : List Piece) → answered
     → (node : ℕ) × (decision ≡ Ok (allowed.Get node content))
 got (Ok (allowed.Get node other)) content is = (node, cc)
 got (Ok (allowed.Change changes blob report)) content is = absurd (reports_nothing report (Serve content) (ok_reply _ _ is))
+got (Ok (allowed.Trash did gone report)) content is = absurd (reports_nothing report (Serve content) (ok_reply _ _ is))
 got (Ok (allowed.Move transfer name)) content is = absurd (put_grants_nothing transfer.replaced (Serve content) (ok_reply _ _ is))
 got (Ok (allowed.Copy rows replaced)) content is = absurd (put_grants_nothing replaced (Serve content) (ok_reply _ _ is))
 got (Ok (allowed.Cross rows replaced node)) content is = absurd (put_grants_nothing replaced (Serve content) (ok_reply _ _ is))
@@ -72,6 +79,7 @@ pub got_listing : (decision : Result Allowed Denial) (listing : List ListingLine
     → decision ≡ Ok (allowed.List listing)
 got_listing (Ok (allowed.List other)) listing is = cc
 got_listing (Ok (allowed.Change changes blob report)) listing is = absurd (report_lists_none report listing (ok_reply _ _ is))
+got_listing (Ok (allowed.Trash did gone report)) listing is = absurd (report_lists_none report listing (ok_reply _ _ is))
 got_listing (Ok (allowed.Move transfer name)) listing is = absurd (lists_none transfer.replaced listing (ok_reply _ _ is))
 got_listing (Ok (allowed.Copy rows replaced)) listing is = absurd (lists_none replaced listing (ok_reply _ _ is))
 got_listing (Ok (allowed.Cross rows replaced node)) listing is = absurd (lists_none replaced listing (ok_reply _ _ is))
@@ -96,10 +104,6 @@ folder_hides t now name (Some (At node)) = refl
 folder_hides t now name (Some (Free folder)) = refl
 folder_hides t now name (Some (Missing depth)) = refl
 
-deleted_hides : (o : Option ℕ) → is_shown (deleted o) ≡ false
-deleted_hides None = refl
-deleted_hides (Some node) = refl
-
 either_hides : (b : Bool) (one other : Allowed) → is_shown one ≡ false → is_shown other ≡ false → is_shown (if b then one else other) ≡ false
 either_hides true one other first second = first
 either_hides false one other first second = second
@@ -119,6 +123,15 @@ found_hides : {X : Type 0} (act : X → Allowed) (o : Option X) → ((x : X) →
 found_hides act None all = refl
 found_hides act (Some x) all = all x
 
+-- a DELETE puts what is there in the trash, or it goes for good
+deleted_hides : (t : Tables) (now : ℕ) (o : Option ℕ) → is_shown (deleted t now o) ≡ false
+deleted_hides t now o =
+    found_hides (discard t now) (option_and_then (node_row t.nodes) o) (λ row.
+    let gone = gone_of t now (quota_of t row.owner) (item_for now row ∷ items_of t row.owner) in
+    either_hides (list_any (λ node. node == row.id) gone)
+    (allowed.Trash deed.Nothing (row.id ∷ filter (λ node. not (node == row.id)) gone) report.Done)
+    (allowed.Trash (deed.Discard (item_for now row)) gone report.Done) refl refl)
+
 shared_hides : (call : Call) (places : Places) (asked : ShareAsk) → is_shown (shared (access_of call.state) call places asked) ≡ false
 shared_hides call places (ask.New spot to perms until) =
     found_hides (share_made (access_of call.state) call) (offered call spot to perms until) (λ offer. refl)
@@ -128,6 +141,23 @@ shared_hides call places (ask.Set share perms until) =
     found_hides (λ row. share_set call.state.tables (perms_after call.state.tables perms row) (until_after until row.until) row) (share_steered call share)
     (λ row. refl)
 shared_hides call places (ask.End share) = found_hides share_ended (share_steered call share) (λ row. refl)
+
+people_hides : (t : Tables) (now : ℕ) (asked : PeopleAsk) → is_shown (people_done t now asked) ≡ false
+people_hides t now (people.SetQuota user quota) =
+    found_hides (requoted t now quota) (row_named t user) (λ row.
+    either_hides (row.quota == quota) nothing_done
+    (allowed.Trash (deed.Requote (record row { quota = quota })) (gone_of t now quota (items_of t row.id)) report.Plain) refl refl)
+people_hides t now (people.NewUser name token quota) = refl
+people_hides t now (people.NewGroup name) = refl
+people_hides t now (people.AddMember user group) = refl
+people_hides t now (people.DropMember user group) = refl
+people_hides t now (people.AddToken user token) = refl
+
+trash_hides : (call : Call) (asked : TrashAsk) → is_shown (trash_done call asked) ≡ false
+trash_hides call (trash.List user) = refl
+trash_hides call (trash.Drop user item) = found_hides (item_dropped call.state.tables call.now) (own_item call item) (λ row. refl)
+trash_hides call (trash.Empty user) = refl
+trash_hides call (trash.Restore user item) = found_hides (item_restored call.state.tables call.now) (own_item call item) (λ row. refl)
 
 -- what is shown is asked for by a GET, whose place leads there
 pub asked : (call : Call) (act : Allowed) → allowed_of (access_of call.state) call ≡ act → is_shown act ≡ true
@@ -153,8 +183,8 @@ asked call act is shown = here call.request.wanted refl is
     here (Delete spot) e is =
         let way = way_of call spot in
         let node = node_at (places_at call (Delete spot)).source in
-        absurd (none (if way.itself then mount_left call way else deleted node)
-        (either_hides way.itself (mount_left call way) (deleted node) refl (deleted_hides node)) is)
+        absurd (none (if way.itself then mount_left call way else deleted t call.now node)
+        (either_hides way.itself (mount_left call way) (deleted t call.now node) refl (deleted_hides t call.now node)) is)
     here (Move source target overwrite) e is =
         let way = way_of call source in
         let name = last_name target in
@@ -168,7 +198,8 @@ asked call act is shown = here call.request.wanted refl is
     here (Share ask) e is =
         absurd (none (shared (access_of call.state) call (places_at call (Share ask)) ask)
         (shared_hides call (places_at call (Share ask)) ask) is)
-    here (People ask) e is = absurd (none (allowed.Change (people_changed t call.now ask) None report.Plain) refl is)
+    here (People ask) e is = absurd (none (people_done t call.now ask) (people_hides t call.now ask) is)
+    here (Trash ask) e is = absurd (none (trash_done call ask) (trash_hides call ask) is)
 
 -- a GET gives that of the node at its place
 pub get_at : (call : Call) (mount : Option ℕ) (place : Found) (node : ℕ) (content : List Piece)

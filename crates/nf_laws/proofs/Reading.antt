@@ -194,7 +194,7 @@ entry_file n s e root path content is =
     ap (λ (m : Mark). (after_mark s e m).tables) is.answered
     ∙ step_changed s e.seat e.moment e.event act (goes ∙ none) in
     let there = subst (λ (o : Option Goal). IfSome o (IsStorable t)) is.granted (goal_held s e.seat is.sound) in
-    let file = stored_file t e.moment is.key is.digest is.size root path is.sound.rows there is.led in
+    let file = stored_file t e.moment is.key is.digest is.size root path is.sound.rows there.0 is.led in
     subst (λ (c : List Piece). HasFile (after s e).tables.nodes root path c (stored_node t is.key)) (sym is.body)
     (subst (λ (u : Tables). HasFile u.nodes root path (content_in (blob_for t.meta.next_blob is.size) is.digest is.size) (stored_node t is.key))
     (sym becomes) file)

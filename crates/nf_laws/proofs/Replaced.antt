@@ -7,7 +7,8 @@ use Rattle.nf_base.specs.declared.content.Piece.{Piece}
 use Rattle.nf_base.specs.declared.rows.NodeRow.{NodeRow}
 use Rattle.nf_defs.specs.Prelude.{filled, is_folder_kind, node_row, Tables, with_node}
 use Rattle.nf_laws.proofs.OneRow.{IsEither, each_either, length_with, pieces_with, rising_with, row_with, same_either, with_each}
-use Rattle.nf_laws.proofs.Others.{others_still, still_with}
+use Rattle.nf_laws.proofs.Others.{items_still, others_seen, seen_with, trash_kept}
+use Rattle.nf_laws.proofs.Present.{kept_leads}
 use Rattle.nf_laws.proofs.Rows.{AreKept, Kept, kept_row, node_kept, none_higher, pieces_kept, root_kept}
 use Rattle.nf_words.specs.Prelude.{AreSound, HasRoot, IsFilled, IsNodeSound}
 
@@ -66,6 +67,7 @@ pub filled_sound : (t : Tables) (row : NodeRow) → AreSound t → IsFilled t ro
 filled_sound t row sound is =
     let made = refilled_at t row in
     let change = filled row.content row.changed in
+    let kept = kept_replaced t.nodes row.changed row.id row.content in
     let counts = length_with t.nodes row.id change in
     let either : (k : ℕ) (d : NodeRow) → IsEither t.nodes row.id change (get_or t.nodes k d) (get_or made.nodes k d) =
     each_either t.nodes row.id change in
@@ -80,8 +82,7 @@ filled_sound t row sound is =
           (λ old. brought_sound t row old is) sound.nodes;
       names = λ i j d before within folder first second same. sound.names i j d before (omega (arith, counts)) folder
           (sym (place i d) ∙ first) (sym (place j d) ∙ second) (sym (name i d) ∙ same ∙ name j d);
-      roots = All-weaker (HasRoot t) (HasRoot made) (root_kept t t.meta made.nodes (kept_replaced t.nodes row.changed row.id row.content)) t.users
-          sound.roots;
+      roots = All-weaker (HasRoot t) (HasRoot made) (root_kept t t.meta made.nodes kept) t.users sound.roots;
       users_given = sound.users_given;
       members_there = sound.members_there;
       groups_given = sound.groups_given;
@@ -100,12 +101,13 @@ filled_sound t row sound is =
             )
       ];
       later = sound.later;
-      others = others_still t t.meta made.nodes sound (none_higher t.meta t.meta.last) (le_refl _)
-          (still_with t row.id change sound (record {
+      others = others_seen t t.meta made.nodes t.items sound (none_higher t.meta t.meta.last) (le_refl _)
+          (seen_with t row.id change sound (record {
             id = λ row. refl;
             owner = λ row. refl;
             kind = λ row. refl;
             root = λ row there. refl;
             off = λ row there off. off;
-          }));
+          }) (λ n. kept_leads t.nodes made.nodes n kept))
+          (items_still t made (le_refl _) (trash_kept t.nodes made.nodes kept) sound.others.items) sound.others.items_rise;
     }

@@ -14,7 +14,7 @@ use Rattle.nf_defs.proofs.Puts.{all_put, put_length, put_rising}
 use Rattle.nf_defs.specs.Prelude.{node_row, put, share_key, Tables, user_row}
 use Rattle.nf_laws.proofs.Chained.{AreLinked, still_chained, under_some}
 use Rattle.nf_laws.proofs.Climbs.{some_there}
-use Rattle.nf_laws.proofs.Mounted.{beside, beside_sound, mount_beside, share_beside}
+use Rattle.nf_laws.proofs.Mounted.{beside, beside_sound, items_beside, mount_beside, share_beside}
 use Rattle.nf_laws.proofs.Others.{kind_still, others_from}
 use Rattle.nf_laws.proofs.Puts.{other_number}
 use Rattle.nf_words.proofs.Found.{put_length_over}
@@ -65,7 +65,8 @@ module _ (t : Tables) (row : ShareRow) where
       sound.others.shares))
       (put_rising share_key row t.shares sound.others.shares_rise) few
       (All-weaker (IsMountSound t) (IsMountSound made) (mount_beside t others t.mounts) t.mounts sound.others.mounts)
-      sound.others.mounts_rise sound.others.mounts_apart sound.others.few_mounts)
+      sound.others.mounts_rise sound.others.mounts_apart sound.others.few_mounts (items_beside t others t.mounts sound.others.items)
+      sound.others.items_rise)
 
   -- ---- a new share
 
@@ -118,7 +119,7 @@ module _ (t : Tables) (row : ShareRow) where
           kind = kind_still t made refl refl row.kind is.kind;
           chained = ap is_some (within_is MAX_CHAIN (MAX_CHAIN - 1) others row row.id refl (share_found row t.shares)) ∙ up_some row.parent is.on;
           parent = parent_lower row.parent is.on;
-          present = λ live. ap is_some is.there;
+          present = λ live. is.present;
           of_node = λ of there. subst (IsOfNode row) (same_Some is.node of (sym is.there ∙ there)) is.of_node;
         })
         (omega (arith, put_length share_key row t.shares, is.few))

@@ -11,15 +11,15 @@ use Rattle.nf_defs.specs.declared.Seeker.TheVariants as seeker
 use Rattle.nf_laws.proofs.Copied.{copied_sound, crossed_sound}
 use Rattle.nf_laws.proofs.Counters.{changed_up}
 use Rattle.nf_laws.proofs.Entries.{entry_has, tickets_left, tickets_with}
-use Rattle.nf_laws.proofs.Gone.{left_sound}
-use Rattle.nf_laws.proofs.Held.{act_stays, held_on}
+use Rattle.nf_laws.proofs.Held.{act_leads, act_stays, held_on}
 use Rattle.nf_laws.proofs.Links.{KeepsShares, link_stays, shares_kept}
 use Rattle.nf_laws.proofs.Lists.{changes_sound}
 use Rattle.nf_laws.proofs.Moved.{transferred_sound}
 use Rattle.nf_laws.proofs.Owned.{KeepsOwners, owners_kept}
 use Rattle.nf_laws.proofs.Others.{stamp_sound}
 use Rattle.nf_laws.proofs.Rows.{content_has, pieces_kept, stamp, stamped_has}
-use Rattle.nf_words.specs.Prelude.{after, after_mark, altered, AreApartHolds, AreSound, changed, goal_of, hold_of, HoldsFor, IsGoalSound, IsHeld, IsLegalFrom, IsPieceSound, IsSound, IsTicketSound, MayCome, node_of_key, removed, replay, State, ticket_for, told, transferred, with_goal, without}
+use Rattle.nf_laws.proofs.Trashed.{trash_sound}
+use Rattle.nf_words.specs.Prelude.{after, after_mark, altered, AreApartHolds, AreSound, changed, goal_of, hold_of, HoldsFor, IsGoalSound, IsHeld, IsLegalFrom, IsPieceSound, IsSound, IsTicketSound, LeadsToRoot, MayCome, node_of_key, replay, State, ticket_for, told, transferred, with_goal, without}
 use Rattle.nf_words.specs.Sound.{MayStoreBy}
 use Rattle.nf_words.specs.declared.answer.Allowed.{Allowed}
 use Rattle.nf_words.specs.declared.answer.Allowed.TheVariants as allowed
@@ -43,7 +43,7 @@ use Rattle.nf_words.proofs.Steps.{differ_replay}
 altered_sound : (t : Tables) (now : ℕ) (act : Allowed) → AreSound t → t.meta.last ≤ now → Known t now act
     → AreSound (stamp (altered t now act) now)
 altered_sound t now (allowed.Change changes blob report) sound before known = changes_sound t now changes blob report sound before known
-altered_sound t now (allowed.Delete node) sound before known = stamp_sound (removed t node) now (left_sound t node sound known.no_root) before
+altered_sound t now (allowed.Trash did gone report) sound before known = trash_sound t now did gone sound before known
 altered_sound t now (allowed.Move transfer name) sound before known =
     stamp_sound (transferred t transfer name) now (transferred_sound t transfer name sound known) before
 altered_sound t now (allowed.Copy rows replaced) sound before known = copied_sound t now rows replaced sound before known
@@ -92,6 +92,13 @@ granted_held t now (allowed.Get node content) sound known = file_there t node kn
 granted_held t now (allowed.Put by key length) sound known = known.held
 granted_held t now act sound known = tt
 
+-- and present
+granted_present : (t : Tables) (now : ℕ) (act : Allowed) → Known t now act
+    → IfSome (hold_of act) (λ (hold : Hold). LeadsToRoot (changed t now act).nodes (node_of_key hold.key))
+granted_present t now (allowed.Get node content) known = known.present
+granted_present t now (allowed.Put by key length) known = known.present
+granted_present t now act known = tt
+
 both_some : {X : Type 0} (P Q : X → Type 0) (o : Option X) → IfSome o P → IfSome o Q → IfSome o (λ (x : X). P x × Q x)
 both_some P Q None p q = tt
 both_some P Q (Some x) p q = (p, q)
@@ -99,22 +106,30 @@ both_some P Q (Some x) p q = (p, q)
 granted_ticket : (t : Tables) (now seat : ℕ) (act : Allowed) → AreSound t → Known t now act
     → IfSome (goal_of act) (λ (goal : Goal). IsTicketSound (changed t now act) (ticket_for seat goal (hold_of act)))
 granted_ticket t now seat act sound known =
-    here (goal_of act) (granted_held t now act sound known) (both_some (IsGoalSound (changed t now act)) (λ (goal : Goal). HoldsFor goal (hold_of act)) (goal_of act)
+    here (goal_of act) (granted_held t now act sound known) (granted_present t now act known) (both_some (IsGoalSound (changed t now act)) (λ (goal : Goal). HoldsFor goal (hold_of act)) (goal_of act)
     (granted_sound t now act sound known) (granted_holds act))
   where
     here : (o : Option Goal) → IfSome (hold_of act) (λ (hold : Hold). IsHeld (changed t now act) hold.key)
+        → IfSome (hold_of act) (λ (hold : Hold). LeadsToRoot (changed t now act).nodes (node_of_key hold.key))
         → IfSome o (λ (goal : Goal). IsGoalSound (changed t now act) goal × HoldsFor goal (hold_of act))
         → IfSome o (λ (goal : Goal). IsTicketSound (changed t now act) (ticket_for seat goal (hold_of act)))
-    here None held both = tt
-    here (Some goal) held both = record { goal = both.0; hold = both.1; held = held }
+    here None held present both = tt
+    here (Some goal) held present both = record { goal = both.0; hold = both.1; held = held; present = present }
 
 -- what stays held by a ticket that a step leaves alone
-spared_held : (t : Tables) (now : ℕ) (act : Allowed) (o : Option Hold) → AreSound t → Known t now act
-    → IfSome o (λ (hold : Hold). IsHeld t hold.key) → IfSome o (λ (hold : Hold). Spares t now hold act)
-    → IfSome o (λ (hold : Hold). IsHeld (changed t now act) hold.key)
-spared_held t now act None sound known held spares = tt
-spared_held t now act (Some hold) sound known held spares =
-    held_on t (changed t now act) hold.key (act_stays t hold sound held now act known spares) held
+spared_held : (t : Tables) (now : ℕ) (act : Allowed) (o : Option Hold) → AreSound t → t.meta.last ≤ now → Known t now act
+    → IfSome o (λ (hold : Hold). IsHeld t hold.key) → IfSome o (λ (hold : Hold). LeadsToRoot t.nodes (node_of_key hold.key))
+    → IfSome o (λ (hold : Hold). Spares t now hold act) → IfSome o (λ (hold : Hold). IsHeld (changed t now act) hold.key)
+spared_held t now act None sound later known held present spares = tt
+spared_held t now act (Some hold) sound later known held present spares =
+    held_on t (changed t now act) hold.key (act_stays t hold sound held now act later known spares present) held
+
+-- and present
+spared_present : (t : Tables) (now : ℕ) (act : Allowed) (o : Option Hold) → AreSound t → t.meta.last ≤ now → Known t now act
+    → IfSome o (λ (hold : Hold). IsHeld t hold.key) → IfSome o (λ (hold : Hold). LeadsToRoot t.nodes (node_of_key hold.key))
+    → IfSome o (λ (hold : Hold). Spares t now hold act) → IfSome o (λ (hold : Hold). LeadsToRoot (changed t now act).nodes (node_of_key hold.key))
+spared_present t now act None sound later known held present spares = tt
+spared_present t now act (Some hold) sound later known held present spares = act_leads t hold sound held now act later known spares present
 
 -- the new hold agrees with each that its step leaves alone
 granted_apart : (t : Tables) (now : ℕ) (act : Allowed) (o : Option Hold) → IfSome o (λ (hold : Hold). Spares t now hold act)
@@ -154,7 +169,8 @@ act_holds t tickets seat now act known h spares =
     record {
       goal = goal_stays t made (get_or tickets k d).goal up.nodes up.blobs (owners_kept t now act h.0 known) (shares_kept t now act h.0 known) is.goal;
       hold = is.hold;
-      held = spared_held t now act (get_or tickets k d).hold h.0 known is.held (spares k d within);
+      held = spared_held t now act (get_or tickets k d).hold h.0 h.1 known is.held is.present (spares k d within);
+      present = spared_present t now act (get_or tickets k d).hold h.0 h.1 known is.held is.present (spares k d within);
     } in (
       stamped_has AreSound t (altered t now act) now (told t act) h.0 (altered_sound t now act h.0 h.1 known),
       stamped_has (λ (u : Tables). u.meta.last ≤ now) t (altered t now act) now (told t act) h.1 (le_refl _),

@@ -12,29 +12,32 @@ use Rattle.nf_base.specs.declared.rows.NodeKind.TheVariants.{File}
 use Rattle.nf_base.specs.declared.rows.NodeRow.{NodeRow}
 use Rattle.nf_base.specs.declared.rows.Row.TheVariants as rows
 use Rattle.nf_defs.proofs.Climbs.{holds_some}
-use Rattle.nf_defs.specs.Prelude.{filled, is_folder_kind, node_row, owner_of, Tables}
-use Rattle.nf_laws.proofs.Charging.{alike, charge_owned}
+use Rattle.nf_defs.specs.Prelude.{Access, filled, is_folder_kind, node_row, owner_of, Tables}
+use Rattle.nf_laws.proofs.Charging.{alike, charge_beside}
 use Rattle.nf_laws.proofs.Entries.{step_changed}
 use Rattle.nf_laws.proofs.Puts.{put_changed, put_new}
 use Rattle.nf_laws.proofs.Reading.{none_refused}
 use Rattle.nf_laws.proofs.Sizes.{weight}
-use Rattle.nf_laws.proofs.Stays.{sound_after}
+use Rattle.nf_laws.proofs.Trashing.{IsOther, trash_after}
 use Rattle.nf_laws.proofs.Weighing.{row_owned}
-use Rattle.nf_laws.specs.Charges.{bytes_at, bytes_owned, IsCharged, owned_bytes, WritesAreCharged}
+use Rattle.nf_laws.specs.Charges.{bytes_at, bytes_owned, bytes_trashed, IsCharged, owned_bytes, WritesAreCharged}
 use Rattle.nf_words.proofs.Bodies.{content_decides}
 use Rattle.nf_words.proofs.Ends.{goal_held}
 use Rattle.nf_words.proofs.Fits.{newest}
-use Rattle.nf_words.specs.Prelude.{access_of, after, after_mark, altered, answer_at, answered_by, AreSound, blob_for, changed, content_in, decision_of, end_refusal, ends_at, IsHeld, IsStorable, new_node, node_of_key, refilled, stored_at, stores}
+use Rattle.nf_words.proofs.Passing.{not_refused}
+use Rattle.nf_words.specs.Prelude.{access_of, after, after_mark, altered, answer_at, answered_by, AreSound, blob_for, changed, content_in, decision_of, end_refusal, ends_at, ends_goal, goal_at, IsHeld, IsStorable, new_node, node_of_key, refilled, stored_at, stores}
 use Rattle.nf_words.specs.declared.answer.Allowed.{Allowed}
 use Rattle.nf_words.specs.declared.answer.Allowed.TheVariants as allowed
 use Rattle.nf_words.specs.declared.answer.Denial.{Denial}
 use Rattle.nf_words.specs.declared.answer.Goal.{Goal}
+use Rattle.nf_words.specs.declared.answer.Goal.TheVariants.{Serve, Store}
 use Rattle.nf_words.specs.declared.answer.LockKey.{LockKey}
 use Rattle.nf_words.specs.declared.answer.LockKey.TheVariants.{Node, Slot}
 use Rattle.nf_words.specs.declared.answer.Report.{Report}
 use Rattle.nf_words.specs.declared.answer.Report.TheVariants.{Done, Made}
 use Rattle.nf_words.specs.declared.history.Mark.{Mark}
 use Rattle.nf_words.specs.declared.history.Mark.TheVariants as mark
+use Rattle.nf_words.specs.declared.history.Outcome.{Outcome}
 use Rattle.nf_words.specs.declared.history.Outcome.TheVariants.{Body}
 
 -- some bytes of an owner's come in the place of others, and no other user has more or less
@@ -100,6 +103,27 @@ stored_comes t now (Slot folder name) digest size sound held =
     let blob = blob_for t.meta.next_blob size in
     born_comes t now folder size name (content_in blob digest size) blob sound (body_weighs t.meta.next_blob size digest)
 
+-- ---- what an End does is no act of the trash
+
+stores_other : (t : Tables) (now : ℕ) (key : LockKey) (digest : List ℕ) (size : ℕ) → IsOther (stored_at t now key digest size)
+stores_other t now (Node node) digest size = tt
+stores_other t now (Slot folder name) digest size = tt
+
+closed_other : (act : Allowed) → ◌≡◌ {A = Result Allowed Denial} (Ok allowed.Close) (Ok act) → IsOther act
+closed_other act is = let same : allowed.Close ≡ act = cc in subst IsOther same tt
+
+goal_other : (access : Access) (t : Tables) (now : ℕ) (outcome : Outcome) (goal : Goal) (act : Allowed) → ends_goal access t now outcome goal ≡ Ok act
+    → IsOther act
+goal_other access t now (Body digest size) (Serve content) act is = closed_other act is
+goal_other access t now (Body digest size) (Store by key wanted) act is =
+    subst IsOther (not_refused (end_refusal access t now by key size) (stored_at t now key digest size) act is).1 (stores_other t now key digest size)
+goal_other access t now outcome goal act is = closed_other act is
+
+pub end_other : (access : Access) (t : Tables) (now : ℕ) (outcome : Outcome) (goal : Option Goal) (act : Allowed) → ends_at access t now outcome goal ≡ Ok act
+    → IsOther act
+end_other access t now outcome None act is = closed_other act is
+end_other access t now outcome (Some goal) act is = goal_other access t now outcome goal act is
+
 -- ---- the law
 
 -- the nodes are others whether or not the moment is stamped
@@ -114,27 +138,30 @@ stored_nodes t now (Node node) digest size =
     let blob = blob_for t.meta.next_blob size in nodes_changed t now (refilled (node_row t.nodes node) now (content_in blob digest size)) blob Done
 stored_nodes t now (Slot folder name) digest size = refl
 
--- what comes is charged
-comes_charged : (t made : Tables) (owner old new : ℕ) → AreSound t → AreSound made → Comes t owner old new made → IsCharged t made owner old new
-comes_charged t made owner old new sound later comes = record {
+-- what comes is charged, where the trash stays as it is
+comes_charged : (t made : Tables) (owner old new : ℕ) → ((user : ℕ) → bytes_trashed made user ≡ bytes_trashed t user) → Comes t owner old new made
+    → IsCharged t made owner old new
+comes_charged t made owner old new trash comes = record {
   owned = omega (
     arith,
     rw (eq-eqb owner owner refl) at (comes owner),
-    charge_owned t owner sound,
-    charge_owned made owner later,
+    charge_beside t owner,
+    charge_beside made owner,
+    trash owner,
   );
   others = λ user other.
       omega (
         arith,
         rw (ne_eqb owner user (λ same. other (sym same))) at (comes user),
-        charge_owned t user sound,
-        charge_owned made user later,
+        charge_beside t user,
+        charge_beside made user,
+        trash user,
       );
 }
 
 pub writes_charged : WritesAreCharged
 writes_charged n s e by key digest size sound may goal event ok =
-    comes_charged t (after s e).tables owner old size sound.rows (sound_after n s e sound may).rows (here e.mark ok)
+    comes_charged t (after s e).tables owner old size (λ user. trash_after n s e user sound may no_trash) (here e.mark ok)
   where
     t : Tables
     t = s.tables
@@ -153,6 +180,10 @@ writes_charged n s e by key digest size sound may goal event ok =
         ap (decision_of s e.seat e.moment) event
         ∙ ap (ends_at (access_of s) t e.moment (Body digest size)) goal
 
+    no_trash : (act : Allowed) → decision_of s e.seat e.moment e.event ≡ Ok act → IsOther act
+    no_trash act is =
+        end_other (access_of s) t e.moment (Body digest size) (goal_at s e.seat) act (sym (ap (decision_of s e.seat e.moment) event) ∙ is)
+
     here : (m : Mark) → IsOk (answer_at s e m) → Comes t owner old size (after_mark s e m).tables
     here mark.Answered ok =
         let none : stores (access_of s) t e.moment by key digest size ≡ Ok act =
@@ -161,6 +192,6 @@ writes_charged n s e by key digest size sound may goal event ok =
         λ user.
         ap (λ (all : List NodeRow). bytes_owned all user + (if owner == user then old else 0))
         (ap (λ (u : Tables). u.nodes) (step_changed s e.seat e.moment e.event act (goes ∙ none)) ∙ sym (stored_nodes t e.moment key digest size))
-        ∙ stored_comes t e.moment key digest size sound.rows held user
+        ∙ stored_comes t e.moment key digest size sound.rows held.0 user
     here mark.Store ok = absurd (cc)
     here mark.Memory ok = absurd (cc)

@@ -1,27 +1,26 @@
 -- Climbs in sound tables: none from a node that is there takes more than `MAX_DEPTH` steps, and a folder is one less deep than what is in it.
 -- So the words about the tree are as the plain ones.
 use Rattle.std.proofs.Common.{ℕ, suc, zero, ◌+◌, ◌≡◌, ◌≢◌, ◌≤◌, true, false, List, Option, None, Some, refl, ap, subst, ◌∙◌, sym, ◌⊎◌, inl, inr, arith, ◌==◌, Bool, [], ◌∷◌, get_or}
-use Rattle.std.specs.Option.{option_and_then, option_map_or}
+use Rattle.std.specs.Option.{option_map_or}
 use Rattle.std.specs.List.{All, list_any}
 use Rattle.std.specs.Prelude.{bytes_eq, is_some, IsSome}
-use Rattle.std.proofs.lemmas.Bool.{both_ways, false_from_ne_true, false≢true}
+use Rattle.std.proofs.lemmas.Bool.{both_ways, false_from_ne_true}
 use Rattle.std.proofs.lemmas.Option.{none-some, option_and_then_some, same_Some}
 use Rattle.std.proofs.lemmas.List.Recursion.{max_bounds}
 use Rattle.std.proofs.lemmas.List.Folds.{list_any_at}
 use Rattle.nf_base.specs.declared.limits.TheConstants.{MAX_DEPTH}
-use Rattle.nf_base.specs.declared.rows.ItemRow.{ItemRow}
 use Rattle.nf_base.specs.declared.rows.NodeRow.{NodeRow}
 use Rattle.nf_base.specs.declared.rows.Place.{Place}
 use Rattle.nf_base.specs.declared.rows.Place.TheVariants.{Inside, Root, Trash}
 use Rattle.nf_base.specs.FreeNames.{is_taken}
 use Rattle.nf_base.specs.declared.rows.UserRow.{UserRow}
 use Rattle.nf_defs.proofs.Climbs.{climb_under, under_climb}
-use Rattle.nf_defs.specs.Prelude.{child_of, climb, depth, folder_of, is_in, is_root, is_root_place, is_under, item_row, node_row, parent_of, Tables, taken_names, user_row}
+use Rattle.nf_defs.specs.Prelude.{child_of, climb, depth, folder_of, is_in, is_under, node_row, parent_of, Tables, taken_names, user_row}
 use Rattle.nf_laws.proofs.Climbs.{climbs_no_further, depth_is, node_row_each, some_there}
 use Rattle.nf_laws.proofs.Paths.{IsOf, climb_own}
 use Rattle.nf_laws.proofs.Rows.{IsRooted, found_is, none_over, parent_there, row_is}
-use Rattle.nf_laws.specs.Tree.{ClimbsByDepth, DepthIsClimbed, IsTrashed, NamesAreTaken, NoRings, NodesArePresent, NothingIsTrashed, Under, UnderIsDerived, inside, itself}
-use Rattle.nf_words.specs.Prelude.{AreSound, deepest, HasNoLater, IsPlaceSound, IsTop, root_of_user}
+use Rattle.nf_laws.specs.Tree.{ClimbsByDepth, DepthIsClimbed, IsTrashed, NamesAreTaken, NoRings, NodesArePresent, Under, UnderIsDerived, inside, itself}
+use Rattle.nf_words.specs.Prelude.{AreSound, deepest, IsPlaceSound, IsTop, root_of_user}
 
 -- ---- climbs
 
@@ -92,23 +91,6 @@ no_rings t node parent sound above =
     false_from_ne_true (is_under t.nodes parent node) (λ under.
     let c = under_climb t.nodes parent node under in
     omega (arith, depth_up t node parent sound above, depth_climb c.0 t parent node sound c.2))
-
--- ---- roots
-
-no_root_place : (place : Place) (parent : ℕ) → folder_of place ≡ Some parent → is_root_place place ≡ false
-no_root_place Root parent is = absurd (none-some parent is)
-no_root_place (Inside folder) parent is = refl
-no_root_place Trash parent is = refl
-
--- what is in a folder is no root
-pub inside_no_root : (rows : List NodeRow) (node parent : ℕ) → parent_of rows node ≡ Some parent → is_root rows node ≡ false
-inside_no_root rows node parent above = here (node_row rows node) refl above
-  where
-    here : (o : Option NodeRow) → node_row rows node ≡ o → option_and_then (λ row. folder_of row.place) o ≡ Some parent
-        → is_root rows node ≡ false
-    here None e is = absurd (none-some parent is)
-    here (Some row) e is =
-        ap (λ (o : Option NodeRow). option_map_or (λ row. is_root_place row.place) o false) e ∙ no_root_place row.place parent is
 
 -- ---- under
 
@@ -197,14 +179,6 @@ nodes_present t sound k d within =
           (c.climbs ∙ ap Some (root.1 ∙ ap (λ (o : Option UserRow). option_map_or (λ user. user.root) o 0) user.1))))
       | inr trash ↦ inr (trashed_by t row there c trash)
     ]
-
--- a top there would have a row of a kind that isn't built
-pub nothing_trashed : NothingIsTrashed
-nothing_trashed t node sound is =
-    none sound.later (subst (IsPlaceSound t is.top) is.place (row_is t is.top.id is.top sound is.there).1.place).1
-  where
-    none : HasNoLater t → is_some (item_row t.items is.top.id) ≡ true → ⊥
-    none (versions, (items, rest)) there = false≢true (sym (ap (λ (rows : List ItemRow). is_some (item_row rows is.top.id)) items) ∙ there)
 
 -- ---- names
 

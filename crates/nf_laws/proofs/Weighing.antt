@@ -1,33 +1,35 @@
 -- What all under a node weighs: the bytes that its owner has less once it is gone, and that the owner of copies of it has more.
-use Rattle.std.proofs.Common.{ℕ, suc, ◌+◌, ◌==◌, ◌≡◌, ◌<◌, ◌≤◌, Bool, true, false, not, List, [], ◌∷◌, Option, None, Some, filter, if◌then◌else◌, get_or, inl, inr, refl, sym, ap, subst, ◌∙◌, arith}
+use Rattle.std.proofs.Common.{ℕ, suc, ◌+◌, ◌==◌, ◌&&◌, ◌≡◌, ◌<◌, ◌≤◌, Bool, true, false, not, List, [], ◌∷◌, Option, None, Some, filter, if◌then◌else◌, get_or, inl, inr, refl, sym, ap, subst, ◌∙◌, arith}
 use Rattle.std.specs.Prelude.{sum_by}
 use Rattle.std.specs.List.{All, list_any}
 use Rattle.std.specs.Option.{option_map_or}
 use Rattle.std.specs.Cmp.{both_ways}
-use Rattle.std.proofs.lemmas.Bool.{cases_Bool, cond_both, eq-eqb, eqb-true, false≢true, ne_eqb}
+use Rattle.std.proofs.lemmas.Bool.{and_from, and_parts, cases_Bool, cond_both, eq-eqb, eqb-true, false≢true, ne_eqb}
+use Rattle.std.proofs.lemmas.List.Folds.{list_any_at}
 use Rattle.std.proofs.lemmas.List.Sums.{sum_by-cons}
 use Rattle.std.proofs.lemmas.Option.{get_or_from_slice_get, none-some, option_and_then_some, same_Some}
 use Rattle.nf_base.specs.declared.content.Piece.{Piece}
 use Rattle.nf_base.specs.declared.rows.NodeRow.{NodeRow}
 use Rattle.nf_base.specs.declared.rows.UserRow.{UserRow}
 use Rattle.nf_defs.proofs.Climbs.{climb_under, under_climb, walk_among}
-use Rattle.nf_defs.specs.Prelude.{child_of, depth, folder_of, is_under, node_row, owner_of, parent_of, Tables, user_row, walk_of, with_node, without_under}
-use Rattle.nf_laws.proofs.Charging.{alike, charge_owned, sums_agree}
+use Rattle.nf_defs.specs.Prelude.{child_of, depth, folder_of, is_present, is_under, node_row, owner_of, parent_of, Tables, user_row, walk_of, with_node, without_under}
+use Rattle.nf_laws.proofs.Charging.{alike, sums_agree}
 use Rattle.nf_laws.proofs.Climbs.{node_row_each}
 use Rattle.nf_laws.proofs.Copied.{copy_at, same_sum}
 use Rattle.nf_laws.proofs.Lists.{Rising}
 use Rattle.nf_laws.proofs.Mirrored.{mirrored}
 use Rattle.nf_laws.proofs.Paths.{climb_own, IsOf, root_own}
-use Rattle.nf_laws.proofs.Rows.{finds_none, parent_there}
+use Rattle.nf_laws.proofs.Presence.{present_there}
+use Rattle.nf_laws.proofs.Rows.{found_is, finds_none, parent_there}
 use Rattle.nf_laws.proofs.Sizes.{nothing, sizes_sum, weight, weight_if}
-use Rattle.nf_laws.proofs.Upwards.{climbs_own, nothing_trashed, trashed_by}
+use Rattle.nf_laws.proofs.Upwards.{climbs_own, trashed_by}
 use Rattle.nf_laws.proofs.Walked.{AreDistinct, walk_distinct}
 use Rattle.nf_laws.specs.Charges.{bytes_owned, ChargeIsSizeOfRoot, owned_bytes}
 use Rattle.nf_laws.specs.Transfers.{Mirrors}
 use Rattle.nf_words.proofs.Found.{child_parent, found_passes}
 use Rattle.nf_words.proofs.Known.{KnownCopies, KnownTransfer}
 use Rattle.nf_words.specs.Listing.{size_of}
-use Rattle.nf_words.specs.Prelude.{AreSound, bytes_of, cleared, root_of_user}
+use Rattle.nf_words.specs.Prelude.{AreSound, bytes_of, charge_of, cleared, counted_for, root_of_user}
 use Rattle.nf_words.specs.declared.request.Transfer.{Transfer}
 
 -- ---- nodes that are each counted once
@@ -104,7 +106,7 @@ size_under t top sound =
 -- ---- what goes
 
 -- what passes a test and what doesn't are all
-parts_sum : (f : NodeRow → ℕ) (test : NodeRow → Bool) (rows : List NodeRow)
+pub parts_sum : (f : NodeRow → ℕ) (test : NodeRow → Bool) (rows : List NodeRow)
     → sum_by f (filter (λ row. not (test row)) rows) + sum_by (λ row. if test row then f row else 0) rows ≡ sum_by f rows
 parts_sum f test [] = omega arith
 parts_sum f test (row ∷ rows) =
@@ -237,38 +239,45 @@ row_owned (row ∷ rows) node user change old there =
 
 -- ---- a user's root
 
--- what is a user's is under the user's root, and nothing else
-owned_rooted : (t : Tables) (user : UserRow) → AreSound t → user_row t.users user.id ≡ Some user
-    → All (λ (row : NodeRow). owned_bytes user.id row ≡ weight_under t.nodes user.root row) t.nodes
-owned_rooted t user sound is k d within =
+-- what counts for a user is under the user's root, and nothing else
+counted_rooted : (t : Tables) (user : UserRow) → AreSound t → user_row t.users user.id ≡ Some user
+    → All (λ (row : NodeRow). counted_for t user.id row ≡ weight_under t.nodes user.root row) t.nodes
+counted_rooted t user sound is k d within =
     ap (λ (counts : Bool). if counts then weight row else 0)
-    (both_ways (row.owner == user.id) (is_under t.nodes row.id user.root) (λ own. under (eqb-true row.owner user.id own))
+    (both_ways (row.owner == user.id && is_present t.users t.nodes row.id) (is_under t.nodes row.id user.root)
+    (λ counts. let both = and_parts (row.owner == user.id) (is_present t.users t.nodes row.id) counts in under (eqb-true row.owner user.id both.0) both.1)
     (λ under.
     let up = under_climb t.nodes row.id user.root under in
-    eq-eqb row.owner user.id (climb_own up.0 t user.id row.id user.root row sound up.2 (root_own t user sound is) there)))
+    and_from (row.owner == user.id) (is_present t.users t.nodes row.id)
+    (eq-eqb row.owner user.id (climb_own up.0 t user.id row.id user.root row sound up.2 (root_own t user sound is) there))
+    ((found_is (λ (user : UserRow). passes user ≡ true → list_any passes t.users ≡ true) (λ other. other.id == user.id) t.users user
+    (λ k d within is. list_any_at passes t.users k d within is) is).1 under)))
   where
     row : NodeRow
     row = get_or t.nodes k d
 
+    passes : UserRow → Bool
+    passes user = is_under t.nodes row.id user.root
+
     there : node_row t.nodes row.id ≡ Some row
     there = node_row_each t.nodes sound.rising k d within
 
-    under : row.owner ≡ user.id → is_under t.nodes row.id user.root ≡ true
-    under own =
+    under : row.owner ≡ user.id → is_present t.users t.nodes row.id ≡ true → is_under t.nodes row.id user.root ≡ true
+    under own present =
         let c = climbs_own t row sound there in
         elim c.place [
           | inl root ↦
               (let same : c.top.id ≡ user.root =
               root.1 ∙ ap (root_of_user t) own ∙ ap (λ (o : Option UserRow). option_map_or (λ user. user.root) o 0) is in
               climb_under (depth t.nodes row.id) t.nodes row.id user.root c.shallow (c.climbs ∙ ap Some same))
-          | inr trash ↦ absurd (nothing_trashed t row.id sound (trashed_by t row there c trash))
+          | inr trash ↦ absurd (false≢true (sym (present_there.apart t row.id sound (trashed_by t row there c trash)) ∙ present))
         ]
 
 pub charge_rooted : ChargeIsSizeOfRoot
+unfolding charge_of
 charge_rooted t user row sound is =
     let id : row.id ≡ user = eqb-true row.id user (found_passes (λ (u : UserRow). u.id == user) t.users row is) in
-    charge_owned t user sound
-    ∙ sums_agree (owned_bytes user) (weight_under t.nodes row.root) t.nodes
-    (subst (λ (n : ℕ). user_row t.users n ≡ Some row → All (λ (r : NodeRow). owned_bytes n r ≡ weight_under t.nodes row.root r) t.nodes) id
-    (owned_rooted t row sound) is)
+    sums_agree (counted_for t user) (weight_under t.nodes row.root) t.nodes
+    (subst (λ (n : ℕ). user_row t.users n ≡ Some row → All (λ (r : NodeRow). counted_for t n r ≡ weight_under t.nodes row.root r) t.nodes) id
+    (counted_rooted t row sound) is)
     ∙ sym (size_under t row.root sound)

@@ -1,5 +1,5 @@
 -- What who acts may read is served, and what they may change is changed, and nothing else.
-use Rattle.std.specs.Prelude.{◌≡◌, ◌≢◌, ◌↔◌, ◌⊎◌, ℕ, ◌&&◌, not, All, Bool, Contains, true, false, List, [], ◌∷◌, ◌++◌, map, Option, None, Some, is_some, Ok, option_and_then, if◌then◌else◌, unwrap_or}
+use Rattle.std.specs.Prelude.{◌≡◌, ◌≢◌, ◌↔◌, ◌⊎◌, ℕ, ◌||◌, All, Bool, Contains, true, false, List, [], ◌∷◌, ◌++◌, map, Option, None, Some, is_some, Ok, option_and_then, if◌then◌else◌, unwrap_or}
 use Rattle.std.specs.Option.{option_map_or}
 use Rattle.nf_access.specs.Access.{Allows, Reaches}
 use Rattle.nf_access.specs.Making.{is_part, is_token_taken}
@@ -9,19 +9,22 @@ use Rattle.nf_base.specs.declared.content.Piece.{Piece}
 use Rattle.nf_base.specs.declared.perms.Act.{Act}
 use Rattle.nf_base.specs.declared.perms.Act.TheVariants as act
 use Rattle.nf_base.specs.declared.perms.Act.TheVariants.{Create, Delete, Read, Update}
+use Rattle.nf_base.specs.declared.rows.ItemRow.{ItemRow}
 use Rattle.nf_base.specs.declared.rows.MemberRow.{MemberRow}
 use Rattle.nf_base.specs.declared.rows.MountRow.{MountRow}
 use Rattle.nf_base.specs.declared.rows.NodeRow.{NodeRow}
 use Rattle.nf_base.specs.declared.rows.Place.TheVariants.{Inside}
+use Rattle.nf_base.specs.declared.rows.Place.TheVariants as place
 use Rattle.nf_base.specs.declared.rows.ShareRow.{ShareRow}
 use Rattle.nf_base.specs.declared.rows.UserRow.{UserRow}
 use Rattle.nf_defs.specs.People.{is_admin}
-use Rattle.nf_defs.specs.Prelude.{dropped, group_key, group_named, holder_of, is_folder_kind, Leads, member_key, node_row, owner_of, parent_of, put, share_key, Tables, token_key, user_key, user_named, user_row}
+use Rattle.nf_defs.specs.Prelude.{child_of, dropped, group_key, group_named, holder_of, is_folder, is_folder_kind, item_row, Leads, member_key, node_row, owner_of, parent_of, put, share_key, Tables, token_key, user_key, user_named, user_row}
+use Rattle.nf_defs.specs.Tree.{is_rooted}
 use Rattle.nf_defs.specs.declared.Seeker.{Seeker}
 use Rattle.nf_defs.specs.declared.Seeker.TheVariants.{User}
 use Rattle.nf_laws.specs.Reads.{IsFreeToRead, IsWellAsked}
 use Rattle.nf_laws.specs.Tree.{Under}
-use Rattle.nf_words.specs.Prelude.{access_of, after, answer_to, asker_of, behind, Call, call_of, ended_row, goal_at, is_joined, is_member, IsModest, IsSound, kind_of, kind_to, last_name, listing_of, may_by, MayCome, MayWant, membership, mount_of, Need, needed, needed_by, new_root, new_user, people_limit, perms_after, receiver_named, root_of, row_named, seeker_of, set_fault, set_row, State, until_after, usual_perms}
+use Rattle.nf_words.specs.Prelude.{access_of, after, answer_to, asker_of, behind, Call, call_of, ended_row, goal_at, home_of, is_joined, is_member, IsModest, IsSound, kind_of, kind_to, last_name, listing_of, may_by, MayCome, MayWant, membership, mount_of, name_back, Need, needed, needed_by, new_root, new_user, own_item, people_limit, perms_after, purged_all, receiver_named, restored, root_of, row_named, seeker_of, set_fault, set_row, State, until_after, usual_perms}
 use Rattle.nf_words.specs.Tokens.{link_token}
 use Rattle.nf_words.specs.declared.answer.Goal.{Goal}
 use Rattle.nf_words.specs.declared.answer.Goal.TheVariants.{Serve, Store}
@@ -37,7 +40,9 @@ use Rattle.nf_words.specs.declared.request.Request.{Request}
 use Rattle.nf_words.specs.declared.request.Sharee.{Sharee}
 use Rattle.nf_words.specs.declared.request.Spot.{Spot}
 use Rattle.nf_words.specs.declared.request.Until.{Until}
-use Rattle.nf_words.specs.declared.request.Wanted.TheVariants.{Delete, Get, Move, People, Share}
+use Rattle.nf_words.specs.declared.request.Wanted.TheVariants.{Delete, Get, Move, People, Share, Trash}
+use Rattle.nf_words.specs.declared.request.TrashAsk.{TrashAsk}
+use Rattle.nf_words.specs.declared.request.TrashAsk.TheVariants as trash
 use Rattle.nf_words.specs.declared.request.ShareAsk.TheVariants as ask
 use Rattle.nf_words.specs.declared.request.Words.{Words}
 
@@ -168,6 +173,9 @@ pub data Follows (needs : List Need) (before after : List NodeRow) (node : ℕ) 
       → row ≡ record old { name = row.name; content = row.content; changed = row.changed } → Follows needs before after node
   -- it is made where something is created
   is_made : (folder : ℕ) → IsNeeded needs Create folder → IsMadeIn before after folder node → Follows needs before after node
+  -- it is put in the trash, where it is deleted
+  is_trashed : (old : NodeRow) → IsNeeded needs Delete node → node_row before node ≡ Some old
+      → node_row after node ≡ Some (record old { place = place.Trash }) → Follows needs before after node
   -- it is gone with what is deleted
   is_gone : (top : ℕ) → IsNeeded needs Delete top → Under before top node → node_row after node ≡ None → Follows needs before after node
   -- it is moved, so that it is deleted here and created there
@@ -188,13 +196,9 @@ pub record IsAllowed (s : State) (now : ℕ) (who : Option Seeker) (needs : List
 
 -- ---- shares and mounts
 
--- the node was there, and isn't any more
-abbrev pub is_gone_from : List NodeRow → List NodeRow → ℕ → Bool
-is_gone_from before after node = is_some (node_row before node) && not (is_some (node_row after node))
-
--- the shares, where those are ended whose nodes are gone
-abbrev pub shares_without : List NodeRow → List NodeRow → List ShareRow → List ShareRow
-shares_without before after shares = map (λ share. if is_gone_from before after share.node then ended_row share else share) shares
+-- the shares, where those are ended whose nodes aren't present any more
+abbrev pub shares_without : List NodeRow → List ShareRow → List ShareRow
+shares_without after shares = map (λ share. if share.ended || is_rooted after share.node then share else ended_row share) shares
 
 -- a mount of who asks that wasn't left, and whose own path, its name alone, is that of a place
 pub record IsOwnPath (call : Call) (spot : Spot) (row : MountRow) : Type 0 where
@@ -348,25 +352,74 @@ pub record IsProviding (s : State) (e : Entry) (after : Tables) : Type 0 where
   pub few : people_limit s.tables asked ≡ None
   pub provides : Provides s.tables e.moment after asked
 
--- a share ends exactly where its node goes, and no share and no mount is another otherwise
+-- a share ends exactly where its node isn't present any more, and no share and no mount is another otherwise
 pub record KeepsShares (before after : Tables) : Type 0 where
-  pub shares : after.shares ≡ shares_without before.nodes after.nodes before.shares
+  pub shares : after.shares ≡ shares_without after.nodes before.shares
   pub mounts : after.mounts ≡ before.mounts
+
+-- ---- the trash
+
+-- each item was there, or is of a node that is deleted, since now
+abbrev pub ItemsFollow : List Need → ℕ → List ItemRow → List ItemRow → Type 0
+ItemsFollow needs now before after =
+    All (λ (item : ItemRow). Contains before item ⊎ (IsNeeded needs Delete item.node × (item.at ≡ now))) after
+    × ((item : ItemRow) → Contains before item → Contains after item)
+
+-- an item of the caller's comes back into a folder of the caller's that is present, under a name that was free there
+pub record IsRestoring (s : State) (e : Entry) (after : Tables) : Type 0 where
+  pub words : Words
+  pub request : Request
+  pub begins : e.event ≡ Begin words request
+  pub user : List ℕ
+  pub node : ℕ
+  pub wanted : request.wanted ≡ Trash (trash.Restore user node)
+  pub item : ItemRow
+  pub own : own_item (call_of s e.seat e.moment words request) node ≡ Some item
+  pub folds : is_folder s.tables.nodes (home_of s.tables item) ≡ true
+  pub owner : owner_of s.tables.nodes (home_of s.tables item) ≡ item.owner
+  pub free : child_of s.tables.nodes (home_of s.tables item) (name_back s.tables item) ≡ None
+  pub rows : after ≡ record (restored s.tables node (home_of s.tables item) (name_back s.tables item)) { meta = after.meta }
+
+-- whose trash is settled: that of the owner of what is deleted, of who asks about the trash, or of a user whose quota is set
+pub data Settles (s : State) (e : Entry) : ℕ → Type 0 where
+  by_delete : (node : ℕ) → IsNeeded (needs_of s e.seat e.moment e.event) Delete node → Settles s e (owner_of s.tables.nodes node)
+  by_asking : (words : Words) (request : Request) (asked : TrashAsk) → e.event ≡ Begin words request → request.wanted ≡ Trash asked
+      → Settles s e (asker_of (call_of s e.seat e.moment words request))
+  by_quota : (words : Words) (request : Request) (user : List ℕ) (quota : ℕ) (row : UserRow) → e.event ≡ Begin words request
+      → request.wanted ≡ People (people.SetQuota user quota) → row_named s.tables user ≡ Some row → Settles s e row.id
+
+-- some items in the trash of one user, whose trash is settled, go for good then, each with all under it
+pub record IsSettled (s : State) (e : Entry) (before after : Tables) : Type 0 where
+  pub user : ℕ
+  pub tops : List ℕ
+  pub items : All (λ (top : ℕ). (item : ItemRow) × (item_row s.tables.items top ≡ Some item) × (item.owner ≡ user)) tops
+  pub settles : tops ≢ [] → Settles s e user
+  pub gone : after ≡ purged_all before tops
 
 -- ---- what a step changes
 
--- a step changes users, groups, tokens and members, and the root of a new user and the mounts of a new member with them, or none of
--- these: then each node whose row is another is allowed to be. A share ends exactly where its node goes, and no share and no mount is
--- another otherwise, but for the mount whose own path is named, or the share that is asked about. Of the other rows the meta row alone is
--- another
+-- a step changes users, groups, tokens and members, and the root of a new user and the mounts of a new member with them; or an item of
+-- the trash comes back; or none of these: then each node whose row is another is allowed to be. A share ends exactly where its node isn't
+-- present any more, and no share and no mount is another otherwise, but for the mount whose own path is named, or the share that is asked
+-- about. Of the other rows the meta row alone is another
 pub record NodesAllowed (s : State) (e : Entry) (after : Tables) : Type 0 where
   pub nodes : (node : ℕ) → node_row after.nodes node ≢ node_row s.tables.nodes node
       → IsAllowed s e.moment (seeker_at s e.seat e.moment e.event) (needs_of s e.seat e.moment e.event) after.nodes node
   pub others : KeepsShares s.tables after ⊎ (IsRemounted s e after ⊎ IsSharing s e after)
-  pub rest : after ≡ record s.tables { meta = after.meta; nodes = after.nodes; shares = after.shares; mounts = after.mounts }
+  pub items : ItemsFollow (needs_of s e.seat e.moment e.event) e.moment s.tables.items after.items
+  pub rest : after ≡ record s.tables {
+    meta = after.meta;
+    nodes = after.nodes;
+    shares = after.shares;
+    mounts = after.mounts;
+    items = after.items;
+  }
 
-abbrev pub ChangesAllowed : State → Entry → Tables → Type 0
-ChangesAllowed s e after = NodesAllowed s e after ⊎ IsProviding s e after
+-- and then the trash of one user is settled, if it is
+pub record ChangesAllowed (s : State) (e : Entry) (after : Tables) : Type 0 where
+  pub between : Tables
+  pub allowed : NodesAllowed s e between ⊎ (IsProviding s e between ⊎ IsRestoring s e between)
+  pub settled : IsSettled s e between after
 
 abbrev pub ChangesWhatMayBeChanged : Type 0
 ChangesWhatMayBeChanged = (n : ℕ) (s : State) (e : Entry) → IsSound s → MayCome n s e → ChangesAllowed s e (after s e).tables

@@ -1,5 +1,5 @@
 -- What a DELETE, a MKCOL, a PUT and a MOVE change, and that they change nothing else.
-use Rattle.std.specs.Prelude.{◌≡◌, ◌≢◌, ◌⊎◌, ℕ, ◌+◌, ◌<◌, Bool, true, false, List, [], length, Option, None, Some, Ok, IsOk, IfSome, slice_get}
+use Rattle.std.specs.Prelude.{◌≡◌, ◌≢◌, ◌⊎◌, ℕ, ◌+◌, ◌<◌, Bool, true, false, List, [], length, Option, None, Some, Ok, IsOk, IfSome, slice_get, All, Contains}
 use Rattle.nf_access.specs.Mounts.{mount_row}
 use Rattle.nf_access.specs.Shares.{share_row}
 use Rattle.nf_base.specs.declared.content.Piece.{Piece}
@@ -8,14 +8,15 @@ use Rattle.nf_base.specs.declared.rows.NodeKind.{NodeKind}
 use Rattle.nf_base.specs.declared.rows.NodeKind.TheVariants.{File, Folder}
 use Rattle.nf_base.specs.declared.rows.NodeRow.{NodeRow}
 use Rattle.nf_base.specs.declared.rows.Place.TheVariants.{Inside}
+use Rattle.nf_base.specs.declared.rows.Place.TheVariants as place
 use Rattle.nf_base.specs.declared.rows.ShareRow.{ShareRow}
-use Rattle.nf_defs.specs.Prelude.{child_of, is_folder, is_folder_kind, is_under, node_row, owner_of, Tables}
+use Rattle.nf_defs.specs.Prelude.{child_of, is_folder, is_folder_kind, is_present, is_under, item_row, node_row, owner_of, relinked, Tables}
 use Rattle.nf_laws.specs.Access.{LeadsBy}
 use Rattle.nf_laws.specs.Reads.{LeadsToKey}
 use Rattle.nf_laws.specs.Transfers.{is_replaced, Mirrors}
 use Rattle.nf_laws.specs.Tree.{Under}
 use Rattle.nf_laws.specs.Wholes.{blob_in}
-use Rattle.nf_words.specs.Prelude.{after, answer_to, behind, blob_for, Call, call_of, content_in, decision_of, ended_row, goal_at, IsSound, last_name, left_row, MayAsk, mount_of, named_row, root_of, seeker_of, State, step, user_of, way_of, without_ticket}
+use Rattle.nf_words.specs.Prelude.{after, answer_to, asker_of, behind, blob_for, Call, call_of, content_in, decision_of, ended_row, goal_at, home_of, IsSound, last_name, left_row, MayAsk, mount_of, name_back, named_row, root_of, seeker_of, State, step, user_of, way_of, without_ticket}
 use Rattle.nf_words.specs.declared.answer.Allowed.TheVariants as allowed
 use Rattle.nf_words.specs.declared.answer.By.{By}
 use Rattle.nf_words.specs.declared.answer.Goal.TheVariants.{Store}
@@ -29,8 +30,10 @@ use Rattle.nf_words.specs.declared.history.Outcome.TheVariants.{Body, Gone}
 use Rattle.nf_words.specs.declared.request.Request.{Request}
 use Rattle.nf_words.specs.declared.request.Spot.{Spot}
 use Rattle.nf_words.specs.declared.request.Transfer.{Transfer}
-use Rattle.nf_words.specs.declared.request.Wanted.TheVariants.{Delete, Mkcol, Move, Put}
+use Rattle.nf_words.specs.declared.request.Wanted.TheVariants.{Delete, Mkcol, Move, Put, Trash}
+use Rattle.nf_words.specs.declared.request.TrashAsk.TheVariants as trash
 use Rattle.nf_words.specs.declared.request.Words.{Words}
+use Rattle.nf_base.specs.declared.rows.ItemRow.{ItemRow}
 
 -- a path leads to the file that is stored over, or to the folder and the name that is free in it: from the caller's root, or from the node
 -- of the mount that it goes by, a user's behind its first name and a link's whole
@@ -43,20 +46,56 @@ pub record AreEnded (before after : List ShareRow) (IsGone : ℕ → Type 0) : T
   pub ended : (id : ℕ) (share : ShareRow) → share_row before id ≡ Some share → IsGone share.node → share_row after id ≡ Some (ended_row share)
   pub others : (id : ℕ) → IfSome (share_row before id) (λ (share : ShareRow). IsGone share.node → ⊥) → share_row after id ≡ share_row before id
 
+-- ---- the trash
+
+-- the node is an item in the trash of its owner, since then, which came from the folder that it was in; all under it is as it was
+pub record IsInTrash (before after : Tables) (now top : ℕ) : Type 0 where
+  pub row : NodeRow
+  pub folder : ℕ
+  pub there : node_row before.nodes top ≡ Some row
+  pub inside : row.place ≡ Inside folder
+  pub itself : node_row after.nodes top ≡ Some (record row { place = place.Trash })
+  pub item : item_row after.items top ≡ Some (record { node = top; owner = row.owner; name = row.name; from = folder; at = now })
+  pub below : (node : ℕ) → Under before.nodes top node → node ≢ top → node_row after.nodes node ≡ node_row before.nodes node
+
+-- the node is gone for good, with all under it
+abbrev pub IsGoneWith : List NodeRow → List NodeRow → ℕ → Type 0
+IsGoneWith before after top = (node : ℕ) → Under before top node → node_row after node ≡ None
+
+-- the node is an item in the trash of that user
+abbrev pub IsItemOf : Tables → ℕ → ℕ → Type 0
+IsItemOf t user node = (item : ItemRow) × (item_row t.items node ≡ Some item) × (item.owner ≡ user)
+
+-- those are items in the trash of that user, and gone for good, each with all under it
+pub record AreEmptied (before after : Tables) (user : ℕ) (tops : List ℕ) : Type 0 where
+  pub items : All (IsItemOf before user) tops
+  pub gone : All (IsGoneWith before.nodes after.nodes) tops
+  pub none : All (λ (top : ℕ). item_row after.items top ≡ None) tops
+
+-- the node is under one of those
+abbrev pub IsUnderOne : List NodeRow → List ℕ → ℕ → Type 0
+IsUnderOne rows tops node = (top : ℕ) × Contains tops top × Under rows top node
+
 -- ---- DELETE
 
--- the node to which the path leads is gone, with all under it; every other node is as it was, the shares of what is gone are ended and
--- the others as they were, and of the meta row the moment alone is another
+-- the node to which the path leads is in its owner's trash, or gone for good with all under it where the trash can't hold it; so are items
+-- that the trash can't hold any more. Every other node and item is as it was, the shares of what is under the node are ended and the
+-- others as they were, and of the meta row the moment alone is another
 pub record IsDeleted (call : Call) (spot : Spot) (after : Tables) : Type 0 where
   pub top : ℕ
   pub led : LeadsBy call spot (mount_of call spot) top
-  pub gone : (node : ℕ) → Under call.state.tables.nodes top node → node_row after.nodes node ≡ None
-  pub others : (node : ℕ) → (Under call.state.tables.nodes top node → ⊥) → node_row after.nodes node ≡ node_row call.state.tables.nodes node
+  pub itself : IsInTrash call.state.tables after call.now top ⊎ IsGoneWith call.state.tables.nodes after.nodes top
+  pub tops : List ℕ
+  pub emptied : AreEmptied call.state.tables after (owner_of call.state.tables.nodes top) tops
+  pub others : (node : ℕ) → (Under call.state.tables.nodes top node → ⊥) → (IsUnderOne call.state.tables.nodes tops node → ⊥)
+      → node_row after.nodes node ≡ node_row call.state.tables.nodes node
+  pub items : (node : ℕ) → node ≢ top → (Contains tops node → ⊥) → item_row after.items node ≡ item_row call.state.tables.items node
   pub shares : AreEnded call.state.tables.shares after.shares (Under call.state.tables.nodes top)
   pub rest : after ≡ record call.state.tables {
     meta = record call.state.tables.meta { last = call.now };
     nodes = after.nodes;
     shares = after.shares;
+    items = after.items;
   }
 
 -- of a path that isn't a mount's own
@@ -66,6 +105,68 @@ DeletesKeep =
     → request.wanted ≡ Delete spot → (way_of (call_of s seat now words request) spot).itself ≡ false
     → IsOk (answer_to s seat now (Begin words request))
     → IsDeleted (call_of s seat now words request) spot (step s seat now (Begin words request)).tables
+
+-- ---- what is asked about the trash
+
+-- those items of the caller's are gone for good, each with all under it, and nothing else is another but the moment, if anything is
+pub record IsEmptied (call : Call) (after : Tables) (tops : List ℕ) : Type 0 where
+  pub emptied : AreEmptied call.state.tables after (asker_of call) tops
+  pub others : (node : ℕ) → (IsUnderOne call.state.tables.nodes tops node → ⊥) → node_row after.nodes node ≡ node_row call.state.tables.nodes node
+  pub items : (node : ℕ) → (Contains tops node → ⊥) → item_row after.items node ≡ item_row call.state.tables.items node
+  pub rest : after ≡ record call.state.tables {
+    meta = record call.state.tables.meta { last = after.meta.last };
+    nodes = after.nodes;
+    items = after.items;
+  }
+
+-- an item of the caller's that is to be dropped is among them
+abbrev pub DropsKeep : Type 0
+DropsKeep =
+    (s : State) (seat now : ℕ) (words : Words) (request : Request) (user : List ℕ) (item : ℕ) → IsSound s → MayAsk s seat (Begin words request)
+    → request.wanted ≡ Trash (trash.Drop user item) → IsOk (answer_to s seat now (Begin words request))
+    → (tops : List ℕ) × Contains tops item
+    × IsEmptied (call_of s seat now words request) (step s seat now (Begin words request)).tables tops
+
+-- and all of them are, where the trash is to be emptied
+abbrev pub EmptyingKeeps : Type 0
+EmptyingKeeps =
+    (s : State) (seat now : ℕ) (words : Words) (request : Request) (user : List ℕ) → IsSound s → MayAsk s seat (Begin words request)
+    → request.wanted ≡ Trash (trash.Empty user) → IsOk (answer_to s seat now (Begin words request))
+    → (tops : List ℕ)
+    × ((item : ItemRow) → Contains s.tables.items item → item.owner ≡ asker_of (call_of s seat now words request) → Contains tops item.node)
+    × IsEmptied (call_of s seat now words request) (step s seat now (Begin words request)).tables tops
+
+-- the node of an item of the caller's is in a folder of the caller's that is present: the one that it came from, or else the root. It has
+-- a name there that was free, and is an item no more; all under it is as it was. Of the caller's other items some may be gone for good,
+-- each with all under it, and nothing else is another but the moment
+pub record IsRestored (call : Call) (node : ℕ) (after : Tables) : Type 0 where
+  pub item : ItemRow
+  pub there : item_row call.state.tables.items node ≡ Some item
+  pub own : item.owner ≡ asker_of call
+  pub row : NodeRow
+  pub was : node_row call.state.tables.nodes node ≡ Some row
+  pub folds : is_folder call.state.tables.nodes (home_of call.state.tables item) ≡ true
+  pub present : is_present call.state.tables.users call.state.tables.nodes (home_of call.state.tables item) ≡ true
+  pub owner : owner_of call.state.tables.nodes (home_of call.state.tables item) ≡ asker_of call
+  pub free : child_of call.state.tables.nodes (home_of call.state.tables item) (name_back call.state.tables item) ≡ None
+  pub itself : node_row after.nodes node ≡ Some (relinked (home_of call.state.tables item) (name_back call.state.tables item) row)
+  pub none : item_row after.items node ≡ None
+  pub tops : List ℕ
+  pub emptied : AreEmptied call.state.tables after (asker_of call) tops
+  pub others : (other : ℕ) → other ≢ node → (IsUnderOne call.state.tables.nodes tops other → ⊥)
+      → node_row after.nodes other ≡ node_row call.state.tables.nodes other
+  pub items : (other : ℕ) → other ≢ node → (Contains tops other → ⊥) → item_row after.items other ≡ item_row call.state.tables.items other
+  pub rest : after ≡ record call.state.tables {
+    meta = record call.state.tables.meta { last = call.now };
+    nodes = after.nodes;
+    items = after.items;
+  }
+
+abbrev pub ItemsComeBack : Type 0
+ItemsComeBack =
+    (s : State) (seat now : ℕ) (words : Words) (request : Request) (user : List ℕ) (item : ℕ) → IsSound s → MayAsk s seat (Begin words request)
+    → request.wanted ≡ Trash (trash.Restore user item) → IsOk (answer_to s seat now (Begin words request))
+    → IsRestored (call_of s seat now words request) item (step s seat now (Begin words request)).tables
 
 -- ---- a mount itself
 

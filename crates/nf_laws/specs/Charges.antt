@@ -1,8 +1,8 @@
 -- What a user's files take up, and that no step takes that beyond the user's quota.
-use Rattle.std.specs.Prelude.{◌≡◌, ◌↔◌, ◌≤◌, ◌≢◌, ◌⊎◌, ℕ, ◌+◌, ◌==◌, if◌then◌else◌, List, [], ◌∷◌, ◌++◌, None, Some, Err, IsOk, sum_by}
+use Rattle.std.specs.Prelude.{◌≡◌, ◌↔◌, ◌≤◌, ◌≢◌, ◌⊎◌, ℕ, ◌+◌, ◌==◌, ◌&&◌, not, if◌then◌else◌, List, [], ◌∷◌, ◌++◌, None, Some, Err, IsOk, sum_by}
 use Rattle.nf_base.specs.declared.rows.NodeRow.{NodeRow}
 use Rattle.nf_base.specs.declared.rows.UserRow.{UserRow}
-use Rattle.nf_defs.specs.Prelude.{owner_of, Tables, user_row}
+use Rattle.nf_defs.specs.Prelude.{is_present, owner_of, Tables, user_row}
 use Rattle.nf_words.specs.Listing.{size_of}
 use Rattle.nf_words.specs.Prelude.{access_of, after, answer_at, answer_to, AreSound, asked_of, bytes_of, call_of, charge_of, earlier_rules, end_lost, end_unallowed, end_unreached, exceeded, excess_at, goal_at, IsSound, last_number, limit_at, limit_rule, locked_rule, MayCome, node_of_key, Pass, pieces_of, place_of, places_of, quota_of, room_rule, Rule, State}
 use Rattle.nf_words.specs.declared.answer.By.{By}
@@ -27,9 +27,17 @@ owned_bytes user row = if row.owner == user then sum_by (λ piece. piece.size) r
 abbrev pub bytes_owned : List NodeRow → ℕ → ℕ
 bytes_owned rows user = sum_by (owned_bytes user) rows
 
--- a user is charged for all that is the user's: nothing is in the trash yet, so all of it is present
-abbrev pub ChargesAreOwned : Type 0
-ChargesAreOwned = (t : Tables) (user : ℕ) → AreSound t → charge_of t user ≡ bytes_owned t.nodes user
+-- the bytes of a row, where it is the user's and not present: it is in the trash
+abbrev pub trashed_bytes : Tables → ℕ → NodeRow → ℕ
+trashed_bytes t user row = if row.owner == user && not (is_present t.users t.nodes row.id) then sum_by (λ piece. piece.size) row.content else 0
+
+-- those of all rows that are the user's and not present
+abbrev pub bytes_trashed : Tables → ℕ → ℕ
+bytes_trashed t user = sum_by (trashed_bytes t user) t.nodes
+
+-- what a user is charged for and what of the user's is not present are all that is the user's
+abbrev pub ChargesLeaveOutTrash : Type 0
+ChargesLeaveOutTrash = (t : Tables) (user : ℕ) → charge_of t user + bytes_trashed t user ≡ bytes_owned t.nodes user
 
 -- a charge can be told, however large the site
 abbrev pub ChargesAreFew : Type 0

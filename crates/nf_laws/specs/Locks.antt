@@ -58,7 +58,7 @@ OthersSpare =
 pub record IsBlocked (call : Call) (ticket : Ticket) (hold : Hold) : Type 0 where
   pub holds : ticket.hold ≡ Some hold
   pub clash : Any (λ (touch : Touch). clashes call.state.tables.nodes touch hold ≡ true)
-      (touches call.state.tables.nodes (asked_by call) (places_of call))
+      (touches call.state.tables (asked_by call) (places_of call))
 
 -- the key is held by another seat and clashes with what the call touches, and no lesser seat's does
 pub record IsInWay (call : Call) (key : LockKey) : Type 0 where

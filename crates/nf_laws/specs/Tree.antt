@@ -1,5 +1,5 @@
 -- What the words about the tree of nodes mean.
-use Rattle.std.specs.Prelude.{◌≡◌, ◌≢◌, ◌↔◌, ◌⊎◌, ℕ, ◌≤◌, All, AllPairs, Contains, true, false, List, [], Some, is_some, sum_by}
+use Rattle.std.specs.Prelude.{◌≡◌, ◌≢◌, ◌↔◌, ◌⊎◌, ℕ, ◌≤◌, All, AllPairs, Contains, true, false, List, [], None, Some, is_some, sum_by}
 use Rattle.std.specs.Cmp.Lexicographic.{slice_cmp}
 use Rattle.std.specs.Option.{option_map_or}
 use Rattle.std.specs.Ordering.{nat_cmp}
@@ -8,9 +8,12 @@ use Rattle.nf_base.specs.declared.limits.TheConstants.{MAX_DEPTH}
 use Rattle.nf_base.specs.FreeNames.{is_taken}
 use Rattle.nf_base.specs.declared.rows.NodeRow.{NodeRow}
 use Rattle.nf_base.specs.declared.rows.Place.TheVariants.{Root, Trash}
+use Rattle.nf_base.specs.declared.rows.ShareRow.{ShareRow}
 use Rattle.nf_defs.specs.Prelude.{child_of, children_of, climb, depth, is_present, is_rooted, is_under, node_row, owner_of, parent_of, Tables, taken_names, walk_of}
+use Rattle.nf_defs.specs.declared.Found.TheVariants.{At}
 use Rattle.nf_words.specs.Listing.{size_of}
-use Rattle.nf_words.specs.Prelude.{AreSound, bytes_of, root_of_user}
+use Rattle.nf_words.specs.Prelude.{access_of, AreSound, bytes_of, Call, found, root_of_user, token_rule, unlinked, unreached, way_of}
+use Rattle.nf_words.specs.declared.request.Spot.{Spot}
 
 -- a node under a top: the top itself, or a node inside one under it
 pub data Under (rows : List NodeRow) (top : ℕ) : ℕ → Type 0 where
@@ -36,16 +39,25 @@ abbrev pub NodesArePresent : Type 0
 NodesArePresent =
     (t : Tables) → AreSound t → All (λ (row : NodeRow). (is_present t.users t.nodes row.id ≡ true) ⊎ IsTrashed t.nodes row.id) t.nodes
 
--- none is in the trash yet: that kind of rows is still to come
-abbrev pub NothingIsTrashed : Type 0
-NothingIsTrashed = (t : Tables) (node : ℕ) → AreSound t → IsTrashed t.nodes node → ⊥
-
 -- a node is there exactly where it is present or in the trash, and never both; present, it is a root or under one, so these words are one
 pub record PresentIsThere : Type 0 where
   pub there : (t : Tables) (node : ℕ) → AreSound t
       → (is_some (node_row t.nodes node) ≡ true) ↔ ((is_present t.users t.nodes node ≡ true) ⊎ IsTrashed t.nodes node)
   pub apart : (t : Tables) (node : ℕ) → AreSound t → IsTrashed t.nodes node → is_present t.users t.nodes node ≡ false
   pub rooted : (t : Tables) (node : ℕ) → AreSound t → is_rooted t.nodes node ≡ is_present t.users t.nodes node
+
+-- a share that isn't ended is of a node that is present, so nothing in the trash is shared
+abbrev pub SharedIsPresent : Type 0
+SharedIsPresent =
+    (t : Tables) → AreSound t
+    → All (λ (share : ShareRow). share.ended ≡ false → is_present t.users t.nodes share.node ≡ true) t.shares
+
+-- where a path is reached that leads to a node, the node is present: no path leads into the trash
+abbrev pub PathsLeadToPresent : Type 0
+PathsLeadToPresent =
+    (call : Call) (spot : Spot) (node : ℕ) → AreSound call.state.tables → token_rule (access_of call.state) call ≡ None
+    → unlinked call ≡ None → unreached (access_of call.state) call (way_of call spot) ≡ None → found call spot ≡ At node
+    → is_present call.state.tables.users call.state.tables.nodes node ≡ true
 
 -- a folder has a child of a name exactly where the name is among its taken ones
 abbrev pub NamesAreTaken : Type 0

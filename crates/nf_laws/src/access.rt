@@ -35,12 +35,15 @@ pub fn what_may_be_read_is_listed()
 {}
 
 /// A step makes a node's row another only where who acts may do all that the request needs, and what became of the node follows
-/// from that: it is updated, made, moved, or gone with what is deleted. A share ends exactly where its node goes, and no share and no
-/// mount is another otherwise. But where a DELETE or a MOVE names the own path of one of the caller's mounts, that mount is left or has
-/// another name; and what is asked about shares makes, changes or ends one share, which the caller may pass on or steers, with mounts
-/// for all whom a new one names: then no node is another. Users, groups, tokens and members become others only where a member of the
-/// group `admin` asks for that, and just as it is asked; with them come the root of a new user and the mounts of a new member. Of the
-/// other rows the meta row alone becomes another.
+/// from that: it is updated, made, moved, put in the trash, or gone with what is deleted; each new item of the trash is of what is
+/// deleted. A share ends exactly where its node isn't present any more, and no share and no mount is another otherwise. But where a
+/// DELETE or a MOVE names the own path of one of the caller's mounts, that mount is left or has another name; and what is asked about
+/// shares makes, changes or ends one share, which the caller may pass on or steers, with mounts for all whom a new one names: then no
+/// node is another. Users, groups, tokens and members become others only where a member of the group `admin` asks for that, and just as
+/// it is asked; with them come the root of a new user and the mounts of a new member. An item of the caller's trash comes back where the
+/// caller asks for it, into a folder of the caller's and under a name that is free there. Then some items of one user's trash may go for
+/// good, each with all under it: the user owns what is deleted, asks about the trash, or is given a quota. Of the other rows the meta
+/// row alone becomes another.
 pub fn changes_what_may_be_changed()
     ensures { ChangesWhatMayBeChanged }
 {}

@@ -1,13 +1,27 @@
-//! What DELETE, MKCOL, PUT and MOVE change, and nothing else.
+//! What DELETE, MKCOL, PUT and MOVE change, and what is asked about the trash, and nothing else.
 
-ghost use Rattle.nf_laws.specs.Acts.{CrossesMove, CutBodiesKeep, DeletesKeep, FoldersAreMade, MountsAreLeft, MountsAreRenamed, PutsAreGranted, PutsKeep};
+ghost use Rattle.nf_laws.specs.Acts.{CrossesMove, CutBodiesKeep, DeletesKeep, DropsKeep, EmptyingKeeps, FoldersAreMade, ItemsComeBack, MountsAreLeft, MountsAreRenamed, PutsAreGranted, PutsKeep};
 
-/// A DELETE takes out the node to which its path leads and all under it, ends their shares, and touches no other node or share. Of
-/// a mount's own path it leaves the mount, and touches no other row.
-#[tactic(auto, using(crate::proofs::Acting::deletes_keep, crate::proofs::Acting::mounts_left))]
+/// A DELETE puts the node to which its path leads into its owner's trash with all under it, or takes it out for good where the trash
+/// can't hold it, as it does items that the trash can't hold any more. It ends the shares of what is under the node, and touches no
+/// other node, item or share. Of a mount's own path it leaves the mount, and touches no other row.
+#[tactic(auto, using(crate::proofs::Acting::mounts_left))]
 pub fn deletes_keep()
     ensures nodes { DeletesKeep }
     ensures mounts { MountsAreLeft }
+{}
+
+/// What is dropped from the trash is gone for good with all under it: an item that is asked for, or all the caller's where the trash
+/// is emptied. Nothing else is touched but items of the caller's that the trash can't hold any more.
+pub fn drops_keep()
+    ensures one { DropsKeep }
+    ensures all { EmptyingKeeps }
+{}
+
+/// An item that comes back is in the folder that it came from, or else in its owner's root, under a name that was free there, with all
+/// under it as it was. Nothing else is touched but items of the caller's that the trash can't hold any more.
+pub fn items_come_back()
+    ensures { ItemsComeBack }
 {}
 
 /// A MOVE of a mount's own path gives the mount the target's last name, and touches no other row.

@@ -1,11 +1,12 @@
 //! What a user's files take up, and that no quota is passed.
 
-ghost use Rattle.nf_laws.specs.Charges.{ChargeIsSizeOfRoot, ChargesAreFew, ChargesAreOwned, QuotaExactly, QuotasAreKept, WritesAreCharged};
+ghost use Rattle.nf_laws.specs.Charges.{ChargeIsSizeOfRoot, ChargesAreFew, ChargesLeaveOutTrash, QuotaExactly, QuotasAreKept, WritesAreCharged};
 
-/// A user is charged for the bytes of every node that is the user's, and for no other. The sum can be told, however large the site.
-#[tactic(auto, using(crate::proofs::Charging::charge_owned, crate::proofs::Charging::charge_few))]
-pub fn charges_are_owned()
-    ensures owned { ChargesAreOwned }
+/// A user is charged for the bytes of every node that is the user's, but for what is in the trash, and for no other. The sum can be told,
+/// however large the site.
+#[tactic(auto, using(crate::proofs::Charging::charge_beside, crate::proofs::Charging::charge_few))]
+pub fn charges_leave_out_trash()
+    ensures owned { ChargesLeaveOutTrash }
     ensures few { ChargesAreFew }
 {}
 

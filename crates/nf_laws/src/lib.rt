@@ -19,10 +19,12 @@ pub use access::{
     serves_what_may_be_read, what_may_be_read_is_listed, what_may_be_read_is_served,
 };
 pub use acts::{
-    crosses_move, cut_bodies_keep, deletes_keep, folders_are_made, mounts_are_renamed, puts_keep,
+    crosses_move, cut_bodies_keep, deletes_keep, drops_keep, folders_are_made, items_come_back,
+    mounts_are_renamed, puts_keep,
 };
 pub use charges::{
-    charge_is_size_of_root, charges_are_owned, quota_exactly, quotas_are_kept, writes_are_charged,
+    charge_is_size_of_root, charges_leave_out_trash, quota_exactly, quotas_are_kept,
+    writes_are_charged,
 };
 pub use history::{counters_rise, numbers_are_new, stays_sound};
 pub use listings::{
@@ -35,7 +37,8 @@ pub use tells::changes_tell;
 pub use transfers::{copies_mirror, moves_keep};
 pub use tree::{
     children_are_by_name, depth_is_climbed, names_are_taken, no_rings, nodes_are_present,
-    nothing_is_trashed, present_is_there, sizes_are_sums, under_is_derived, walks_take_all_under,
+    paths_lead_to_present, present_is_there, shared_is_present, sizes_are_sums, under_is_derived,
+    walks_take_all_under,
 };
 pub use walks::walk_follows;
 pub use wholes::{blobs_are_new, opens_whole, stays_whole};

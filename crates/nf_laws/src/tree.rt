@@ -1,6 +1,6 @@
 //! Laws of the tree of nodes.
 
-ghost use Rattle.nf_laws.specs.Tree.{UnderIsDerived, NodesArePresent, NothingIsTrashed, PresentIsThere, NamesAreTaken, DepthIsClimbed, NoRings, ChildrenAreByName, WalksTakeAllUnder, SizesAreSums};
+ghost use Rattle.nf_laws.specs.Tree.{UnderIsDerived, NodesArePresent, PresentIsThere, SharedIsPresent, PathsLeadToPresent, NamesAreTaken, DepthIsClimbed, NoRings, ChildrenAreByName, WalksTakeAllUnder, SizesAreSums};
 
 /// A node is under a top where folders lead up to it, however many.
 #[tactic(auto, using(crate::proofs::Upwards::under_derived))]
@@ -14,15 +14,22 @@ pub fn nodes_are_present()
     ensures { NodesArePresent }
 {}
 
-/// Nothing is in the trash of sound tables yet.
-pub fn nothing_is_trashed()
-    ensures { NothingIsTrashed }
-{}
-
 /// A node is there exactly where it is under a user's root, and so under a root, or in the trash, and never both.
 #[tactic(auto, using(crate::proofs::Presence::present_there))]
 pub fn present_is_there()
     ensures { PresentIsThere }
+{}
+
+/// A share that isn't ended is of a node under a user's root: nothing in the trash is shared.
+#[tactic(auto, using(crate::proofs::Presence::shared_present))]
+pub fn shared_is_present()
+    ensures { SharedIsPresent }
+{}
+
+/// A path that is reached and leads to a node leads to one under a user's root: no path leads into the trash.
+#[tactic(auto, using(crate::proofs::Presence::paths_present))]
+pub fn paths_lead_to_present()
+    ensures { PathsLeadToPresent }
 {}
 
 /// A folder's taken names are those by which it has a child.

@@ -13,6 +13,7 @@ ghost use Rattle.std.specs.Prelude.{◌≡◌};
 
 pub use asked::{is_ocs_route, read};
 use nf_words::Denial;
+pub use parameters::number_in;
 use std::alloc::AllocError;
 pub use told::{plain_text, share_text, shares_text};
 

@@ -64,7 +64,8 @@ fn is_empty(text: &Option<Text>) -> bool
     }
 }
 
-fn number_in(text: &[u8]) -> Option<u64>
+/// A number of 1 to 19 digits, the first of several no zero.
+pub fn number_in(text: &[u8]) -> Option<u64>
     ensures { result ≡ number_of text.now }
 {
     if begins_with_zero(text) {

@@ -4,13 +4,13 @@ ghost use Rattle.std.specs.Prelude.{◌≡◌, not, nat_lt, true};
 ghost use Rattle.std.specs.Option.{option_map_or};
 ghost use Rattle.nf_base.specs.declared.rows.Row.TheVariants as rows;
 ghost use Rattle.nf_defs.specs.Tables.{tables_of};
-ghost use Rattle.nf_rules.specs.Rules.{are_counters, are_numbers, are_share_numbers, first_index, has_ungiven_blob, is_given, is_lavish, is_place_given, is_recipient_given};
+ghost use Rattle.nf_rules.specs.Rules.{are_counters, are_item_numbers, are_numbers, are_share_numbers, first_index, has_ungiven_blob, is_given, is_lavish, is_place_given, is_recipient_given};
 ghost use Rattle.nf_words.specs.Prelude.{is_end_moment, is_later};
 
 use crate::first::first;
 use nf_base::{
-    BlobId, MAX_QUOTA, MetaRow, Moment, NodeId, NodeRow, Piece, Place, Row, ShareId, ShareKind,
-    ShareRow,
+    BlobId, ItemRow, MAX_QUOTA, MetaRow, Moment, NodeId, NodeRow, Piece, Place, Row, ShareId,
+    ShareKind, ShareRow,
 };
 
 /// The seconds of a day.
@@ -37,8 +37,9 @@ fn is_later(row: &Row) -> bool
         | Row::Member(_)
         | Row::Node(_)
         | Row::Share(_)
-        | Row::Mount(_) => false,
-        Row::Version(_) | Row::Item(_) | Row::Upload(_) | Row::Chunk(_) => true,
+        | Row::Mount(_)
+        | Row::Item(_) => false,
+        Row::Version(_) | Row::Upload(_) | Row::Chunk(_) => true,
     }
 }
 
@@ -73,6 +74,7 @@ fn are_numbers(meta: &MetaRow, row: &Row) -> bool
             is_given(next_user, u64::from(row.user.number()))
                 && is_given(meta.next_node.number(), row.node.number())
         }
+        Row::Item(row) => are_item_numbers(meta, row),
         _ => true,
     }
 }
@@ -102,6 +104,18 @@ fn are_share_numbers(meta: &MetaRow, row: &ShareRow) -> bool
         && is_parent_given(meta.next_share, row.parent)
         && is_end(row.until)
         && row.made <= meta.last
+}
+
+fn are_item_numbers(meta: &MetaRow, row: &ItemRow) -> bool
+    ensures { result ≡ are_item_numbers meta.now row.now }
+{
+    is_given(meta.next_node.number(), row.node.number())
+        && is_given(
+            u64::from(meta.next_user.number()),
+            u64::from(row.owner.number()),
+        )
+        && is_given(meta.next_node.number(), row.from.number())
+        && row.at <= meta.last
 }
 
 fn is_recipient_given(meta: &MetaRow, to: &ShareKind) -> bool

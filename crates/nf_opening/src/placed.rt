@@ -1,16 +1,16 @@
-//! The rule that users have their roots and that nodes lead to them or into the trash.
+//! The rule that users have their roots, that nodes lead to them or into the trash, and that items are of what is in the trash.
 
 ghost use Rattle.std.specs.Prelude.{◌≡◌, not, option_copied};
 ghost use Rattle.nf_base.specs.declared.rows.Row.TheVariants as rows;
 ghost use Rattle.nf_defs.specs.Prelude.{AreRising, tables_of};
-ghost use Rattle.nf_rules.specs.Rules.{first_index, is_placed, is_root_of, leads};
+ghost use Rattle.nf_rules.specs.Rules.{first_index, is_folder_for, is_from_kept, is_item_kept, is_placed, is_root_of, is_trashed_as, leads};
 ghost use Rattle.nf_opening.specs.Ways.{folder_above, is_own_top};
 
 use crate::Loaded;
 use crate::first::first;
-use nf_base::{MAX_DEPTH, NodeKind, NodeRow, Place, Row, UserRow};
+use nf_base::{ItemRow, MAX_DEPTH, NodeKind, NodeRow, Place, Row, UserRow};
 
-/// The first user who has no root, or node that leads neither to one nor into the trash.
+/// The first user who has no root, node that leads neither to one nor into the trash, or item of what isn't in its owner's trash.
 pub(crate) fn first_astray(loaded: &Loaded, rows: &[Row]) -> Option<usize>
     requires tables { loaded.now ≡ tables_of rows.now }
     requires rising { AreRising loaded.now }
@@ -26,6 +26,7 @@ fn is_placed(loaded: &Loaded, row: &Row) -> bool
     match row {
         Row::User(row) => has_root(loaded, row),
         Row::Node(row) => leads(loaded, row),
+        Row::Item(row) => is_item_kept(loaded, row),
         _ => true,
     }
 }
@@ -93,4 +94,39 @@ fn is_own_top(loaded: &Loaded, node: &NodeRow) -> bool
         Place::Inside(_) => false,
         Place::Trash => loaded.user(node.owner).is_some() && loaded.has_item(node.id),
     }
+}
+
+/// Whether the item's node is in its owner's trash, and the folder that it was in is gone or a folder of the owner's.
+fn is_item_kept(loaded: &Loaded, item: &ItemRow) -> bool
+    requires { AreRising loaded.now }
+    ensures { result ≡ is_item_kept loaded.now item.now }
+{
+    match loaded.node(item.node) {
+        Some(node) => is_trashed_as(item, node) && is_from_kept(loaded, item),
+        None => false,
+    }
+}
+
+/// Whether the node is in the trash of the item's owner.
+fn is_trashed_as(item: &ItemRow, node: &NodeRow) -> bool
+    ensures { result ≡ is_trashed_as item.now node.now }
+{
+    node.place == Place::Trash && node.owner == item.owner
+}
+
+fn is_from_kept(loaded: &Loaded, item: &ItemRow) -> bool
+    requires { AreRising loaded.now }
+    ensures { result ≡ is_from_kept loaded.now item.now }
+{
+    match loaded.node(item.from) {
+        Some(from) => is_folder_for(item, from),
+        None => true,
+    }
+}
+
+/// Whether the node is a folder of the item's owner.
+fn is_folder_for(item: &ItemRow, from: &NodeRow) -> bool
+    ensures { result ≡ is_folder_for item.now from.now }
+{
+    from.kind == NodeKind::Folder && from.owner == item.owner
 }

@@ -6,7 +6,7 @@ use Rattle.std.specs.Io.KnownBytes.{Appends}
 use Rattle.nf_base.specs.Content.{size_of}
 use Rattle.nf_base.specs.declared.content.Piece.{Piece}
 use Rattle.nf_dav.specs.Asked.{request_of}
-use Rattle.nf_dav.specs.Reply.{file_head, refusal_reply, done_reply, listing_reply, made_reply, plain_reply, share_reply, shares_reply}
+use Rattle.nf_dav.specs.Reply.{file_head, refusal_reply, done_reply, items_reply, listing_reply, made_reply, plain_reply, share_reply, shares_reply}
 use Rattle.nf_dav.specs.declared.replies.Manner.{Manner}
 use Rattle.nf_http.specs.Bodies.{TakesBody}
 use Rattle.nf_http.specs.Head.{Head, closes_session}
@@ -110,6 +110,7 @@ SaysWord front close reply.Done a b = Appends a.output b.output (front ++ done_r
 SaysWord front close (reply.Listing lines) a b = Appends a.output b.output (front ++ listing_reply close lines)
 SaysWord front close (reply.Share line) a b = Appends a.output b.output (front ++ share_reply close line)
 SaysWord front close (reply.Shares lines) a b = Appends a.output b.output (front ++ shares_reply close lines)
+SaysWord front close (reply.Items lines) a b = Appends a.output b.output (front ++ items_reply close lines)
 SaysWord front close reply.Plain a b = Appends a.output b.output (front ++ plain_reply close)
 SaysWord front close reply.Closed a b = ⊥
 SaysWord front close (reply.Granted goal) a b = ⊥
@@ -135,6 +136,8 @@ word_written {C} front close last way answered v a x y b closes fronts is writes
         subst (λ (c : Bool). Appends a.output b.output (front ++ share_reply c line)) closes (fronts _ (so (response.Share line) is).bytes_are)
     here (reply.Shares lines) is =
         subst (λ (c : Bool). Appends a.output b.output (front ++ shares_reply c lines)) closes (fronts _ (so (response.Shares lines) is).bytes_are)
+    here (reply.Items lines) is =
+        subst (λ (c : Bool). Appends a.output b.output (front ++ items_reply c lines)) closes (fronts _ (so (response.Items lines) is).bytes_are)
     here reply.Plain is = subst (λ (c : Bool). Appends a.output b.output (front ++ plain_reply c)) closes (fronts _ (so response.Plain is).bytes_are)
     here reply.Closed never = absurd never
     here (reply.Granted goal) never = absurd never
@@ -207,6 +210,7 @@ module _ {C : Type 0} (reads : C → Taken → C → Type 0) (last : Bool) (head
       says (Ok (reply.Listing lines)) never is = absurd never
       says (Ok (reply.Share line)) never is = absurd never
       says (Ok (reply.Shares lines)) never is = absurd never
+      says (Ok (reply.Items lines)) never is = absurd never
       says (Ok reply.Plain) never is = absurd never
       says (Ok word) of is =
           word_written (invitation head) (last || closes_session head) last way word v a k s b (close_is last (closes_session head)) fronts is writes

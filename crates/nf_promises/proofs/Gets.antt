@@ -15,7 +15,7 @@ use Rattle.nf_dav.specs.Reply.{file_head, refusal_reply}
 use Rattle.nf_dav.specs.declared.replies.Manner.{Manner}
 use Rattle.nf_http.specs.Head.{Head, closes_session, expects_continue, length_of}
 use Rattle.nf_words.proofs.Steps.{put_grants_nothing, reports_nothing}
-use Rattle.nf_words.specs.Prelude.{answer_at, answer_to, answered_by, blob_for, changes_by, changes_to, content_in, decision_of, MayBear, State}
+use Rattle.nf_words.specs.Prelude.{answer_at, answered_by, answer_to, blob_for, changes_by, changes_to, content_in, decision_of, is_about_files, MayBear, State}
 use Rattle.nf_words.specs.History.{HasBody}
 use Rattle.nf_words.specs.declared.answer.Allowed.{Allowed}
 use Rattle.nf_words.specs.declared.answer.Allowed.TheVariants as allowed
@@ -54,13 +54,13 @@ use Rattle.nf_promises.proofs.Putting.{content_of_body}
 use Rattle.nf_promises.proofs.Puts.{IsKept, Keeps}
 use Rattle.nf_promises.proofs.Touches.{starts_other}
 use Rattle.nf_promises.specs.Kept.{AreOfBody, FailsStore, IsWritten, OnlyOwn, ShowsDamage, get_of, plainly, waits}
-use Rattle.nf_dav.proofs.Asked.{asked_no_head, asked_no_ocs, is_of_ocs_api}
+use Rattle.nf_dav.proofs.Asked.{asked_no_head, asked_no_ocs}
 
 pub record IsPlain (way : Way) : Type 0 where
   pub ocs : way.ocs ≡ false
   pub head_only : way.head_only ≡ false
 
-pub asked_plain : (head : Head) (begun : Begun) (request : Request) → request_of head [] ≡ Ok request → is_of_ocs_api request.wanted ≡ false
+pub asked_plain : (head : Head) (begun : Begun) (request : Request) → request_of head [] ≡ Ok request → is_about_files request.wanted ≡ true
     → IsPlain (way_of head begun)
 asked_plain head begun request asked other = record {
   ocs = asked_no_ocs head [] request asked other;
@@ -70,7 +70,7 @@ asked_plain head begun request asked other = record {
 never_early : (n : ℕ) → (nat_lt 0 n && nat_le n 0) ≡ false
 never_early n = grind (arith, nat_tests)
 
-pub asked_not_early : (head : Head) (request : Request) → request_of head [] ≡ Ok request → is_of_ocs_api request.wanted ≡ false
+pub asked_not_early : (head : Head) (request : Request) → request_of head [] ≡ Ok request → is_about_files request.wanted ≡ true
     → is_early head ≡ false
 asked_not_early head request asked other =
     ap (λ (ocs : Bool). nat_lt 0 (length_of head) && nat_le (length_of head) (if ocs then MAX_OCS_BODY else 0)) (asked_no_ocs head [] request asked other)
@@ -88,6 +88,7 @@ serves_nothing : (t : Tables) (now : ℕ) (d : Result Allowed Denial) (content :
     → changes_by t now d ≡ []
 serves_nothing t now (Ok (allowed.Get node other)) content is = refl
 serves_nothing t now (Ok (allowed.Change changes blob report)) content is = absurd (reports_nothing report (Serve content) (cc))
+serves_nothing t now (Ok (allowed.Trash did gone report)) content is = absurd (reports_nothing report (Serve content) (cc))
 serves_nothing t now (Ok (allowed.Move transfer name)) content is = absurd (put_grants_nothing transfer.replaced (Serve content) (cc))
 serves_nothing t now (Ok (allowed.Copy rows replaced)) content is = absurd (put_grants_nothing replaced (Serve content) (cc))
 serves_nothing t now (Ok (allowed.Cross rows replaced node)) content is = absurd (put_grants_nothing replaced (Serve content) (cc))

@@ -1,5 +1,5 @@
 -- What a PUT that was stored makes of the state, and of a GET of its path behind it.
-use Rattle.std.proofs.Common.{ℕ, ◌-◌, ◌≡◌, inl, inr, ◌&&◌, ◌||◌, false, true, List, [], ◌∷◌, ◌++◌, length, Option, None, Some, Result, Ok, is_some, slice_get, unwrap_or, get_or, if◌then◌else◌, refl, sym, ap, subst, ◌∙◌, arith, length-append}
+use Rattle.std.proofs.Common.{ℕ, ◌-◌, ◌≡◌, ◌&&◌, ◌||◌, false, true, List, [], ◌∷◌, ◌++◌, length, Option, None, Some, Result, Ok, is_some, slice_get, unwrap_or, get_or, if◌then◌else◌, refl, sym, ap, subst, ◌∙◌, arith, length-append}
 use Rattle.std.specs.Prelude.{IsOk, bytes_eq}
 use Rattle.std.specs.List.{list_all}
 use Rattle.std.specs.Option.{option_and_then, option_map_or}
@@ -12,11 +12,10 @@ use Rattle.nf_base.specs.declared.rows.UserRow.{UserRow}
 use Rattle.nf_defs.specs.Prelude.{Access, found_from, holder_of, Leads, Tables, user_row}
 use Rattle.nf_defs.specs.declared.Found.{Found}
 use Rattle.nf_defs.specs.declared.Found.TheVariants.{At, Free, Missing}
-use Rattle.nf_laws.proofs.Allowing.{changes_allowed}
+use Rattle.nf_laws.proofs.Allowing.{changes_allowed, end_allowed}
 use Rattle.nf_laws.proofs.Paths.{found_free, found_leads}
 use Rattle.nf_laws.proofs.Reading.{stored_free, stored_is_read}
 use Rattle.nf_laws.proofs.Stays.{sound_after}
-use Rattle.nf_laws.specs.Access.{ChangesAllowed, NodesAllowed}
 use Rattle.nf_laws.specs.Reads.{IsFreeToRead, IsLetRead, IsReadBy, IsStored, LeadsToKey}
 use Rattle.nf_words.proofs.Passing.{Passes, call_passes}
 use Rattle.nf_words.proofs.Starts.{no_link_shown, none_unlinked, unlinked_root}
@@ -33,17 +32,15 @@ use Rattle.nf_words.specs.declared.answer.Goal.TheVariants.{Serve, Store}
 use Rattle.nf_words.specs.declared.answer.LockKey.{LockKey}
 use Rattle.nf_words.specs.declared.answer.LockKey.TheVariants.{Node, Slot}
 use Rattle.nf_words.specs.declared.answer.Reply.{Reply}
-use Rattle.nf_words.specs.declared.answer.Reply.TheVariants.{Made, Done, Closed, Granted, Listing, Share, Shares, Plain}
+use Rattle.nf_words.specs.declared.answer.Reply.TheVariants.{Made, Done, Closed, Granted, Items, Listing, Share, Shares, Plain}
 use Rattle.nf_words.specs.declared.history.Entry.{Entry}
 use Rattle.nf_words.specs.declared.history.Event.{Event}
-use Rattle.nf_words.specs.declared.history.Event.TheVariants.{Begin, End}
+use Rattle.nf_words.specs.declared.history.Event.TheVariants.{Begin}
 use Rattle.nf_words.specs.declared.history.Mark.{Mark}
 use Rattle.nf_words.specs.declared.history.Mark.TheVariants as mark
-use Rattle.nf_words.specs.declared.history.Outcome.{Outcome}
 use Rattle.nf_words.specs.declared.history.Outcome.TheVariants.{Body}
 use Rattle.nf_words.specs.declared.request.Caller.{Caller}
 use Rattle.nf_words.specs.declared.request.Caller.TheVariants.{Absent, Link, Token}
-use Rattle.nf_words.specs.declared.request.Request.{Request}
 use Rattle.nf_words.specs.declared.request.Spot.{Spot}
 use Rattle.nf_words.specs.declared.request.Words.{Words}
 use Rattle.nf_session.specs.Book.{event_of_body}
@@ -72,6 +69,7 @@ put_only : (d : Result Allowed Denial) (by : By) (key : LockKey) (size : ℕ) �
     → d ≡ Ok (allowed.Put by key size)
 put_only (Ok (allowed.Put who at length)) by key size is = cc
 put_only (Ok (allowed.Change changes blob report)) by key size is = absurd (reports_nothing report (Store by key size) (cc))
+put_only (Ok (allowed.Trash did gone report)) by key size is = absurd (reports_nothing report (Store by key size) (cc))
 put_only (Ok (allowed.Move transfer name)) by key size is = absurd (put_grants_nothing transfer.replaced (Store by key size) (cc))
 put_only (Ok (allowed.Copy rows replaced)) by key size is = absurd (put_grants_nothing replaced (Store by key size) (cc))
 put_only (Ok (allowed.Cross rows replaced node)) by key size is = absurd (put_grants_nothing replaced (Store by key size) (cc))
@@ -86,6 +84,7 @@ IsOfPut Done = ⊥
 IsOfPut (Listing lines) = ⊥
 IsOfPut (Share line) = ⊥
 IsOfPut (Shares lines) = ⊥
+IsOfPut (Items lines) = ⊥
 IsOfPut Plain = ⊥
 
 stored_replies : (by : By) (name : List ℕ) (n : ℕ) (place : Found) → IsOfPut (reply_to (stored by name n (Some place)))
@@ -244,14 +243,6 @@ pub record IsGot (s : State) (e : Entry) (caller : Caller) (spot : Spot) (body :
       → answer_to (after s e) seat now (Begin words (get_of caller spot)) ≡ Ok (Granted (Serve (content_of_body s body)))
   pub blob : blob_to s e.seat e.moment e.event ≡ blob_for s.tables.meta.next_blob (length body)
 
--- an End changes no user, no group, no token and no member
-ends_nodes : (s : State) (e : Entry) (t : Tables) (outcome : Outcome) → e.event ≡ End outcome → ChangesAllowed s e t → NodesAllowed s e t
-ends_nodes s e t outcome is (inl nodes) = nodes
-ends_nodes s e t outcome is (inr provides) = absurd (here provides.words provides.request (sym is ∙ provides.begins))
-  where
-    here : (words : Words) (request : Request) → End outcome ≡ Begin words request → ⊥
-    here words request same = cc
-
 pub put_is_got : (count more : ℕ) (s : State) (first second : Entry) (words : Words) (caller : Caller) (spot : Spot) (n : ℕ)
     (by : By) (key : LockKey) (size : ℕ) (body : List ℕ) → IsSound s → GoesByNoMount s caller spot
     → MayCome count s first → first.event ≡ Begin words (put_of caller spot n)
@@ -265,7 +256,7 @@ put_is_got count more s first second words caller spot n by key size body sound 
     let granted = put_granted count s first words caller spot n by key size sound own may_first event_first granted_is in
     let sound_middle : IsSound middle = sound_after count s first sound may_first in
     let changes =
-    ends_nodes middle second (after middle second).tables (Body (sha256 body) (length body)) event (changes_allowed more middle second sound_middle may) in
+    end_allowed middle second (after middle second).tables (Body (sha256 body) (length body)) event (changes_allowed more middle second sound_middle may) in
     let marked : second.mark ≡ mark.Answered = ok_marked middle second ok in
     let accepted : IsOk (answer_to middle second.seat second.moment second.event) =
     subst (λ (m : Mark). IsOk (answer_at middle second m)) marked ok in

@@ -9,13 +9,14 @@ use Rattle.nf_session.specs.declared.ended.Ended.{Ended}
 use Rattle.nf_session.specs.declared.response.Response.{Response}
 use Rattle.nf_session.specs.declared.response.Response.TheVariants as response
 
--- the answer's status is below 300: something was made or done, or shares, a folder or a file are told
+-- the answer's status is below 300: something was made or done, or shares, the trash, a folder or a file are told
 abbrev pub IsBelow300 : Response → Type 0
 IsBelow300 response.Made = Unit {0}
 IsBelow300 response.Done = Unit {0}
 IsBelow300 (response.Listing lines) = Unit {0}
 IsBelow300 (response.Share line) = Unit {0}
 IsBelow300 (response.Shares lines) = Unit {0}
+IsBelow300 (response.Items lines) = Unit {0}
 IsBelow300 response.Plain = Unit {0}
 IsBelow300 (response.File content first) = Unit {0}
 IsBelow300 (response.Denied refusal) = ⊥

@@ -40,6 +40,7 @@ SaysStored response.Done = Unit {0}
 SaysStored (response.Listing lines) = ⊥
 SaysStored (response.Share line) = ⊥
 SaysStored (response.Shares lines) = ⊥
+SaysStored (response.Items lines) = ⊥
 SaysStored response.Plain = ⊥
 SaysStored (response.Denied refusal) = ⊥
 SaysStored (response.Lost fault) = ⊥

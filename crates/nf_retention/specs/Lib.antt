@@ -1,4 +1,4 @@
 pub mod Thinning
 pub mod Budget
-pub mod Trash
 pub mod Laws
+pub mod Trash

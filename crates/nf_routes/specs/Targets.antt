@@ -1,5 +1,5 @@
 -- The path of a target and its segments (RFC 3986, sections 2.1, 3.3 and 3.4; RFC 9112, section 3.2).
-use Rattle.std.specs.Prelude.{ℕ, ◌+◌, ◌-◌, Bool, ◌==◌, if◌then◌else◌, List, [], length, map, take, drop, codes, bytes_eq, position, Option, None, Some, is_some, option_map, option_and_then}
+use Rattle.std.specs.Prelude.{ℕ, ◌+◌, ◌-◌, Bool, ◌==◌, if◌then◌else◌, List, [], length, map, take, drop, codes, bytes_eq, position, Option, None, Some, is_some, option_map, option_and_then, ◌∷◌, ◌&&◌, false}
 use Rattle.std.specs.List.{before_first, slice_split}
 use Rattle.std.specs.Option.{option_map_or, option_or}
 use Rattle.percent_encoding.specs.Percent.{percent_decode}
@@ -62,6 +62,22 @@ abbrev pub user_segment : List ℕ → List ℕ
 user_segment target =
     option_map_or (λ rest. percent_decode (before_first is_slash rest))
     (option_and_then (behind (codes "/ocs/v2.php/cloud/users/")) (target_path target)) []
+
+-- what is behind the words of the trash bin
+abbrev pub behind_trashbin : List ℕ → Option (List ℕ)
+behind_trashbin target = option_and_then (behind (codes "/remote.php/dav/trashbin/")) (target_path target)
+
+-- the decoded segments there: the name of a user, a word, and the number of an item; none of any other target
+abbrev pub trash_segments : List ℕ → List (List ℕ)
+trash_segments target = option_map_or decoded_segments (behind_trashbin target) []
+
+-- the segments there of what a user's items come back to: the name, a word as it was sent, and whatever else
+abbrev pub is_restore_of : List ℕ → List (List ℕ) → Bool
+is_restore_of user (name ∷ word ∷ any ∷ []) = bytes_eq word (codes "restore") && bytes_eq (percent_decode name) user
+is_restore_of user other = false
+
+abbrev pub restores : List ℕ → List ℕ → Bool
+restores user target = option_map_or (λ rest. is_restore_of user (slice_split is_slash rest)) (behind_trashbin target) false
 
 -- the query: what is behind the first `?` (RFC 3986, section 3.4)
 abbrev pub query_of : List ℕ → List ℕ

@@ -7,4 +7,6 @@ mod targets;
 
 pub use methods::{Method, allow, method_of, takes};
 pub use mounts::Routes;
-pub use targets::{is_ocs, pieces, query, segments, share_segment, user_segment};
+pub use targets::{
+    is_ocs, pieces, query, restores, segments, share_segment, trash_segments, user_segment,
+};

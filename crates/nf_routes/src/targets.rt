@@ -3,7 +3,7 @@
 ghost use Rattle.std.specs.Prelude.{◌≡◌, ◌<◌, IfOk, IfSome, codes, length, map, option_and_then, option_copied, position};
 ghost use Rattle.std.specs.List.{before_first, slice_split};
 ghost use Rattle.percent_encoding.specs.Percent.{percent_decode};
-ghost use Rattle.nf_routes.specs.Targets.{behind, behind_files as in_files, from_slash, is_ocs as begins_with_ocs, is_question, is_slash, path_in, query_of, segments_of, share_segment as segment_of_share, target_path, user_segment as segment_of_user, whole_path, without_slash};
+ghost use Rattle.nf_routes.specs.Targets.{behind, behind_files as in_files, behind_trashbin as in_trashbin, decoded_segments, from_slash, is_ocs as begins_with_ocs, is_question, is_slash, path_in, query_of, is_restore_of, restores, segments_of, share_segment as segment_of_share, target_path, trash_segments as segments_of_trash, user_segment as segment_of_user, whole_path, without_slash};
 
 use std::alloc::{AllocError, Global};
 
@@ -15,6 +15,8 @@ const SHARES: &[u8] = b"/ocs/v2.php/apps/files_sharing/api/v1/shares/";
 
 const USERS: &[u8] = b"/ocs/v2.php/cloud/users/";
 
+const TRASHBIN: &[u8] = b"/remote.php/dav/trashbin/";
+
 const OCS: &[u8] = b"/ocs/v2.php/";
 
 /// The segments of the path of a file, the name of a user or the token of a link first; none of any other target.
@@ -22,11 +24,50 @@ const OCS: &[u8] = b"/ocs/v2.php/";
 pub fn segments(alloc: Global, target: &[u8]) -> Result<Vec<Vec<u8>>, AllocError>
     ensures { IfOk result (λ segments. map (λ segment. segment.items) segments.items ≡ segments_of target.now) }
 {
-    let mut segments = Vec::new(alloc);
-    let Some(rest) = behind_files(target) else {
-        return Ok(segments);
+    match behind_files(target) {
+        Some(rest) => decoded_pieces(alloc, rest),
+        None => Ok(Vec::new(alloc)),
+    }
+}
+
+/// The segments of a path in the trash bin, decoded: the name of a user, a word, and the number of an item; none of any other target.
+pub fn trash_segments(alloc: Global, target: &[u8]) -> Result<Vec<Vec<u8>>, AllocError>
+    ensures { IfOk result (λ segments. map (λ segment. segment.items) segments.items ≡ segments_of_trash target.now) }
+{
+    match behind_trashbin(target) {
+        Some(rest) => decoded_pieces(alloc, rest),
+        None => Ok(Vec::new(alloc)),
+    }
+}
+
+/// Whether a target names what items of that user's come back to: `/remote.php/dav/trashbin/USER/restore/ANY`.
+pub fn restores(alloc: Global, user: &[u8], target: &[u8]) -> Result<bool, AllocError>
+    ensures { IfOk result (λ is. is ≡ restores user.now target.now) }
+{
+    let Some(rest) = behind_trashbin(target) else {
+        return Ok(false);
     };
     let pieces = pieces(alloc, rest)?;
+    is_restore_of(alloc, user, &pieces)
+}
+
+fn is_restore_of(alloc: Global, user: &[u8], segments: &[&[u8]]) -> Result<bool, AllocError>
+    ensures { IfOk result (λ is. is ≡ is_restore_of user.now (map (λ segment. segment.now) segments.now)) }
+{
+    match segments {
+        [name, word, _] if *word == b"restore".as_slice() => {
+            Ok(decoded(alloc, name)?.as_slice() == user)
+        }
+        _ => Ok(false),
+    }
+}
+
+// The pieces between the slashes, each decoded then.
+fn decoded_pieces(alloc: Global, path: &[u8]) -> Result<Vec<Vec<u8>>, AllocError>
+    ensures { IfOk result (λ segments. map (λ segment. segment.items) segments.items ≡ decoded_segments path.now) }
+{
+    let mut segments = Vec::new(alloc);
+    let pieces = pieces(alloc, path)?;
     for piece in &pieces {
         segments.push(decoded(alloc, piece)?)?;
     }
@@ -96,6 +137,13 @@ fn behind_users(target: &[u8]) -> Option<&[u8]>
     ensures { option_copied result ≡ option_and_then (behind (codes "/ocs/v2.php/cloud/users/")) (target_path target.now) }
 {
     target_path(target)?.strip_prefix(USERS)
+}
+
+// What is behind the words of the trash bin.
+fn behind_trashbin(target: &[u8]) -> Option<&[u8]>
+    ensures { option_copied result ≡ in_trashbin target.now }
+{
+    target_path(target)?.strip_prefix(TRASHBIN)
 }
 
 fn before_slash(path: &[u8]) -> &[u8]

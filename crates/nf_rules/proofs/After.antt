@@ -1,8 +1,10 @@
 -- A share that keeps the rules keeps them in sound tables that come after, ended or not.
-use Rattle.std.proofs.Common.{◌≡◌, ℕ, zero, suc, ◌≤◌, ◌<◌, ◌==◌, ◌||◌, Bool, true, false, List, [], ◌∷◌, Option, None, Some, option_map, inl, inr, refl, sym, ap, ◌∙◌, arith}
+use Rattle.std.proofs.Common.{◌≡◌, ℕ, zero, suc, ◌≤◌, ◌<◌, ◌==◌, ◌||◌, Bool, true, false, List, [], ◌∷◌, Option, None, Some, option_map, inl, inr, refl, sym, ap, subst, ◌∙◌, arith}
 use Rattle.std.specs.Prelude.{if◌then◌else◌, is_some, nat_lt}
+use Rattle.std.specs.List.{All}
 use Rattle.std.specs.Option.{IfSome, option_and_then, option_map_or}
 use Rattle.std.proofs.lemmas.Bool.{and_from, and_parts, eq-eqb, eqb-true, false≢true, le-ltb, lt-ltb, not_from_false}
+use Rattle.std.proofs.lemmas.List.Elements.{All-weaker}
 use Rattle.nf_access.proofs.Chains.{within_lost}
 use Rattle.nf_access.specs.Shares.{chain_up, chain_within, share_row}
 use Rattle.nf_base.specs.declared.limits.TheConstants.{MAX_CHAIN}
@@ -11,23 +13,39 @@ use Rattle.nf_base.specs.declared.rows.NodeRow.{NodeRow}
 use Rattle.nf_base.specs.declared.rows.ShareKind.{ShareKind}
 use Rattle.nf_base.specs.declared.rows.ShareKind.TheVariants as to
 use Rattle.nf_base.specs.declared.rows.ShareRow.{ShareRow}
+use Rattle.nf_base.specs.declared.rows.UserRow.{UserRow}
 use Rattle.nf_defs.proofs.Climbs.{climb_under}
-use Rattle.nf_defs.specs.Prelude.{depth, is_root_place, node_row, Tables}
+use Rattle.nf_defs.specs.Prelude.{depth, is_root_place, node_row, Tables, user_row}
 use Rattle.nf_laws.proofs.Climbs.{some_there}
-use Rattle.nf_words.proofs.Found.{found_passes}
-use Rattle.nf_laws.proofs.Upwards.{climbs_own, nothing_trashed}
+use Rattle.nf_laws.proofs.Present.{never_trash}
+use Rattle.nf_laws.proofs.Rows.{found_is}
+use Rattle.nf_laws.proofs.Upwards.{climbs_own}
 use Rattle.nf_laws.specs.Numbers.{AreHigher}
-use Rattle.nf_laws.specs.Tree.{IsTrashed}
+use Rattle.nf_words.proofs.Found.{found_passes}
+use Rattle.nf_words.proofs.Ways.{present_row}
 use Rattle.nf_words.specs.Others.{IsKindSound, IsOfNode, IsShareSound}
-use Rattle.nf_words.specs.Prelude.{AreSound, root_of_user}
-use Rattle.nf_rules.specs.Ruled.{IsGiven, IsShareRuled}
-use Rattle.nf_rules.specs.Rules.{are_share_names_there, are_share_numbers, is_given, is_in_root, is_linked, is_node, is_of_node, is_recipient_given, is_recipient_there, is_share, is_share_kept}
+use Rattle.nf_words.specs.Prelude.{AreSound, LeadsToRoot, root_of_user}
+use Rattle.nf_rules.specs.Ruled.{AreRuled, IsGiven, IsShareRuled, IsUserRuled}
+use Rattle.nf_rules.specs.Rules.{are_share_names_there, are_share_numbers, is_given, is_in_root, is_linked, is_node, is_of_node, is_recipient_given, is_recipient_there, is_share, is_share_kept, is_user}
 use Rattle.nf_rules.proofs.Shares.{given, is_given_from}
 
 -- ---- numbers
 
 pub still_given : (next more id : ℕ) → next ≤ more → IsGiven next id → IsGiven more id
 still_given next more id up given = record { first = given.first; below = omega (arith, given.below) }
+
+-- a user who is there was given, where all were
+pub user_given : (t : Tables) (next user : ℕ) → All (λ (row : UserRow). IsGiven next row.id) t.users → is_user t user ≡ true → IsGiven next user
+user_given t next user users is =
+    let there = some_there (user_row t.users user) is in
+    let found = found_is (λ (row : UserRow). IsGiven next row.id) (λ (row : UserRow). row.id == user) t.users there.0 users there.1 in
+    subst (IsGiven next) (eqb-true there.0.id user found.0) found.1
+
+-- as they were in tables that keep the rules
+pub user_was : (t : Tables) (user : ℕ) → AreRuled t → is_user t user ≡ true → IsGiven t.meta.next_user user
+user_was t user h =
+    user_given t t.meta.next_user user
+    (All-weaker (IsUserRuled t) (λ (row : UserRow). IsGiven t.meta.next_user row.id) (λ row own. own.id) t.users h.users)
 
 given_up : (next more id : ℕ) → next ≤ more → is_given next id ≡ true → is_given more id ≡ true
 given_up next more id up is = is_given_from more id (still_given next more id up (given next id is))
@@ -115,7 +133,7 @@ names_there t row sound above =
     (and_from _ _
     (and_from _ _ (and_from _ _ sound.owner sound.initiator) (recipient_there t row.kind sound.kind))
     (parent_there t row row.parent above))
-    (unless_ended row.ended (is_node t row.node) sound.present)
+    (unless_ended row.ended (is_node t row.node) (λ live. ap is_some (present_row t.nodes row.node (sound.present live)).1))
 
 -- ---- shares
 
@@ -127,22 +145,14 @@ linked t row sound above = and_from _ _ (earlier row.parent sound.parent above) 
     earlier None less above = above
     earlier (Some parent) less above = lt-ltb parent row.id less
 
--- what is there leads to its owner's root: nothing is in the trash yet
-in_root : (t : Tables) (of : NodeRow) → AreSound t → node_row t.nodes of.id ≡ Some of → is_in_root t of ≡ true
-in_root t of sound there =
+-- what leads to a root leads to its owner's
+in_root : (t : Tables) (of : NodeRow) → AreSound t → LeadsToRoot t.nodes of.id → node_row t.nodes of.id ≡ Some of → is_in_root t of ≡ true
+in_root t of sound up there =
     let c = climbs_own t of sound there in
-    let under : (top : ℕ) → c.top.id ≡ top → _ =
-    λ top is. climb_under (depth t.nodes of.id) t.nodes of.id top c.shallow (c.climbs ∙ ap Some is) in
     elim c.place [
-      | inl root ↦ under (root_of_user t of.owner) root.1
-      | inr trash ↦
-          let is : IsTrashed t.nodes of.id = record {
-            top = c.top;
-            there = c.there;
-            place = trash;
-            owner = c.owner ∙ sym (ap (λ (o : Option NodeRow). option_map_or (λ row. row.owner) o 0) there);
-            under = under c.top.id refl;
-          } in absurd (nothing_trashed t of.id sound is)
+      | inl root ↦
+          climb_under (depth t.nodes of.id) t.nodes of.id (root_of_user t of.owner) c.shallow (c.climbs ∙ ap Some root.1)
+      | inr trash ↦ absurd (never_trash (depth t.nodes of.id) t.nodes of.id c.top.id c.top up c.climbs c.there trash)
     ]
 
 of_node_is : (row : ShareRow) (of : NodeRow) → IsOfNode row of → is_of_node row of ≡ true
@@ -157,9 +167,10 @@ kept t row sound own above =
   where
     rooted : row.ended ≡ false → option_map_or (is_in_root t) (node_row t.nodes row.node) false ≡ true
     rooted live =
-        let of = some_there (node_row t.nodes row.node) (own.present live) in
+        let of = present_row t.nodes row.node (own.present live) in
         let id = eqb-true of.0.id row.node (found_passes (λ (r : NodeRow). r.id == row.node) t.nodes of.0 of.1) in
-        ap (λ (o : Option NodeRow). option_map_or (is_in_root t) o false) of.1 ∙ in_root t of.0 sound (ap (node_row t.nodes) id ∙ of.1)
+        ap (λ (o : Option NodeRow). option_map_or (is_in_root t) o false) of.1
+        ∙ in_root t of.0 sound (subst (LeadsToRoot t.nodes) (sym id) (own.present live)) (ap (node_row t.nodes) id ∙ of.1)
 
     here : (o : Option NodeRow) → ((of : NodeRow) → o ≡ Some of → IsOfNode row of) → option_map_or (is_of_node row) o true ≡ true
     here None is = refl

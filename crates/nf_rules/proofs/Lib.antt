@@ -2,6 +2,8 @@ pub mod After
 pub mod Among
 pub mod Apart
 pub mod Firsts
+pub mod Items
+pub mod Kept
 pub mod Later
 pub mod Leading
 pub mod OneShare
@@ -13,4 +15,5 @@ pub mod Shared
 pub mod Shares
 pub mod Stacked
 pub mod Stays
+pub mod Trashing
 pub mod Unbroken

@@ -19,14 +19,15 @@ use Rattle.nf_base.specs.declared.rows.ShareKind.TheVariants as to
 use Rattle.nf_base.specs.declared.rows.ShareRow.{ShareRow}
 use Rattle.nf_base.specs.declared.rows.UserRow.{UserRow}
 use Rattle.nf_defs.proofs.Puts.{all_put}
-use Rattle.nf_defs.specs.Prelude.{node_row, share_key, Tables, user_row}
+use Rattle.nf_defs.specs.Prelude.{share_key, Tables, user_row}
 use Rattle.nf_laws.proofs.Rows.{each_fails, found_is}
 use Rattle.nf_laws.specs.Access.{IsSharing, IsSteered, is_ended, is_made, is_set, SharesOne}
 use Rattle.nf_laws.specs.Numbers.{AreHigher}
 use Rattle.nf_words.proofs.Asks.{share_found}
 use Rattle.nf_words.proofs.Found.{found_has}
+use Rattle.nf_words.proofs.Ways.{present_row}
 use Rattle.nf_words.specs.History.{end_in, IsEnd, IsInBounds}
-use Rattle.nf_words.specs.Prelude.{AreSound, Call, call_of, ended_row, is_end_moment, IsKindSound, IsNodeSound, IsShareSound, perms_after, set_row, State, until_after}
+use Rattle.nf_words.specs.Prelude.{AreSound, Call, call_of, ended_row, is_end_moment, IsKindSound, IsNodeSound, IsShareSound, LeadsToRoot, perms_after, set_row, State, until_after}
 use Rattle.nf_words.specs.declared.history.Entry.{Entry}
 use Rattle.nf_words.specs.declared.request.ShareAsk.TheVariants as ask
 use Rattle.nf_words.specs.declared.request.Sharee.{Sharee}
@@ -38,7 +39,7 @@ use Rattle.nf_access.specs.Making.{is_token_taken}
 use Rattle.nf_access.specs.Shares.{is_link, link_row, share_row}
 use Rattle.nf_rules.specs.Ruled.{AreRuled, AreTokensApart, IsGiven, IsGroupRuled, IsMountRuled, IsShareRuled, IsUserRuled}
 use Rattle.nf_rules.specs.Rules.{are_share_numbers, is_given, is_recipient_given}
-use Rattle.nf_rules.proofs.After.{chain_above, IsAbove, numbers_up, share_ruled, still_given}
+use Rattle.nf_rules.proofs.After.{chain_above, IsAbove, numbers_up, share_ruled, still_given, user_given, user_was}
 use Rattle.nf_rules.proofs.Pairs.{pairs_put}
 use Rattle.nf_rules.proofs.Shares.{given, is_given_from}
 
@@ -68,14 +69,8 @@ module _ (t : Tables) (users : All (λ (user : UserRow). IsGiven t.meta.next_use
     (groups : All (λ (group : GroupRow). IsGiven t.meta.next_group group.id) t.groups) (sound : AreSound t) (row : ShareRow)
     (fine : IsShareSound t row) (there : share_row t.shares row.id ≡ Some row) (lasts : row.ended ≡ false)
     (ends : option_map_or is_end_moment row.until true ≡ true) where
-  user_given : (user : ℕ) → is_some (user_row t.users user) ≡ true → is_given t.meta.next_user user ≡ true
-  user_given user is = here (user_row t.users user) refl is
-    where
-      here : (o : Option UserRow) → user_row t.users user ≡ o → is_some o ≡ true → is_given t.meta.next_user user ≡ true
-      here None e is = absurd (cc)
-      here (Some found) e is =
-          let h = found_is (λ (row : UserRow). IsGiven t.meta.next_user row.id) (λ (row : UserRow). row.id == user) t.users found users e in
-          is_given_from t.meta.next_user user (subst (IsGiven t.meta.next_user) (eqb-true found.id user h.0) h.1)
+  user_is : (user : ℕ) → is_some (user_row t.users user) ≡ true → is_given t.meta.next_user user ≡ true
+  user_is user there = is_given_from t.meta.next_user user (user_given t t.meta.next_user user users there)
 
   group_given : (group : ℕ) → list_any (λ (row : GroupRow). row.id == group) t.groups ≡ true → is_given t.meta.next_group group ≡ true
   group_given group is =
@@ -84,19 +79,16 @@ module _ (t : Tables) (users : All (λ (user : UserRow). IsGiven t.meta.next_use
       (subst (IsGiven t.meta.next_group) (eqb-true any.1.id group any.4) (subst (λ (g : GroupRow). IsGiven t.meta.next_group g.id) any.3 (groups any.0 any.1 any.2)))
 
   recipient_is : (kind : ShareKind) → IsKindSound t kind → is_recipient_given t.meta kind ≡ true
-  recipient_is (to.User user) is = user_given user is
+  recipient_is (to.User user) is = user_is user is
   recipient_is (to.Group group) is = group_given group is
   recipient_is (to.Link token) is = refl
 
-  node_there : is_some (node_row t.nodes row.node) ≡ true → is_given t.meta.next_node row.node ≡ true
-  node_there is = here (node_row t.nodes row.node) refl is
-    where
-      here : (o : Option NodeRow) → node_row t.nodes row.node ≡ o → is_some o ≡ true → is_given t.meta.next_node row.node ≡ true
-      here None e is = absurd (cc)
-      here (Some found) e is =
-          let h = found_is (IsNodeSound t) (λ (node : NodeRow). node.id == row.node) t.nodes found sound.nodes e in
-          is_given_from t.meta.next_node row.node
-          (subst (IsGiven t.meta.next_node) (eqb-true found.id row.node h.0) (record { first = h.1.some; below = h.1.given }))
+  node_there : LeadsToRoot t.nodes row.node → is_given t.meta.next_node row.node ≡ true
+  node_there up =
+      let of = present_row t.nodes row.node up in
+      let h = found_is (IsNodeSound t) (λ (node : NodeRow). node.id == row.node) t.nodes of.0 sound.nodes of.1 in
+      is_given_from t.meta.next_node row.node
+      (subst (IsGiven t.meta.next_node) (eqb-true of.0.id row.node h.0) (record { first = h.1.some; below = h.1.given }))
 
   parent_given : (parent : Option ℕ) → IsAbove t.shares row parent → option_map_or (is_given t.meta.next_share) parent true ≡ true
   parent_given None above = refl
@@ -119,8 +111,8 @@ module _ (t : Tables) (users : All (λ (user : UserRow). IsGiven t.meta.next_use
       (and_from _ _
       (and_from _ _ (is_given_from t.meta.next_share row.id (record { first = fine.some; below = fine.given }))
       (node_there (fine.present lasts)))
-      (user_given row.owner fine.owner))
-      (user_given row.initiator fine.initiator))
+      (user_is row.owner fine.owner))
+      (user_is row.initiator fine.initiator))
       (recipient_is row.kind fine.kind))
       (parent_given row.parent (chain_above MAX_CHAIN t.shares row there fine.chained)))
       ends)
@@ -261,18 +253,9 @@ module _ (s : State) (e : Entry) (made : Tables) (h : AreRuled s.tables) (sound 
       elim (is.mounts.each k d within) [
         | inl among ↦ All-contains (IsMountRuled made) t.mounts (get_or made.mounts k d) all among
         | inr of ↦ record {
-          user = user_ruled (get_or made.mounts k d).user of.there;
+          user = still_given t.meta.next_user made.meta.next_user (get_or made.mounts k d).user up.users
+              (user_was t (get_or made.mounts k d).user h of.there);
           node = subst (IsGiven made.meta.next_node) (sym of.node)
               (given made.meta.next_node is.row.node (node_given made.meta is.row own_numbers));
         }
       ]
-    where
-      user_ruled : (user : ℕ) → is_some (user_row t.users user) ≡ true → IsGiven made.meta.next_user user
-      user_ruled user there = here (user_row t.users user) refl there
-        where
-          here : (o : Option UserRow) → user_row t.users user ≡ o → is_some o ≡ true → IsGiven made.meta.next_user user
-          here None e is = absurd (cc)
-          here (Some row) e is =
-              let found = found_is (IsUserRuled t) (λ (row : UserRow). row.id == user) t.users row h.users e in
-              still_given t.meta.next_user made.meta.next_user user up.users
-              (subst (IsGiven t.meta.next_user) (eqb-true row.id user found.0) found.1.id)

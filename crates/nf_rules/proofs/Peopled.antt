@@ -2,10 +2,10 @@
 use Rattle.std.proofs.Common.{◌≡◌, ◌≢◌, ℕ, ◌+◌, ◌<◌, ◌≤◌, ◌==◌, not, inl, inr, Bool, true, false, find, List, [], ◌∷◌, ◌++◌, length, get_or, Option, option_map, if◌then◌else◌, refl, sym, ap, ◌∙◌, subst, arith, bytes_eq}
 use Rattle.std.specs.Prelude.{None, Some, is_some, nat_lt}
 use Rattle.std.specs.List.{All, AllPairs, list_any}
-use Rattle.std.specs.Option.{option_and_then}
+use Rattle.std.specs.Option.{option_and_then, option_map_or}
 use Rattle.std.proofs.lemmas.Bool.{both_ways, cases_Bool, cases_order, eq-eqb, eqb-true, ltb-false, or_parts}
 use Rattle.std.proofs.lemmas.List.{get_or_default}
-use Rattle.std.proofs.lemmas.List.Elements.{All-contains, All-filter, All-weaker}
+use Rattle.std.proofs.lemmas.List.Elements.{All-cons, All-contains, All-filter, All-nil, All-weaker}
 use Rattle.std.proofs.lemmas.List.Folds.{Any-from_list_any}
 use Rattle.std.proofs.lemmas.Slice.Eq.{bytes_eq-Decides}
 use Rattle.nf_access.proofs.Kept.{share_row_each}
@@ -13,34 +13,36 @@ use Rattle.nf_access.proofs.LookUps.{find_among}
 use Rattle.nf_base.specs.declared.limits.TheConstants.{MAX_GROUPS, MAX_MEMBERS, MAX_QUOTA, MAX_TOKENS, MAX_USERS}
 use Rattle.nf_base.specs.declared.rows.GroupRow.{GroupRow}
 use Rattle.nf_base.specs.declared.rows.MemberRow.{MemberRow}
+use Rattle.nf_base.specs.declared.rows.NodeRow.{NodeRow}
 use Rattle.nf_base.specs.declared.rows.ShareRow.{ShareRow}
 use Rattle.nf_base.specs.declared.rows.TokenRow.{TokenRow}
 use Rattle.nf_base.specs.declared.rows.UserRow.{UserRow}
 use Rattle.nf_defs.proofs.Loads.{rises}
 use Rattle.nf_defs.proofs.Puts.{all_put, dropped_length, dropped_rising, put_length, put_rising}
-use Rattle.nf_defs.specs.Prelude.{chunk_key, dropped, group_key, group_named, group_row, IsRising, item_key, member_key, put, Tables, token_key, upload_key, user_key, user_named, user_row, version_key}
+use Rattle.nf_defs.specs.Prelude.{chunk_key, dropped, group_key, group_named, group_row, IsRising, member_key, node_row, put, Tables, token_key, upload_key, user_key, user_named, user_row, version_key}
 use Rattle.nf_laws.proofs.Leaning.{any_found}
 use Rattle.nf_laws.proofs.Peopled.{group_put}
-use Rattle.nf_laws.proofs.Rows.{each_fails, found_is, no_value, row_is}
+use Rattle.nf_laws.proofs.Rows.{each_fails, found_is, no_value, row_is, row_joined}
 use Rattle.nf_laws.proofs.Upwards.{owners_there}
 use Rattle.nf_laws.specs.Access.{has_quota, has_token, IsMountJoined, IsProviding, joins, leaves, makes_group, makes_user, MountsGiven, Provides}
 use Rattle.nf_laws.specs.Numbers.{AreHigher}
 use Rattle.nf_words.proofs.Asks.{named_there}
 use Rattle.nf_words.proofs.Found.{put_is_found, put_leaves, put_length_over}
 use Rattle.nf_words.proofs.Provided.{membership_there, one_passes, row_there, three_pass}
-use Rattle.nf_words.specs.Prelude.{AreSound, HasRoot, is_member, IsModest, join_limit, last_short, membership, mount_limit, mounts_joined, new_root, new_user, people_limit, row_named, State}
+use Rattle.nf_words.specs.Prelude.{AreSound, HasRoot, is_member, IsModest, join_limit, last_short, membership, mount_limit, mounts_joined, new_root, new_user, people_limit, State}
 use Rattle.nf_words.specs.People.{are_many_groups, are_many_nodes, are_many_tokens, are_many_users}
 use Rattle.nf_words.specs.declared.answer.Limit.TheVariants as limit
 use Rattle.nf_words.specs.declared.history.Entry.{Entry}
 use Rattle.nf_words.specs.declared.request.PeopleAsk.{PeopleAsk}
 use Rattle.nf_words.specs.declared.request.PeopleAsk.TheVariants as people
-use Rattle.nf_rules.proofs.After.{share_ruled, still_given}
+use Rattle.nf_rules.proofs.After.{share_ruled, still_given, user_was}
+use Rattle.nf_rules.proofs.Items.{items_as_were, items_ruled}
 use Rattle.nf_rules.proofs.OneShare.{node_given}
 use Rattle.nf_rules.proofs.Pairs.{pairs_put}
 use Rattle.nf_rules.proofs.Rising.{nodes_rise}
 use Rattle.nf_rules.proofs.Shares.{given}
-use Rattle.nf_rules.specs.Ruled.{AreRuled, AreTokensApart, IsGiven, IsGroupRuled, IsMemberRuled, IsMountRuled, IsShareRuled, IsTokenRuled, IsUserRuled}
-use Rattle.nf_rules.specs.Rules.{are_share_numbers, is_group, is_user}
+use Rattle.nf_rules.specs.Ruled.{AreRuled, AreTokensApart, IsGiven, IsGroupRuled, IsItemRuled, IsMemberRuled, IsMountRuled, IsShareRuled, IsTokenRuled, IsUserRuled}
+use Rattle.nf_rules.specs.Rules.{are_share_numbers, is_folder_for, is_group, is_user}
 
 -- ---- who is there stays there
 
@@ -70,7 +72,7 @@ unnamed name number rows wanted none k d within same =
 
 -- ---- what the old rows keep
 
-module _ (t made : Tables) (h : AreRuled t) (sound : AreSound made) (up : AreHigher t.meta made.meta)
+module _ (t made : Tables) (h : AreRuled t) (sound : AreSound made) (up : AreHigher t.meta made.meta) (items : All (IsItemRuled made) made.items)
     (users_stay : (user : ℕ) → is_user t user ≡ true → is_user made user ≡ true)
     (groups_stay : (group : ℕ) → is_group t group ≡ true → is_group made group ≡ true) where
   old_user : (row : UserRow) → IsUserRuled t row → IsUserRuled made row
@@ -123,15 +125,8 @@ module _ (t made : Tables) (h : AreRuled t) (sound : AreSound made) (up : AreHig
       (sound.others.shares k d within) (share_row_each made.shares sound.others.shares_rise k d within)
 
   -- a user who is there was given
-  user_given : (user : ℕ) → is_user t user ≡ true → IsGiven made.meta.next_user user
-  user_given user is = here (user_row t.users user) refl is
-    where
-      here : (o : Option UserRow) → user_row t.users user ≡ o → is_some o ≡ true → IsGiven made.meta.next_user user
-      here None e is = absurd (cc)
-      here (Some row) e is =
-          let found = found_is (IsUserRuled t) (λ (row : UserRow). row.id == user) t.users row h.users e in
-          still_given t.meta.next_user made.meta.next_user user up.users
-          (subst (IsGiven t.meta.next_user) (eqb-true row.id user found.0) found.1.id)
+  still_user : (user : ℕ) → is_user t user ≡ true → IsGiven made.meta.next_user user
+  still_user user is = still_given t.meta.next_user made.meta.next_user user up.users (user_was t user h is)
 
   -- ---- by the kinds of rows
 
@@ -206,8 +201,8 @@ module _ (t made : Tables) (h : AreRuled t) (sound : AreSound made) (up : AreHig
   ruled_by users tokens groups members shares mounts = record {
     sound = sound;
     rising = rises made users.rising tokens.rising groups.rising members.rising (nodes_rise made.nodes sound.rising) sound.others.shares_rise
-        sound.others.mounts_rise (no_rows_rise version_key made.versions sound.later.0) (no_rows_rise item_key made.items sound.later.1.0)
-        (no_rows_rise upload_key made.uploads sound.later.1.1.0) (no_rows_rise chunk_key made.chunks sound.later.1.1.1.0);
+        sound.others.mounts_rise (no_rows_rise version_key made.versions sound.later.0) sound.others.items_rise
+        (no_rows_rise upload_key made.uploads sound.later.1.0) (no_rows_rise chunk_key made.chunks sound.later.1.1.0);
     owners = owners_there made sound;
     users = users.each;
     tokens = tokens.each;
@@ -215,6 +210,7 @@ module _ (t made : Tables) (h : AreRuled t) (sound : AreSound made) (up : AreHig
     members = members.each;
     shares = old_shares shares;
     mounts = mounts;
+    items = items;
     user_names = users.names;
     group_names = groups.names;
     tokens_apart = subst (AllPairs AreTokensApart) (sym shares) h.tokens_apart;
@@ -226,7 +222,8 @@ module _ (t made : Tables) (h : AreRuled t) (sound : AreSound made) (up : AreHig
 
 -- ---- each of what is asked
 
-module _ (t made : Tables) (now : ℕ) (h : AreRuled t) (sound : AreSound made) (up : AreHigher t.meta made.meta) where
+module _ (t made : Tables) (now : ℕ) (h : AreRuled t) (sound : AreSound made) (up : AreHigher t.meta made.meta)
+    (items : All (IsItemRuled made) made.items) where
   abbrev UsersStay : Type 0
   UsersStay = (user : ℕ) → is_user t user ≡ true → is_user made user ≡ true
 
@@ -269,7 +266,7 @@ module _ (t made : Tables) (now : ℕ) (h : AreRuled t) (sound : AreSound made) 
       let below = found_is (λ (x : UserRow). x.id < made.meta.next_user) (λ (x : UserRow). x.id == row.id) made.users row sound.users_given found in
       let root = row_is made row.root own.1.row sound own.1.there in
       let first : 1 ≤ row.id = h.sound.counters.users in
-      ruled_by t made h sound up stays kept
+      ruled_by t made h sound up items stays kept
       (record {
         each = subst (All (IsUserRuled made)) (sym users)
             (all_put user_key (IsUserRuled made) row t.users
@@ -278,7 +275,7 @@ module _ (t made : Tables) (now : ℕ) (h : AreRuled t) (sound : AreSound made) 
               root = record { first = omega (arith, root.0, root.1.some); below = omega (arith, root.0, root.1.given) };
               quota = modest;
             })
-            (old_users t made h sound up stays kept));
+            (old_users t made h sound up items stays kept));
         rising = subst (IsRising user_key) (sym users) (put_rising user_key row t.users h.rising.users);
         names = subst (AllPairs (λ (a b : UserRow). a.name ≢ b.name)) (sym users)
             (pairs_put (λ (x : UserRow). x.id) (λ (a b : UserRow). a.name ≢ b.name) (λ a b apart same. apart (sym same)) row t.users h.rising.users
@@ -287,11 +284,11 @@ module _ (t made : Tables) (now : ℕ) (h : AreRuled t) (sound : AreSound made) 
             h.user_names);
         few = omega (arith, ap length users, put_length user_key row t.users, ltb-false MAX_USERS (length t.users + 1) limits.0);
       })
-      (more_tokens t made h sound up stays kept holds (ap (λ (u : Tables). u.tokens) is)
+      (more_tokens t made h sound up items stays kept holds (ap (λ (u : Tables). u.tokens) is)
       (record { given = record { first = first; below = below.1 }; user = ap is_some found }) passed.1)
-      (same_groups t made h sound up stays kept (ap (λ (u : Tables). u.groups) is))
-      (same_members t made h sound up stays kept (ap (λ (u : Tables). u.members) is)) (ap (λ (u : Tables). u.shares) is)
-      (same_mounts t made h sound up stays kept (ap (λ (u : Tables). u.mounts) is))
+      (same_groups t made h sound up items stays kept (ap (λ (u : Tables). u.groups) is))
+      (same_members t made h sound up items stays kept (ap (λ (u : Tables). u.members) is)) (ap (λ (u : Tables). u.shares) is)
+      (same_mounts t made h sound up items stays kept (ap (λ (u : Tables). u.mounts) is))
 
   group_ruled : (name : List ℕ) → group_named t.groups name ≡ None → people_limit t (people.NewGroup name) ≡ None
       → made ≡ record t { meta = made.meta; groups = put group_key (record { id = t.meta.next_group; name = name }) t.groups }
@@ -309,12 +306,12 @@ module _ (t made : Tables) (now : ℕ) (h : AreRuled t) (sound : AreSound made) 
       ∙ put_is_found group_key (λ (x : GroupRow). x.id == row.id) row t.groups (eq-eqb row.id row.id refl)
       (λ x same. ap (λ (n : ℕ). n ∷ []) (eqb-true x.id row.id same)) in
       let below = found_is (λ (x : GroupRow). x.id < made.meta.next_group) (λ (x : GroupRow). x.id == row.id) made.groups row sound.groups_given found in
-      ruled_by t made h sound up stays kept (same_users t made h sound up stays kept (ap (λ (u : Tables). u.users) is))
-      (same_tokens t made h sound up stays kept (ap (λ (u : Tables). u.tokens) is))
+      ruled_by t made h sound up items stays kept (same_users t made h sound up items stays kept (ap (λ (u : Tables). u.users) is))
+      (same_tokens t made h sound up items stays kept (ap (λ (u : Tables). u.tokens) is))
       (record {
         each = subst (All (IsGroupRuled made)) (sym groups)
             (all_put group_key (IsGroupRuled made) row t.groups (record { id = record { first = h.sound.counters.groups; below = below.1 } })
-            (old_groups t made h sound up stays kept));
+            (old_groups t made h sound up items stays kept));
         rising = subst (IsRising group_key) (sym groups) (put_rising group_key row t.groups h.rising.groups);
         names = subst (AllPairs (λ (a b : GroupRow). a.name ≢ b.name)) (sym groups)
             (pairs_put (λ (x : GroupRow). x.id) (λ (a b : GroupRow). a.name ≢ b.name) (λ a b apart same. apart (sym same)) row t.groups h.rising.groups
@@ -323,25 +320,24 @@ module _ (t made : Tables) (now : ℕ) (h : AreRuled t) (sound : AreSound made) 
             h.group_names);
         few = omega (arith, ap length groups, put_length group_key row t.groups, ltb-false MAX_GROUPS (length t.groups + 1) limits.0);
       })
-      (same_members t made h sound up stays kept (ap (λ (u : Tables). u.members) is)) (ap (λ (u : Tables). u.shares) is)
-      (same_mounts t made h sound up stays kept (ap (λ (u : Tables). u.mounts) is))
+      (same_members t made h sound up items stays kept (ap (λ (u : Tables). u.members) is)) (ap (λ (u : Tables). u.shares) is)
+      (same_mounts t made h sound up items stays kept (ap (λ (u : Tables). u.mounts) is))
 
   -- a user with another quota has the number and the name that it had
-  quota_ruled : (name : List ℕ) (quota : ℕ) (row : UserRow) → row_named t name ≡ Some row → quota ≤ MAX_QUOTA
+  pub quota_ruled : (quota : ℕ) (row : UserRow) → user_row t.users row.id ≡ Some row → quota ≤ MAX_QUOTA
       → made ≡ record t { meta = made.meta; users = put user_key (record row { quota = quota }) t.users } → AreRuled made
-  quota_ruled name quota row named modest is =
+  quota_ruled quota row there modest is =
       let new : UserRow = record row { quota = quota } in
-      let there = row_there t now h.sound name row named in
       let users : made.users ≡ put user_key new t.users = ap (λ (u : Tables). u.users) is in
       let stays : UsersStay = users_put new users in
       let kept : GroupsStay = groups_as_were (ap (λ (u : Tables). u.groups) is) in
       let old = found_is (IsUserRuled t) (λ (x : UserRow). x.id == row.id) t.users row h.users there in
-      let own = old_user t made h sound up stays kept row old.1 in
-      ruled_by t made h sound up stays kept
+      let own = old_user t made h sound up items stays kept row old.1 in
+      ruled_by t made h sound up items stays kept
       (record {
         each = subst (All (IsUserRuled made)) (sym users)
             (all_put user_key (IsUserRuled made) new t.users (record { id = own.id; root = own.root; quota = modest })
-            (old_users t made h sound up stays kept));
+            (old_users t made h sound up items stays kept));
         rising = subst (IsRising user_key) (sym users) (put_rising user_key new t.users h.rising.users);
         names = subst (AllPairs (λ (a b : UserRow). a.name ≢ b.name)) (sym users)
             (pairs_put (λ (x : UserRow). x.id) (λ (a b : UserRow). a.name ≢ b.name) (λ a b apart same. apart (sym same)) new t.users h.rising.users
@@ -354,10 +350,10 @@ module _ (t made : Tables) (now : ℕ) (h : AreRuled t) (sound : AreSound made) 
           h.few_users,
         );
       })
-      (same_tokens t made h sound up stays kept (ap (λ (u : Tables). u.tokens) is))
-      (same_groups t made h sound up stays kept (ap (λ (u : Tables). u.groups) is))
-      (same_members t made h sound up stays kept (ap (λ (u : Tables). u.members) is)) (ap (λ (u : Tables). u.shares) is)
-      (same_mounts t made h sound up stays kept (ap (λ (u : Tables). u.mounts) is))
+      (same_tokens t made h sound up items stays kept (ap (λ (u : Tables). u.tokens) is))
+      (same_groups t made h sound up items stays kept (ap (λ (u : Tables). u.groups) is))
+      (same_members t made h sound up items stays kept (ap (λ (u : Tables). u.members) is)) (ap (λ (u : Tables). u.shares) is)
+      (same_mounts t made h sound up items stays kept (ap (λ (u : Tables). u.mounts) is))
     where
       -- a user and another one
       apart_from : (row : UserRow) → user_row t.users row.id ≡ Some row → All (λ (x : UserRow). x.id ≢ row.id → row.name ≢ x.name) t.users
@@ -378,12 +374,12 @@ module _ (t made : Tables) (now : ℕ) (h : AreRuled t) (sound : AreSound made) 
       let stays : UsersStay = users_as_were (ap (λ (u : Tables). u.users) is) in
       let kept : GroupsStay = groups_as_were (ap (λ (u : Tables). u.groups) is) in
       let there = named_there t.users name user named in
-      ruled_by t made h sound up stays kept (same_users t made h sound up stays kept (ap (λ (u : Tables). u.users) is))
-      (more_tokens t made h sound up stays kept row (ap (λ (u : Tables). u.tokens) is)
-      (record { given = user_given t made h sound up stays kept user there; user = stays user there }) (one_passes _ limit.Tokens few))
-      (same_groups t made h sound up stays kept (ap (λ (u : Tables). u.groups) is))
-      (same_members t made h sound up stays kept (ap (λ (u : Tables). u.members) is)) (ap (λ (u : Tables). u.shares) is)
-      (same_mounts t made h sound up stays kept (ap (λ (u : Tables). u.mounts) is))
+      ruled_by t made h sound up items stays kept (same_users t made h sound up items stays kept (ap (λ (u : Tables). u.users) is))
+      (more_tokens t made h sound up items stays kept row (ap (λ (u : Tables). u.tokens) is)
+      (record { given = still_user t made h sound up items stays kept user there; user = stays user there }) (one_passes _ limit.Tokens few))
+      (same_groups t made h sound up items stays kept (ap (λ (u : Tables). u.groups) is))
+      (same_members t made h sound up items stays kept (ap (λ (u : Tables). u.members) is)) (ap (λ (u : Tables). u.shares) is)
+      (same_mounts t made h sound up items stays kept (ap (λ (u : Tables). u.mounts) is))
 
   -- a new member, and its mounts
   joins_ruled : (user group : List ℕ) (row : MemberRow) → membership t user group ≡ Some row → is_member t row ≡ false
@@ -396,19 +392,19 @@ module _ (t made : Tables) (now : ℕ) (h : AreRuled t) (sound : AreSound made) 
       let there = membership_there t now h.sound user group row named in
       let any_group = any_of_row t.groups row.group there.group in
       let members : made.members ≡ put member_key row t.members = ap (λ (u : Tables). u.members) is in
-      ruled_by t made h sound up stays kept (same_users t made h sound up stays kept (ap (λ (u : Tables). u.users) is))
-      (same_tokens t made h sound up stays kept (ap (λ (u : Tables). u.tokens) is))
-      (same_groups t made h sound up stays kept (ap (λ (u : Tables). u.groups) is))
+      ruled_by t made h sound up items stays kept (same_users t made h sound up items stays kept (ap (λ (u : Tables). u.users) is))
+      (same_tokens t made h sound up items stays kept (ap (λ (u : Tables). u.tokens) is))
+      (same_groups t made h sound up items stays kept (ap (λ (u : Tables). u.groups) is))
       (record {
         each = subst (All (IsMemberRuled made)) (sym members)
             (all_put member_key (IsMemberRuled made) row t.members
             (record {
               given_group = group_given row.group any_group;
-              given_user = user_given t made h sound up stays kept row.user there.user;
+              given_user = still_user t made h sound up items stays kept row.user there.user;
               group = kept row.group any_group;
               user = stays row.user there.user;
             })
-            (old_members t made h sound up stays kept));
+            (old_members t made h sound up items stays kept));
         rising = subst (IsRising member_key) (sym members) (put_rising member_key row t.members h.rising.members);
         few = omega (
           arith,
@@ -419,9 +415,9 @@ module _ (t made : Tables) (now : ℕ) (h : AreRuled t) (sound : AreSound made) 
       })
       (ap (λ (u : Tables). u.shares) is)
       (λ k d within. elim (mounts.each k d within) [
-        | inl among ↦ All-contains (IsMountRuled made) t.mounts (get_or made.mounts k d) (old_mounts t made h sound up stays kept) among
+        | inl among ↦ All-contains (IsMountRuled made) t.mounts (get_or made.mounts k d) (old_mounts t made h sound up items stays kept) among
         | inr of ↦ record {
-          user = subst (IsGiven made.meta.next_user) (sym of.user) (user_given t made h sound up stays kept row.user there.user);
+          user = subst (IsGiven made.meta.next_user) (sym of.user) (still_user t made h sound up items stays kept row.user there.user);
           node = subst (IsGiven made.meta.next_node) (sym of.node)
               (still_given t.meta.next_node made.meta.next_node of.share.node up.nodes
               (given t.meta.next_node of.share.node
@@ -454,12 +450,12 @@ module _ (t made : Tables) (now : ℕ) (h : AreRuled t) (sound : AreSound made) 
       let kept : GroupsStay = groups_as_were (ap (λ (u : Tables). u.groups) is) in
       let numbers : List ℕ = row.group ∷ row.user ∷ [] in
       let members : made.members ≡ dropped member_key numbers t.members = ap (λ (u : Tables). u.members) is in
-      ruled_by t made h sound up stays kept (same_users t made h sound up stays kept (ap (λ (u : Tables). u.users) is))
-      (same_tokens t made h sound up stays kept (ap (λ (u : Tables). u.tokens) is))
-      (same_groups t made h sound up stays kept (ap (λ (u : Tables). u.groups) is))
+      ruled_by t made h sound up items stays kept (same_users t made h sound up items stays kept (ap (λ (u : Tables). u.users) is))
+      (same_tokens t made h sound up items stays kept (ap (λ (u : Tables). u.tokens) is))
+      (same_groups t made h sound up items stays kept (ap (λ (u : Tables). u.groups) is))
       (record {
         each = subst (All (IsMemberRuled made)) (sym members)
-            (All-filter (λ (x : MemberRow). not (bytes_eq numbers (member_key x))) (IsMemberRuled made) t.members (old_members t made h sound up stays kept));
+            (All-filter (λ (x : MemberRow). not (bytes_eq numbers (member_key x))) (IsMemberRuled made) t.members (old_members t made h sound up items stays kept));
         rising = subst (IsRising member_key) (sym members) (dropped_rising member_key numbers t.members h.rising.members);
         few = omega (
           arith,
@@ -468,17 +464,39 @@ module _ (t made : Tables) (now : ℕ) (h : AreRuled t) (sound : AreSound made) 
           h.few_members,
         );
       })
-      (ap (λ (u : Tables). u.shares) is) (same_mounts t made h sound up stays kept (ap (λ (u : Tables). u.mounts) is))
+      (ap (λ (u : Tables). u.shares) is) (same_mounts t made h sound up items stays kept (ap (λ (u : Tables). u.mounts) is))
 
   provided_ruled : (asked : PeopleAsk) → IsModest asked → people_limit t asked ≡ None → Provides t now made asked → AreRuled made
   provided_ruled _ modest few (makes_user name token quota free fresh is) = user_ruled name token quota free modest few is
   provided_ruled _ modest few (makes_group name free is) = group_ruled name free few is
   provided_ruled _ modest few (joins user group row named none is mounts all) = joins_ruled user group row named none few is mounts
   provided_ruled _ modest few (leaves user group row named there is) = leaves_ruled row is
-  provided_ruled _ modest few (has_quota user quota row named is) = quota_ruled user quota row named modest is
+  provided_ruled _ modest few (has_quota user quota row named is) = quota_ruled quota row (row_there t now h.sound user row named) modest is
   provided_ruled _ modest few (has_token user token id named free is) = token_ruled token user id named few is
+
+-- of what is asked, no item is another, nor is a node that was there
+provided_items : (t made : Tables) (now : ℕ) (asked : PeopleAsk) → AreRuled t → AreHigher t.meta made.meta → Provides t now made asked
+    → All (IsItemRuled made) made.items
+provided_items t made now _ h up (makes_user name token quota free fresh is) =
+    items_ruled t made h up (ap (λ (u : Tables). u.items) is) (λ item from kept.
+    ap (λ (o : Option NodeRow). option_map_or (is_folder_for item) o true)
+    (ap (λ (u : Tables). node_row u.nodes item.from) is
+    ∙ row_joined t.nodes (new_root t now name ∷ []) item.from
+    (All-cons (λ (r : NodeRow). r.id ≢ item.from) (new_root t now name) [] (λ same. absurd (omega (arith, same, from.below)))
+    (All-nil (λ (r : NodeRow). r.id ≢ item.from)))) ∙ kept)
+provided_items t made now _ h up (makes_group name free is) = items_as_were t made h up (ap (λ (u : Tables). u.items) is) (ap (λ (u : Tables). u.nodes) is)
+provided_items t made now _ h up (joins user group row named none is mounts all) =
+    items_as_were t made h up (ap (λ (u : Tables). u.items) is) (ap (λ (u : Tables). u.nodes) is)
+provided_items t made now _ h up (leaves user group row named there is) =
+    items_as_were t made h up (ap (λ (u : Tables). u.items) is) (ap (λ (u : Tables). u.nodes) is)
+provided_items t made now _ h up (has_quota user quota row named is) =
+    items_as_were t made h up (ap (λ (u : Tables). u.items) is) (ap (λ (u : Tables). u.nodes) is)
+provided_items t made now _ h up (has_token user token id named free is) =
+    items_as_were t made h up (ap (λ (u : Tables). u.items) is) (ap (λ (u : Tables). u.nodes) is)
 
 -- what is asked about users and groups keeps the rules
 pub people_ruled : (s : State) (e : Entry) (made : Tables) → AreRuled s.tables → AreSound made → AreHigher s.tables.meta made.meta
     → IsProviding s e made → AreRuled made
-people_ruled s e made h sound up is = provided_ruled s.tables made e.moment h sound up is.asked is.modest is.few is.provides
+people_ruled s e made h sound up is =
+    let items = provided_items s.tables made e.moment is.asked h up is.provides in
+    provided_ruled s.tables made e.moment h sound up items is.asked is.modest is.few is.provides

@@ -22,15 +22,16 @@ use Rattle.nf_defs.specs.Prelude.{is_root_place, node_row, piece_count, rows_of,
 use Rattle.nf_laws.proofs.Rows.{folder_there, found_is}
 use Rattle.nf_rows.specs.Spelling.{Fits}
 use Rattle.nf_words.specs.Later.{later_kinds}
-use Rattle.nf_words.specs.Others.{IsMountSound}
+use Rattle.nf_words.specs.Others.{IsItemSound, IsMountSound}
 use Rattle.nf_words.specs.Prelude.{AreCounters, count_of, HasRoot, is_later, IsNodeSound, IsPieceSound, IsPlaceSound}
 use Rattle.nf_words.specs.declared.answer.Limit.TheVariants as limit
 use Rattle.nf_rules.specs.Keys.{name_key}
 use Rattle.nf_rules.specs.Laws.{RuledAreUnbroken}
-use Rattle.nf_rules.specs.Ruled.{AreRuled, IsGiven, IsGroupRuled, IsMemberRuled, IsMountRuled, IsShareRuled, IsTokenRuled, IsUserRuled}
+use Rattle.nf_rules.specs.Ruled.{AreRuled, IsGiven, IsGroupRuled, IsItemRuled, IsMemberRuled, IsMountRuled, IsShareRuled, IsTokenRuled, IsUserRuled}
 use Rattle.nf_rules.specs.Rules.{are_counters, are_numbers, has_ungiven_blob, is_beyond, is_given, is_lavish, is_place_given, is_place_there, is_placed, is_root_of, is_shared_well, is_user, names_are_there, rules}
 use Rattle.nf_rules.proofs.Apart.{keys_unshared, names_unshared}
 use Rattle.nf_rules.proofs.Firsts.{Keep, none_broken}
+use Rattle.nf_rules.proofs.Items.{item_names, item_numbers, item_placed}
 use Rattle.nf_rules.proofs.Later.{not_one_of}
 use Rattle.nf_rules.proofs.Leading.{sound_leads}
 use Rattle.nf_rules.proofs.Shared.{AreUnshared, of_among}
@@ -104,6 +105,8 @@ numbers_are t (rows.Share row) h among = (of_among (IsShareRuled t) t.shares row
 numbers_are t (rows.Mount row) h among =
     let own = of_among (IsMountRuled t) t.mounts row h.mounts among in
     and_from _ _ (is_given_from t.meta.next_user row.user own.user) (is_given_from t.meta.next_node row.node own.node)
+numbers_are t (rows.Item row) h among =
+    item_numbers t row (of_among (IsItemSound t) t.items row h.sound.others.items among) (of_among (IsItemRuled t) t.items row h.items among)
 numbers_are t other h among = refl
 
 -- ---- what is named is there
@@ -125,6 +128,8 @@ names_there t (rows.Node row) h among =
     (place_there t row row.place (of_among (IsNodeSound t) t.nodes row h.sound.nodes among).place)
 names_there t (rows.Share row) h among = (of_among (IsShareRuled t) t.shares row h.shares among).names
 names_there t (rows.Mount row) h among = (of_among (IsMountSound t) t.mounts row h.sound.others.mounts among).user
+names_there t (rows.Item row) h among =
+    let there = item_names t row h.owners (of_among (IsItemSound t) t.items row h.sound.others.items among) in and_from _ _ there.0 there.1
 names_there t other h among = refl
 
 -- ---- roots
@@ -141,6 +146,8 @@ all_placed t (rows.User row) h among = root_placed t row (of_among (HasRoot t) t
 all_placed t (rows.Node row) h among =
     sound_leads t row h.sound (of_among (IsNodeSound t) t.nodes row h.sound.nodes among)
     (of_among (λ (row : NodeRow). node_row t.nodes row.id ≡ Some row) t.nodes row (node_row_each t.nodes h.sound.rising) among)
+all_placed t (rows.Item row) h among =
+    item_placed t row (of_among (IsItemSound t) t.items row h.sound.others.items among) (of_among (IsItemRuled t) t.items row h.items among)
 all_placed t other h among = refl
 
 -- ---- shares and mounts

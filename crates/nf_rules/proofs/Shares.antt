@@ -1,5 +1,5 @@
 -- Shares and mounts: what the rules say of their rows, and what sound tables say of them.
-use Rattle.std.proofs.Common.{◌≡◌, ℕ, ◌<◌, ◌==◌, ◌&&◌, ◌||◌, Bool, true, false, not, if◌then◌else◌, List, ◌∷◌, get_or, Option, None, Some, option_map, refl, sym, ap, ◌∙◌}
+use Rattle.std.proofs.Common.{◌≡◌, ℕ, ◌<◌, ◌==◌, ◌&&◌, ◌||◌, Bool, true, false, not, if◌then◌else◌, List, ◌∷◌, get_or, Option, None, Some, option_map, refl, sym, ap, subst, ◌∙◌}
 use Rattle.std.specs.Prelude.{bytes_eq, find, is_some, nat_lt}
 use Rattle.std.specs.List.{All}
 use Rattle.std.specs.Option.{IfSome, option_map_or}
@@ -17,13 +17,15 @@ use Rattle.nf_base.specs.declared.rows.ShareKind.{ShareKind}
 use Rattle.nf_base.specs.declared.rows.ShareKind.TheVariants as to
 use Rattle.nf_base.specs.declared.rows.ShareRow.{ShareRow}
 use Rattle.nf_base.specs.declared.rows.UserRow.{UserRow}
+use Rattle.nf_defs.proofs.Climbs.{holds_some, under_climb}
 use Rattle.nf_defs.specs.Prelude.{child_of, is_in, is_place_in, is_root_place, node_row, Tables, user_row}
 use Rattle.nf_laws.proofs.Rows.{each_fails, finds_none, found_is, no_value}
+use Rattle.nf_words.proofs.Found.{found_passes}
 use Rattle.nf_words.specs.Others.{IsKindSound, IsMountSound, IsOfNode, IsShareSound}
-use Rattle.nf_words.specs.Prelude.{HasRoot}
+use Rattle.nf_words.specs.Prelude.{HasRoot, LeadsToRoot, root_of_user}
 use Rattle.nf_rules.specs.Keys.{child_key, name_key}
 use Rattle.nf_rules.specs.Ruled.{IsGiven, IsMountRuled, IsShareRuled}
-use Rattle.nf_rules.specs.Rules.{is_given, is_of_node, is_recipient_there, is_shared_well, is_user}
+use Rattle.nf_rules.specs.Rules.{is_given, is_in_root, is_of_node, is_recipient_there, is_shared_well, is_user}
 use Rattle.nf_rules.proofs.Shared.{AreUnshared, IsAmong, of_among, one_has}
 
 -- the number was given
@@ -34,6 +36,28 @@ given next id is =
 
 pub is_given_from : (next id : ℕ) → IsGiven next id → is_given next id ≡ true
 is_given_from next id given = and_from (nat_lt 0 id) (nat_lt id next) (lt-ltb 0 id given.first) (lt-ltb id next given.below)
+
+-- ---- roots
+
+-- the root of a user who is there is a node of the user's, with place Root
+root_owned : (t : Tables) (user : ℕ) → All (HasRoot t) t.users → is_user t user ≡ true
+    → (row : NodeRow) × (node_row t.nodes (root_folder t.users user) ≡ Some row) × (row.owner ≡ user) × (row.place ≡ Root)
+root_owned t user roots is = here (user_row t.users user) refl is
+  where
+    here : (o : Option UserRow) → user_row t.users user ≡ o → is_some o ≡ true
+        → (row : NodeRow) × (node_row t.nodes (root_folder t.users user) ≡ Some row) × (row.owner ≡ user) × (row.place ≡ Root)
+    here None e is = absurd (false≢true is)
+    here (Some row) e is =
+        let found = found_is (HasRoot t) (λ row. row.id == user) t.users row roots e in
+        let root : root_folder t.users user ≡ row.root = ap (λ (o : Option UserRow). option_map_or (λ row. row.root) o 0) e in
+        (found.1.row, ap (node_row t.nodes) root ∙ found.1.there, found.1.owner ∙ eqb-true row.id user found.0, found.1.place)
+
+-- what is in the root of its owner, who is there, leads to a root
+leads_in : (t : Tables) (of : NodeRow) → All (HasRoot t) t.users → is_user t of.owner ≡ true → is_in_root t of ≡ true → LeadsToRoot t.nodes of.id
+leads_in t of roots user is =
+    let root = root_owned t of.owner roots user in
+    let up = under_climb t.nodes of.id (root_of_user t of.owner) is in
+    record { steps = up.0; top = root_of_user t of.owner; climbs = up.2; root = rw root.1 (ap is_root_place root.3) }
 
 -- ---- shares
 
@@ -53,8 +77,8 @@ of_node row of is =
       perms = eqb-true _ row.perms perms.1;
     }
 
-pub share_sound : (t : Tables) (row : ShareRow) → IsShareRuled t row → IsShareSound t row
-share_sound t row h =
+pub share_sound : (t : Tables) (row : ShareRow) → All (HasRoot t) t.users → IsShareRuled t row → IsShareSound t row
+share_sound t row roots h =
     let made = and_parts _ _ h.numbers in
     let until = and_parts _ _ made.0 in
     let passed = and_parts _ _ until.0 in
@@ -81,10 +105,17 @@ share_sound t row h =
       kind = kind_sound t row.kind named.1;
       chained = chain.1;
       parent = earlier row.parent chain.0;
-      present = λ live. or_other row.ended _ live present.1;
-      of_node = λ of there. of_node row of (sym (ap (λ (o : Option NodeRow). option_map_or (is_of_node row) o true) there) ∙ kept.1);
+      present = λ live.
+          let of = holds_some (is_in_root t) (node_row t.nodes row.node) (or_other row.ended _ live linked.1) in
+          let owner : of.0.owner ≡ row.owner = (is_of of.0 of.1 kept.1).owner in
+          subst (LeadsToRoot t.nodes) (eqb-true of.0.id row.node (found_passes (λ (r : NodeRow). r.id == row.node) t.nodes of.0 of.1))
+          (leads_in t of.0 roots (ap (is_user t) owner ∙ users.0) of.2);
+      of_node = λ of there. is_of of there kept.1;
     }
   where
+    is_of : (of : NodeRow) → node_row t.nodes row.node ≡ Some of → option_map_or (is_of_node row) (node_row t.nodes row.node) true ≡ true → IsOfNode row of
+    is_of of there kept = of_node row of (sym (ap (λ (o : Option NodeRow). option_map_or (is_of_node row) o true) there) ∙ kept)
+
     earlier : (parent : Option ℕ) → option_map_or (λ parent. nat_lt parent row.id) parent (row.initiator == row.owner) ≡ true
         → IfSome parent (λ (id : ℕ). id < row.id)
     earlier None is = tt
@@ -189,22 +220,7 @@ name_free t all row unshared nodes mount shown =
         one_has (name_key t) all (rows.Node node) (rows.Mount row) (6 ∷ root ∷ row.name) unshared among mount key (mount_key_is t row shown) in
         cc
 
--- ---- roots
-
--- the root of a user who is there is a node of the user's
-root_owned : (t : Tables) (user : ℕ) → All (HasRoot t) t.users → is_user t user ≡ true
-    → (row : NodeRow) × (node_row t.nodes (root_folder t.users user) ≡ Some row) × (row.owner ≡ user)
-root_owned t user roots is = here (user_row t.users user) refl is
-  where
-    here : (o : Option UserRow) → user_row t.users user ≡ o → is_some o ≡ true
-        → (row : NodeRow) × (node_row t.nodes (root_folder t.users user) ≡ Some row) × (row.owner ≡ user)
-    here None e is = absurd (false≢true is)
-    here (Some row) e is =
-        let found = found_is (HasRoot t) (λ row. row.id == user) t.users row roots e in
-        let root : root_folder t.users user ≡ row.root = ap (λ (o : Option UserRow). option_map_or (λ row. row.root) o 0) e in
-        (found.1.row, ap (node_row t.nodes) root ∙ found.1.there, found.1.owner ∙ eqb-true row.id user found.0)
-
--- so users with one root are one
+-- users with one root are one
 pub same_user : (t : Tables) (a b : ℕ) → All (HasRoot t) t.users → is_user t a ≡ true → is_user t b ≡ true
     → root_folder t.users a ≡ root_folder t.users b → a ≡ b
 same_user t a b roots first second same =

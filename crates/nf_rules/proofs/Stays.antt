@@ -1,90 +1,59 @@
 -- Tables that keep the rules keep them by each entry that may come.
-use Rattle.std.proofs.Common.{◌≡◌, ℕ, ◌+◌, ◌<◌, ◌⊎◌, inl, inr, Bool, true, false, if◌then◌else◌, List, [], ◌∷◌, map, length, get_or, refl, sym, ap, ◌∙◌, subst, arith}
+use Rattle.std.proofs.Common.{◌≡◌, ℕ, ◌+◌, ◌<◌, ◌≤◌, ◌==◌, ◌||◌, ◌⊎◌, inl, inr, Bool, true, false, if◌then◌else◌, not, List, [], ◌∷◌, map, get_or, refl, sym, ap, ◌∙◌, subst, arith, bytes_eq}
+use Rattle.std.specs.Prelude.{None}
 use Rattle.std.specs.List.{All, AllPairs}
-use Rattle.std.proofs.lemmas.List.{get_or-map, length-map}
-use Rattle.std.proofs.lemmas.List.Elements.{All-map, All-weaker}
-use Rattle.nf_access.proofs.Kept.{share_row_each}
+use Rattle.std.specs.Option.{option_and_then}
+use Rattle.std.proofs.lemmas.List.{map-id}
+use Rattle.std.proofs.lemmas.List.Elements.{All-filter, All-head, All-map}
+use Rattle.std.proofs.lemmas.Option.{none-some}
 use Rattle.nf_access.specs.Mounts.{is_mount_of}
+use Rattle.nf_base.specs.declared.limits.TheConstants.{MAX_QUOTA}
+use Rattle.nf_base.specs.declared.rows.ItemRow.{ItemRow}
 use Rattle.nf_base.specs.declared.rows.MountRow.{MountRow}
 use Rattle.nf_base.specs.declared.rows.ShareRow.{ShareRow}
-use Rattle.nf_defs.proofs.Loads.{rises}
-use Rattle.nf_defs.specs.Prelude.{Tables}
+use Rattle.nf_base.specs.declared.rows.UserRow.{UserRow}
+use Rattle.nf_defs.proofs.Puts.{all_put}
+use Rattle.nf_defs.specs.Prelude.{item_key, item_row, node_row, put, Tables, user_key}
+use Rattle.nf_defs.specs.Tree.{is_rooted}
 use Rattle.nf_laws.proofs.Allowing.{changes_allowed}
 use Rattle.nf_laws.proofs.Counters.{after_up}
-use Rattle.nf_laws.proofs.Rows.{found_is}
+use Rattle.nf_laws.proofs.Entries.{entry_has}
+use Rattle.nf_laws.proofs.Going.{purged_rest}
+use Rattle.nf_laws.proofs.Lists.{changes_have}
+use Rattle.nf_laws.proofs.Others.{item_gone}
+use Rattle.nf_laws.proofs.Peopled.{people_alone}
+use Rattle.nf_laws.proofs.Purged.{purged_keeps}
+use Rattle.nf_laws.proofs.Rows.{each_fails, finds_none, found_is, stamped_has}
 use Rattle.nf_laws.proofs.Stays.{sound_after}
-use Rattle.nf_laws.proofs.Upwards.{owners_there}
-use Rattle.nf_laws.specs.Access.{IsRemounted, IsSharing, is_gone_from, is_left, is_renamed, KeepsShares, NodesAllowed, Remounts}
+use Rattle.nf_laws.specs.Access.{ChangesAllowed, has_quota, has_token, is_left, is_renamed, IsProviding, IsRemounted, IsRestoring, IsSharing, joins, KeepsShares, leaves, makes_group, makes_user, NodesAllowed, Provides, Remounts}
+use Rattle.nf_laws.specs.Acts.{IsItemOf}
 use Rattle.nf_laws.specs.Numbers.{AreHigher}
-use Rattle.nf_words.specs.Prelude.{after, AreSound, Call, call_of, ended_row, IsInBounds, IsSound, MayAsk, MayCome, State}
+use Rattle.nf_words.proofs.Ends.{known_change}
+use Rattle.nf_words.proofs.Known.{Known}
+use Rattle.nf_words.specs.Prelude.{after, altered, AreSound, asker_of, Call, call_of, changed, ended_row, IsInBounds, IsModest, IsSound, item_if_of, MayAsk, MayCome, new_user, purged, purged_all, State, told}
+use Rattle.nf_words.specs.declared.answer.Allowed.{Allowed}
+use Rattle.nf_words.specs.declared.answer.Allowed.TheVariants as allowed
+use Rattle.nf_words.specs.declared.answer.Deed.{Deed}
+use Rattle.nf_words.specs.declared.answer.Report.{Report}
 use Rattle.nf_words.specs.declared.history.Entry.{Entry}
 use Rattle.nf_words.specs.declared.history.Event.TheVariants.{Begin}
+use Rattle.nf_words.specs.declared.request.PeopleAsk.{PeopleAsk}
 use Rattle.nf_words.specs.declared.request.Request.{Request}
 use Rattle.nf_words.specs.declared.request.Words.{Words}
 use Rattle.nf_rules.specs.Laws.{StaysRuled}
-use Rattle.nf_rules.specs.Ruled.{AreRuled, AreTokensApart, IsGiven, IsGroupRuled, IsMemberRuled, IsMountRuled, IsShareRuled, IsTokenRuled, IsUserRuled}
-use Rattle.nf_rules.specs.Rules.{are_share_numbers}
-use Rattle.nf_rules.proofs.After.{share_ruled, still_given}
+use Rattle.nf_rules.specs.Ruled.{AreRuled, AreTokensApart, IsGiven, IsItemRuled, IsMountRuled, IsShareRuled}
+use Rattle.nf_rules.proofs.Items.{from_still, given_gone, items_ruled}
+use Rattle.nf_rules.proofs.Kept.{apart, EndsSome, ends_unless, others_ruled, shares_ruled, still_mounted}
 use Rattle.nf_rules.proofs.OneShare.{mounts_ruled, one_apart, one_ruled}
 use Rattle.nf_rules.proofs.Peopled.{people_ruled}
-use Rattle.nf_rules.proofs.Rising.{nodes_rise}
+use Rattle.nf_rules.proofs.Trashing.{AreModest, trash_ruled}
 
--- ---- shares and mounts
+-- ---- mounts
 
--- a share that is ended, or as it was
-abbrev ending : (ℕ → Bool) → ShareRow → ShareRow
-ending gone share = if gone share.node then ended_row share else share
-
--- what the tables keep, of shares that end, is kept
-module _ (t made : Tables) (gone : ℕ → Bool) (h : AreRuled t) (sound : AreSound made) (up : AreHigher t.meta made.meta)
-    (same_shares : made.shares ≡ map (ending gone) t.shares) where
-  shares_ruled : All (IsShareRuled made) made.shares
-  shares_ruled k d within =
-      let row : ShareRow = get_or made.shares k d in
-      share_ruled t.meta made row sound up
-      (subst (All (λ (row : ShareRow). are_share_numbers t.meta row ≡ true)) (sym same_shares)
-      (All-map (λ (row : ShareRow). are_share_numbers t.meta row ≡ true) (ending gone) t.shares
-      (λ k d within. numbered (get_or t.shares k d) (h.shares k d within).numbers)) k d within)
-      (sound.others.shares k d within) (share_row_each made.shares sound.others.shares_rise k d within)
-    where
-      numbered : (share : ShareRow) → are_share_numbers t.meta share ≡ true → are_share_numbers t.meta (ending gone share) ≡ true
-      numbered share is = here (gone share.node)
-        where
-          here : (b : Bool) → are_share_numbers t.meta (if b then ended_row share else share) ≡ true
-          here true = is
-          here false = is
-
-  apart : AllPairs AreTokensApart made.shares
-  apart =
-      subst (AllPairs AreTokensApart) (sym same_shares)
-      (λ i j d before within.
-      let few : j < length t.shares = omega (arith, length-map t.shares (ending gone)) in
-      let a = get_or-map (ending gone) t.shares i d d (omega (arith, before, few)) in
-      let b = get_or-map (ending gone) t.shares j d d few in
-      λ token first second.
-      h.tokens_apart i j d before few token
-      (sym (ap (λ (row : ShareRow). row.kind) a ∙ same_kind (get_or t.shares i d)) ∙ first)
-      (sym (ap (λ (row : ShareRow). row.kind) b ∙ same_kind (get_or t.shares j d)) ∙ second))
-    where
-      same_kind : (share : ShareRow) → (ending gone share).kind ≡ share.kind
-      same_kind share = here (gone share.node)
-        where
-          here : (b : Bool) → (if b then ended_row share else share).kind ≡ share.kind
-          here true = refl
-          here false = refl
-
--- and of mounts that are left or renamed
+-- a mount that is left or renamed is of the same user and node
 same_mount : (call : Call) (old row : MountRow) → Remounts call old row → (row.user ≡ old.user) × (row.node ≡ old.node)
 same_mount call old _ (is_left spot asked own) = (refl, refl)
 same_mount call old _ (is_renamed source target overwrite asked own) = (refl, refl)
-
-still_mounted : (t made : Tables) → AreRuled t → AreHigher t.meta made.meta → All (IsMountRuled made) t.mounts
-still_mounted t made h up =
-    All-weaker (IsMountRuled t) (IsMountRuled made)
-    (λ row own. record {
-      user = still_given t.meta.next_user made.meta.next_user row.user up.users own.user;
-      node = still_given t.meta.next_node made.meta.next_node row.node up.nodes own.node;
-    }) t.mounts h.mounts
 
 remounted_ruled : (s : State) (e : Entry) (made : Tables) → AreRuled s.tables → AreHigher s.tables.meta made.meta
     → IsRemounted s e made → All (IsMountRuled made) made.mounts
@@ -114,51 +83,7 @@ remounted_ruled s e made h up is =
         here true row = row
         here false row = own
 
--- ---- the tables with other nodes, shares and mounts
-
-abbrev with_four : Tables → Tables → Tables
-with_four t made = record t { meta = made.meta; nodes = made.nodes; shares = made.shares; mounts = made.mounts }
-
--- where these keep the rules of their kinds
-others_ruled : (t other : Tables) → let made = with_four t other in AreRuled t → AreSound made → AreHigher t.meta made.meta
-    → All (IsShareRuled made) made.shares → AllPairs AreTokensApart made.shares → All (IsMountRuled made) made.mounts → AreRuled made
-others_ruled t other h sound up shares apart mounts =
-    let made : Tables = with_four t other in
-    record {
-      sound = sound;
-      rising = rises made h.rising.users h.rising.tokens h.rising.groups h.rising.members (nodes_rise made.nodes sound.rising)
-          sound.others.shares_rise sound.others.mounts_rise h.rising.versions h.rising.items h.rising.uploads h.rising.chunks;
-      owners = owners_there made sound;
-      users = All-weaker (IsUserRuled t) (IsUserRuled made)
-          (λ row own. record {
-            id = still_given t.meta.next_user made.meta.next_user row.id up.users own.id;
-            root = still_given t.meta.next_node made.meta.next_node row.root up.nodes own.root;
-            quota = own.quota;
-          }) t.users h.users;
-      tokens = All-weaker (IsTokenRuled t) (IsTokenRuled made)
-          (λ row own. record { given = still_given t.meta.next_user made.meta.next_user row.user up.users own.given; user = own.user })
-          t.tokens h.tokens;
-      groups = All-weaker (IsGroupRuled t) (IsGroupRuled made)
-          (λ row own. record { id = still_given t.meta.next_group made.meta.next_group row.id up.groups own.id }) t.groups h.groups;
-      members = All-weaker (IsMemberRuled t) (IsMemberRuled made)
-          (λ row own. record {
-            given_group = still_given t.meta.next_group made.meta.next_group row.group up.groups own.given_group;
-            given_user = still_given t.meta.next_user made.meta.next_user row.user up.users own.given_user;
-            group = own.group;
-            user = own.user;
-          }) t.members h.members;
-      shares = shares;
-      mounts = mounts;
-      user_names = h.user_names;
-      group_names = h.group_names;
-      tokens_apart = apart;
-      few_users = h.few_users;
-      few_groups = h.few_groups;
-      few_tokens = h.few_tokens;
-      few_members = h.few_members;
-    }
-
--- ---- histories
+-- ---- where nodes, shares and mounts are others
 
 -- the shares and the mounts keep the rules
 record AreKept (made : Tables) : Type 0 where
@@ -173,15 +98,15 @@ others_kept : (s : State) (e : Entry) (made : Tables) → AreRuled s.tables → 
 others_kept s e made ruled sound up users groups others bounds = elim others [
   | inl keeps ↦
       record {
-        shares = shares_ruled t made gone ruled sound up keeps.shares;
-        apart = apart t made gone ruled sound up keeps.shares;
+        shares = shares_ruled t made put ends ruled sound up keeps.shares;
+        apart = apart t made put ends ruled sound up keeps.shares;
         mounts = subst (All (IsMountRuled made)) (sym keeps.mounts) (still_mounted t made ruled up);
       }
   | inr (inl is) ↦
-      (let same : made.shares ≡ map (ending nowhere) t.shares = is.shares ∙ sym (ends_none t.shares) in
+      (let same : made.shares ≡ map (λ (share : ShareRow). share) t.shares = is.shares ∙ sym (map-id t.shares) in
       record {
-        shares = shares_ruled t made nowhere ruled sound up same;
-        apart = apart t made nowhere ruled sound up same;
+        shares = shares_ruled t made (λ share. share) (λ share. inl refl) ruled sound up same;
+        apart = apart t made (λ share. share) (λ share. inl refl) ruled sound up same;
         mounts = remounted_ruled s e made ruled up is;
       })
   | inr (inr is) ↦
@@ -195,38 +120,155 @@ others_kept s e made ruled sound up users groups others bounds = elim others [
     t : Tables
     t = s.tables
 
-    gone : ℕ → Bool
-    gone = is_gone_from t.nodes made.nodes
+    put : ShareRow → ShareRow
+    put share = if share.ended || is_rooted made.nodes share.node then share else ended_row share
 
-    nowhere : ℕ → Bool
-    nowhere node = false
+    ends : EndsSome put
+    ends share = ends_unless (share.ended || is_rooted made.nodes share.node) share
 
-    ends_none : (shares : List ShareRow) → map (ending nowhere) shares ≡ shares
-    ends_none [] = refl
-    ends_none (share ∷ shares) = ap (λ (rest : List ShareRow). share ∷ rest) (ends_none shares)
+-- what is known of the tables after an entry
+record IsAfter (s : State) (e : Entry) (made : Tables) : Type 0 where
+  sound : AreSound made
+  up : AreHigher s.tables.meta made.meta
+  none : (node : ℕ) → node < s.tables.meta.next_node → node_row s.tables.nodes node ≡ None → node_row made.nodes node ≡ None
+  allowed : ChangesAllowed s e made
+  bounds : (words : Words) (request : Request) → e.event ≡ Begin words request → IsInBounds request.wanted
 
 -- where an entry changes the nodes, the shares, the mounts and the meta row alone
-nodes_ruled : (n : ℕ) (s : State) (e : Entry) → AreRuled s.tables → IsSound s → MayCome n s e → NodesAllowed s e (after s e).tables
-    → AreRuled (after s e).tables
-nodes_ruled n s e ruled sound may changes =
-    let made : Tables = (after s e).tables in
-    let rows : AreSound made = (sound_after n s e sound may).rows in
-    let up = after_up s e e.mark in
-    let kept = others_kept s e made ruled rows up (ap (λ (t : Tables). t.users) changes.rest) (ap (λ (t : Tables). t.groups) changes.rest) changes.others bounds in
+nodes_ruled : (s : State) (e : Entry) (made : Tables) → AreRuled s.tables → IsAfter s e made → made.items ≡ s.tables.items → NodesAllowed s e made
+    → AreRuled made
+nodes_ruled s e made ruled is same changes =
+    let kept = others_kept s e made ruled is.sound is.up (ap (λ (t : Tables). t.users) changes.rest) (ap (λ (t : Tables). t.groups) changes.rest)
+    changes.others is.bounds in
+    let items = items_ruled s.tables made ruled is.up same (from_still s e made is.none changes) in
     subst AreRuled (sym changes.rest)
-    (others_ruled s.tables made ruled (subst AreSound changes.rest rows) up
+    (others_ruled s.tables made ruled (subst AreSound changes.rest is.sound) is.up
     (subst (λ (u : Tables). All (IsShareRuled u) u.shares) changes.rest kept.shares) kept.apart
-    (subst (λ (u : Tables). All (IsMountRuled u) u.mounts) changes.rest kept.mounts))
+    (subst (λ (u : Tables). All (IsMountRuled u) u.mounts) changes.rest kept.mounts)
+    (subst (λ (u : Tables). All (IsItemRuled u) u.items) changes.rest items))
+
+-- ---- an act that isn't of the trash
+
+-- it leaves the items as they were
+items_same : (t : Tables) (now : ℕ) (act : Allowed) → AreSound t → Known t now act
+    → ((did : Deed) (gone : List ℕ) (report : Report) → act ≡ allowed.Trash did gone report → ⊥) → (changed t now act).items ≡ t.items
+items_same t now act sound known other =
+    stamped_has (λ (u : Tables). u.items ≡ t.items) t (altered t now act) now (told t act) refl (here act known other)
   where
-    bounds : (words : Words) (request : Request) → e.event ≡ Begin words request → IsInBounds request.wanted
-    bounds words request begins = (subst (MayAsk s e.seat) begins may.asked).1.bounds
+    here : (act : Allowed) → Known t now act → ((did : Deed) (gone : List ℕ) (report : Report) → act ≡ allowed.Trash did gone report → ⊥)
+        → (altered t now act).items ≡ t.items
+    here (allowed.Change changes blob report) known other =
+        changes_have (λ (u : Tables). u.items ≡ t.items) t now changes blob report sound.rising known (λ u row same it. same) (λ u row same it. same)
+        (λ u row same it. same) (λ u row same it. same) (λ u change same it. ap (λ (v : Tables). v.items) (people_alone u change it) ∙ same)
+        (λ u row root same it. same) refl
+    here (allowed.Trash did gone report) known other = absurd (other did gone report refl)
+    here act known other = refl
+
+-- so that none of them goes
+none_goes : (s : State) (e : Entry) (made : Tables) → made.items ≡ s.tables.items → (changes : ChangesAllowed s e made) → made ≡ changes.between
+none_goes s e made same changes = here changes.settled.tops changes.settled.items changes.settled.gone
+  where
+    t : Tables
+    t = s.tables
+
+    user : ℕ
+    user = changes.settled.user
+
+    IsNot : ℕ → ItemRow → Type 0
+    IsNot top item = (item.node == top) ≡ false
+
+    left : (top : ℕ) (tops : List ℕ) → All (IsNot top) (purged_all (purged changes.between top) tops).items
+    left top tops =
+        purged_keeps (λ (u : Tables). All (IsNot top) u.items)
+        (λ u node all. All-filter (λ (item : ItemRow). not (bytes_eq (node ∷ []) (item_key item))) (IsNot top) u.items all)
+        (purged changes.between top) tops
+        (each_fails (λ (item : ItemRow). item.node == top) (purged changes.between top).items (item_gone top changes.between.items))
+
+    here : (tops : List ℕ) → All (IsItemOf t user) tops → made ≡ purged_all changes.between tops → made ≡ changes.between
+    here [] items gone = gone
+    here (top ∷ tops) items gone =
+        let item = All-head (IsItemOf t user) top tops items in
+        let none : item_row t.items top ≡ None =
+        ap (λ (rows : List ItemRow). item_row rows top) (sym same ∙ ap (λ (u : Tables). u.items) gone)
+        ∙ finds_none (λ (item : ItemRow). item.node == top) (purged_all (purged changes.between top) tops).items (left top tops) in
+        absurd (none-some item.0 (sym none ∙ item.1))
+
+-- nor does one come back
+none_back : (s : State) (e : Entry) (made : Tables) → made.items ≡ s.tables.items → IsRestoring s e made → ⊥
+none_back s e made same is =
+    let none : item_row s.tables.items is.node ≡ None =
+    ap (λ (rows : List ItemRow). item_row rows is.node) (sym same ∙ ap (λ (u : Tables). u.items) is.rows) ∙ item_gone is.node s.tables.items in
+    none-some is.item
+    (sym (ap (option_and_then (item_if_of (asker_of (call_of s e.seat e.moment is.words is.request)))) none) ∙ is.own)
+
+-- so the rules are kept
+plain_ruled : (s : State) (e : Entry) (made : Tables) → AreRuled s.tables → IsAfter s e made → made.items ≡ s.tables.items → AreRuled made
+plain_ruled s e made ruled is same =
+    elim (subst (λ (u : Tables). NodesAllowed s e u ⊎ (IsProviding s e u ⊎ IsRestoring s e u)) (sym (none_goes s e made same is.allowed)) is.allowed.allowed) [
+      | inl nodes ↦ nodes_ruled s e made ruled is same nodes
+      | inr (inl people) ↦ people_ruled s e made ruled is.sound is.up people
+      | inr (inr back) ↦ absurd (none_back s e made same back)
+    ]
+
+-- ---- quotas
+
+abbrev IsModestRow : UserRow → Type 0
+IsModestRow row = row.quota ≤ MAX_QUOTA
+
+-- where no user is another, no quota is beyond the greatest
+modest_as : (t made : Tables) → AreRuled t → made.users ≡ t.users → AreModest made
+modest_as t made h same = subst (All IsModestRow) (sym same) (λ k d within. (h.users k d within).quota)
+
+-- nor where one is
+modest_put : (t made : Tables) (row : UserRow) → AreRuled t → row.quota ≤ MAX_QUOTA → made.users ≡ put user_key row t.users → AreModest made
+modest_put t made row h modest is =
+    subst (All IsModestRow) (sym is) (all_put user_key IsModestRow row t.users modest (modest_as t t h refl))
+
+provided_modest : (t made : Tables) (now : ℕ) (asked : PeopleAsk) → AreRuled t → IsModest asked → Provides t now made asked → AreModest made
+provided_modest t made now _ h modest (makes_user name token quota free fresh is) =
+    modest_put t made (new_user t name quota) h modest (ap (λ (u : Tables). u.users) is)
+provided_modest t made now _ h modest (makes_group name free is) = modest_as t made h (ap (λ (u : Tables). u.users) is)
+provided_modest t made now _ h modest (joins user group row named none is mounts all) = modest_as t made h (ap (λ (u : Tables). u.users) is)
+provided_modest t made now _ h modest (leaves user group row named there is) = modest_as t made h (ap (λ (u : Tables). u.users) is)
+provided_modest t made now _ h modest (has_quota user quota row named is) =
+    modest_put t made (record row { quota = quota }) h modest (ap (λ (u : Tables). u.users) is)
+provided_modest t made now _ h modest (has_token user token id named free is) = modest_as t made h (ap (λ (u : Tables). u.users) is)
+
+-- nor is one after an entry
+modest_after : (s : State) (e : Entry) (made : Tables) → AreRuled s.tables → ChangesAllowed s e made → AreModest made
+modest_after s e made h changes =
+    subst (All IsModestRow) (sym (ap (λ (u : Tables). u.users) (changes.settled.gone ∙ purged_rest changes.between changes.settled.tops)))
+    (elim changes.allowed [
+      | inl nodes ↦ modest_as s.tables changes.between h (ap (λ (u : Tables). u.users) nodes.rest)
+      | inr (inl people) ↦ provided_modest s.tables changes.between e.moment people.asked h people.modest people.provides
+      | inr (inr back) ↦ modest_as s.tables changes.between h (ap (λ (u : Tables). u.users) back.rows)
+    ])
+
+-- ---- histories
+
+-- each act that may come keeps the rules
+act_ruled : (s : State) (e : Entry) (act : Allowed) → AreRuled s.tables → s.tables.meta.last ≤ e.moment → Known s.tables e.moment act
+    → IsAfter s e (changed s.tables e.moment act) → AreRuled (changed s.tables e.moment act)
+act_ruled s e (allowed.Trash did gone report) ruled later known is =
+    let act : Allowed = allowed.Trash did gone report in
+    stamped_has (λ (u : Tables). AreModest u → AreRuled u) s.tables (altered s.tables e.moment act) e.moment (told s.tables act) (λ modest. ruled)
+    (trash_ruled s.tables e.moment did gone ruled later known)
+    (modest_after s e (changed s.tables e.moment act) ruled is.allowed)
+act_ruled s e act ruled later known is =
+    plain_ruled s e (changed s.tables e.moment act) ruled is
+    (items_same s.tables e.moment act ruled.sound known (λ did gone report same. cc))
 
 ruled_after : (n : ℕ) (s : State) (e : Entry) → AreRuled s.tables → IsSound s → MayCome n s e → AreRuled (after s e).tables
 ruled_after n s e ruled sound may =
-    elim (changes_allowed n s e sound may) [
-      | inl nodes ↦ nodes_ruled n s e ruled sound may nodes
-      | inr people ↦ people_ruled s e (after s e).tables ruled (sound_after n s e sound may).rows (after_up s e e.mark) people
-    ]
+    entry_has (λ t tickets blob. IsAfter s e t → AreRuled t) s e e.mark (λ is. ruled)
+    (λ act is. act_ruled s e act ruled (omega (arith, sound.seen, may.not_before)) (known_change s e.seat e.moment e.event act sound may.asked is))
+    (record {
+      sound = (sound_after n s e sound may).rows;
+      up = after_up s e e.mark;
+      none = λ node. given_gone n s e node sound may;
+      allowed = changes_allowed n s e sound may;
+      bounds = λ words request begins. (subst (MayAsk s e.seat) begins may.asked).1.bounds;
+    })
 
 pub stays_ruled : StaysRuled
 stays_ruled n s [] ruled sound legal = ruled

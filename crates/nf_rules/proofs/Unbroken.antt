@@ -38,6 +38,7 @@ use Rattle.nf_rules.specs.Ruled.{IsGiven, IsMountRuled, IsShareRuled}
 use Rattle.nf_rules.specs.Rules.{AreUnbroken, are_counters, are_numbers, has_ungiven_blob, is_beyond, is_given, is_lavish, is_placed, is_root_of, is_shared_well, lacks_meta, leads, names_are_there, rules}
 use Rattle.nf_rules.proofs.Among.{Have, all_have, meta_has}
 use Rattle.nf_rules.proofs.Firsts.{keep_each}
+use Rattle.nf_rules.proofs.Items.{item_ruled, item_sound}
 use Rattle.nf_rules.proofs.Later.{nobody, none_of}
 use Rattle.nf_rules.proofs.Leading.{climbs, place_of_leading}
 use Rattle.nf_rules.proofs.Shared.{AreUnshared, IsAmong, each_among, one_has}
@@ -233,11 +234,14 @@ others all h =
     let among = all_have (IsAmong all) all (each_among all) in
     let early = all_have (λ row. is_later row ≡ false) all h.early in
     let there = all_have (λ row. names_are_there t row ≡ true) all h.there in
+    let numbers = all_have (λ row. are_numbers t.meta row ≡ true) all h.numbers in
+    let placed = all_have (λ row. is_placed t row ≡ true) all h.placed in
     let well = all_have (λ row. is_shared_well t row ≡ true) all h.well in
     let within = all_have (λ row. is_beyond t row ≡ false) all h.few in
+    let roots = All-weaker (λ (row : UserRow). is_placed t (rows.User row) ≡ true) (HasRoot t) (has_root t) t.users placed.users in
     let apart = names_differ mount_key rows.Mount (λ row. refl) t all t.mounts h.names rising.mounts among.mounts in
     record {
-      shares = All-weaker (IsShareRuled t) (IsShareSound t) (share_sound t) t.shares (shares_ruled all h);
+      shares = All-weaker (IsShareRuled t) (IsShareSound t) (λ row. share_sound t row roots) t.shares (shares_ruled all h);
       shares_rise = rising.shares;
       few_shares = few t.shares MAX_SHARES within.shares;
       mounts = λ k d less.
@@ -253,7 +257,8 @@ others all h =
           ∙ ap (λ (name : List ℕ). Some (6 ∷ root_folder t.users a.user ∷ name)) (sym same));
       few_mounts = few t.mounts MAX_MOUNTS within.mounts;
       versions = λ k d less. absurd (false≢true (sym (early.versions k d less)));
-      items = λ k d less. absurd (false≢true (sym (early.items k d less)));
+      items = λ k d less. item_sound t (get_or t.items k d) (numbers.items k d less) (placed.items k d less);
+      items_rise = rising.items;
       uploads = λ k d less. absurd (false≢true (sym (early.uploads k d less)));
       chunks = λ k d less. absurd (false≢true (sym (early.chunks k d less)));
     }
@@ -310,6 +315,7 @@ unbroken_are_ruled all kept none =
     let among = all_have (IsAmong all) all (each_among all) in
     let numbers = all_have (λ row. are_numbers t.meta row ≡ true) all h.numbers in
     let there = all_have (λ row. names_are_there t row ≡ true) all h.there in
+    let placed = all_have (λ row. is_placed t row ≡ true) all h.placed in
     let within = all_have (λ row. is_beyond t row ≡ false) all h.few in
     let modest = all_have (λ row. is_lavish row ≡ false) all h.modest in
     let users = names_differ user_key rows.User (λ row. refl) t all t.users h.names rising.users among.users in
@@ -339,6 +345,7 @@ unbroken_are_ruled all kept none =
           };
       shares = shares_ruled all h;
       mounts = mounts_ruled all h;
+      items = λ k d less. item_ruled t (get_or t.items k d) (numbers.items k d less) (placed.items k d less);
       user_names = λ i j d before less same. users i j d before less (2 ∷ (get_or t.users i d).name) refl
           (ap (λ (name : List ℕ). Some (2 ∷ name)) (sym same));
       group_names = λ i j d before less same. groups i j d before less (4 ∷ (get_or t.groups i d).name) refl

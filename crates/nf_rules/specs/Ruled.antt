@@ -8,11 +8,12 @@ use Rattle.nf_base.specs.declared.rows.GroupRow.{GroupRow}
 use Rattle.nf_base.specs.declared.rows.MemberRow.{MemberRow}
 use Rattle.nf_base.specs.declared.rows.NodeRow.{NodeRow}
 use Rattle.nf_base.specs.declared.rows.MountRow.{MountRow}
+use Rattle.nf_base.specs.declared.rows.ItemRow.{ItemRow}
 use Rattle.nf_base.specs.declared.rows.ShareKind.TheVariants as to
 use Rattle.nf_base.specs.declared.rows.ShareRow.{ShareRow}
 use Rattle.nf_defs.specs.Prelude.{AreRising, Tables}
 use Rattle.nf_words.specs.Sound.{AreSound}
-use Rattle.nf_rules.specs.Rules.{are_share_names_there, are_share_numbers, is_group, is_share_kept, is_user}
+use Rattle.nf_rules.specs.Rules.{are_share_names_there, are_share_numbers, is_from_kept, is_group, is_share_kept, is_user}
 
 -- the number was given, where that is the next
 pub record IsGiven (next id : ℕ) : Type 0 where
@@ -56,6 +57,13 @@ pub record IsMountRuled (t : Tables) (row : MountRow) : Type 0 where
   pub user : IsGiven t.meta.next_user row.user
   pub node : IsGiven t.meta.next_node row.node
 
+-- an item's node and owner were given, and so was the folder that it was in, which is one of the owner's where it is there
+pub record IsItemRuled (t : Tables) (row : ItemRow) : Type 0 where
+  pub node : IsGiven t.meta.next_node row.node
+  pub owner : IsGiven t.meta.next_user row.owner
+  pub from : IsGiven t.meta.next_node row.from
+  pub kept : is_from_kept t row ≡ true
+
 -- the tables of rows that break no rule
 pub record AreRuled (t : Tables) : Type 0 where
   pub sound : AreSound t
@@ -67,6 +75,7 @@ pub record AreRuled (t : Tables) : Type 0 where
   pub members : All (IsMemberRuled t) t.members
   pub shares : All (IsShareRuled t) t.shares
   pub mounts : All (IsMountRuled t) t.mounts
+  pub items : All (IsItemRuled t) t.items
   pub user_names : AllPairs (λ (a b : UserRow). a.name ≢ b.name) t.users
   pub group_names : AllPairs (λ (a b : GroupRow). a.name ≢ b.name) t.groups
   pub tokens_apart : AllPairs AreTokensApart t.shares

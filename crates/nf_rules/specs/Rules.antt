@@ -10,6 +10,7 @@ use Rattle.nf_base.specs.declared.rows.MetaRow.{MetaRow}
 use Rattle.nf_base.specs.declared.rows.NodeRow.{NodeRow}
 use Rattle.nf_base.specs.declared.rows.UserRow.{UserRow}
 use Rattle.nf_base.specs.declared.rows.GroupRow.{GroupRow}
+use Rattle.nf_base.specs.declared.rows.ItemRow.{ItemRow}
 use Rattle.nf_base.specs.declared.rows.Row.{Row}
 use Rattle.nf_base.specs.declared.rows.Row.TheVariants as rows
 use Rattle.nf_base.specs.declared.rows.ShareKind.{ShareKind}
@@ -66,6 +67,11 @@ are_share_numbers meta row =
     && option_map_or (is_given meta.next_share) row.parent true && option_map_or is_end_moment row.until true
     && not (nat_lt meta.last row.made)
 
+-- the item's node was given, its owner and the folder that it was in, and it isn't of a moment to come
+abbrev pub are_item_numbers : MetaRow → ItemRow → Bool
+are_item_numbers meta row =
+    is_given meta.next_node row.node && is_given meta.next_user row.owner && is_given meta.next_node row.from && not (nat_lt meta.last row.at)
+
 abbrev pub are_numbers : MetaRow → Row → Bool
 are_numbers meta (rows.Meta row) = are_counters row
 are_numbers meta (rows.User row) = is_given meta.next_user row.id && is_given meta.next_node row.root
@@ -77,6 +83,7 @@ are_numbers meta (rows.Node row) =
     && not (has_ungiven_blob meta.next_blob row.content) && not (nat_lt meta.last row.changed)
 are_numbers meta (rows.Share row) = are_share_numbers meta row
 are_numbers meta (rows.Mount row) = is_given meta.next_user row.user && is_given meta.next_node row.node
+are_numbers meta (rows.Item row) = are_item_numbers meta row
 are_numbers meta other = true
 
 -- ---- 3: what a row names is there
@@ -109,6 +116,7 @@ are_share_names_there t row =
     is_user t row.owner && is_user t row.initiator && is_recipient_there t row.kind && option_map_or (is_share t) row.parent true
     && (row.ended || is_node t row.node)
 
+-- the folder that an item was in may be gone
 abbrev pub names_are_there : Tables → Row → Bool
 names_are_there t (rows.User row) = is_node t row.root
 names_are_there t (rows.Token row) = is_user t row.user
@@ -116,6 +124,7 @@ names_are_there t (rows.Member row) = is_group t row.group && is_user t row.user
 names_are_there t (rows.Node row) = is_user t row.owner && is_place_there t row.place
 names_are_there t (rows.Share row) = are_share_names_there t row
 names_are_there t (rows.Mount row) = is_user t row.user
+names_are_there t (rows.Item row) = is_user t row.owner && is_node t row.node
 names_are_there t other = true
 
 -- ---- 4: no name is there twice, among the users, the groups, the tokens of links, or the children of a folder with the mounts of a root
@@ -123,7 +132,7 @@ names_are_there t other = true
 abbrev pub is_namesake : List Row → Row → Bool
 is_namesake all row = let t = tables_of all in is_shared (map (name_key t) all) (name_key t row)
 
--- ---- 5: users have their roots, and nodes lead to them or into the trash
+-- ---- 5: users have their roots, nodes lead to them or into the trash, and items are of what is in the trash
 
 abbrev pub is_root_of : UserRow → NodeRow → Bool
 is_root_of user node = is_root_place node.place && is_folder_kind node.kind && node.owner == user.id && bytes_eq node.name user.name
@@ -143,9 +152,30 @@ leads_within (suc k) t row = leads_from t row row.place (leads_within k t)
 unfoldable pub leads : Tables → NodeRow → Bool
 leads t row = leads_within MAX_DEPTH t row
 
+abbrev pub is_trash_place : Place → Bool
+is_trash_place Root = false
+is_trash_place (Inside folder) = false
+is_trash_place Trash = true
+
+-- the node is in the trash of the item's owner
+abbrev pub is_trashed_as : ItemRow → NodeRow → Bool
+is_trashed_as item of = is_trash_place of.place && of.owner == item.owner
+
+-- the node is a folder of the item's owner
+abbrev pub is_folder_for : ItemRow → NodeRow → Bool
+is_folder_for item from = is_folder_kind from.kind && from.owner == item.owner
+
+-- where the folder that an item was in is there, it is a folder of the item's owner
+abbrev pub is_from_kept : Tables → ItemRow → Bool
+is_from_kept t row = option_map_or (is_folder_for row) (node_row t.nodes row.from) true
+
+abbrev pub is_item_kept : Tables → ItemRow → Bool
+is_item_kept t row = option_map_or (is_trashed_as row) (node_row t.nodes row.node) false && is_from_kept t row
+
 abbrev pub is_placed : Tables → Row → Bool
 is_placed t (rows.User row) = option_map_or (is_root_of row) (node_row t.nodes row.root) false
 is_placed t (rows.Node row) = leads t row
+is_placed t (rows.Item row) = is_item_kept t row
 is_placed t other = true
 
 -- ---- 6: shares have chains and are of their owners' nodes, and mounts of others'

@@ -78,6 +78,7 @@ granted (Ok reply.Closed) = None
 granted (Ok (reply.Listing lines)) = None
 granted (Ok (reply.Share line)) = None
 granted (Ok (reply.Shares lines)) = None
+granted (Ok (reply.Items lines)) = None
 granted (Ok reply.Plain) = None
 granted (Err refusal) = None
 
@@ -182,6 +183,7 @@ IsOfBegin (Ok reply.Done) = Unit {0}
 IsOfBegin (Ok (reply.Listing lines)) = Unit {0}
 IsOfBegin (Ok (reply.Share line)) = Unit {0}
 IsOfBegin (Ok (reply.Shares lines)) = Unit {0}
+IsOfBegin (Ok (reply.Items lines)) = Unit {0}
 IsOfBegin (Ok reply.Plain) = Unit {0}
 IsOfBegin (Ok reply.Closed) = ⊥
 IsOfBegin (Err refusal) = Unit {0}
@@ -287,6 +289,7 @@ IsOfBody (Ok (reply.Granted goal)) = ⊥
 IsOfBody (Ok (reply.Listing lines)) = ⊥
 IsOfBody (Ok (reply.Share line)) = ⊥
 IsOfBody (Ok (reply.Shares lines)) = ⊥
+IsOfBody (Ok (reply.Items lines)) = ⊥
 IsOfBody (Ok reply.Plain) = ⊥
 IsOfBody (Err refusal) = Unit {0}
 

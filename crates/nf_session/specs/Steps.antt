@@ -154,6 +154,7 @@ is_granted (begun.Asked (Ok reply.Closed)) = false
 is_granted (begun.Asked (Ok (reply.Listing lines))) = false
 is_granted (begun.Asked (Ok (reply.Share line))) = false
 is_granted (begun.Asked (Ok (reply.Shares lines))) = false
+is_granted (begun.Asked (Ok (reply.Items lines))) = false
 is_granted (begun.Asked (Ok reply.Plain)) = false
 is_granted (begun.Asked (Err refusal)) = false
 
@@ -222,6 +223,7 @@ IsResponse (Ok (reply.Granted goal)) v = ⊥
 IsResponse (Ok (reply.Listing lines)) v = v ≡ response.Listing lines
 IsResponse (Ok (reply.Share line)) v = v ≡ response.Share line
 IsResponse (Ok (reply.Shares lines)) v = v ≡ response.Shares lines
+IsResponse (Ok (reply.Items lines)) v = v ≡ response.Items lines
 IsResponse (Ok reply.Plain) v = v ≡ response.Plain
 IsResponse (Err refusal) v = v ≡ response.Denied refusal
 

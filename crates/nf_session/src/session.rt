@@ -22,8 +22,8 @@ use crate::ended::{Ended, closes, end_by, end_of, says_close};
 use crate::response::Response;
 use nf_base::{Content, MAX_MESSAGES, Moment};
 use nf_dav::{
-    Manner, Unasked, continue_answer, done, file_head, listing, made, plain, refusal, request,
-    share, shares,
+    Manner, Unasked, continue_answer, done, file_head, items, listing, made, plain, refusal,
+    request, share, shares,
 };
 use nf_http::{Buffer, Message, WireFault, next_message, read_body, send, skip_body};
 use nf_outside::{Clock, Dice, Sink, Source};
@@ -246,6 +246,7 @@ where
             Begun::Asked(Ok(Reply::Listing(lines))) => Response::Listing(lines),
             Begun::Asked(Ok(Reply::Share(line))) => Response::Share(line),
             Begun::Asked(Ok(Reply::Shares(lines))) => Response::Shares(lines),
+            Begun::Asked(Ok(Reply::Items(lines))) => Response::Items(lines),
             Begun::Asked(Ok(Reply::Plain)) => Response::Plain,
             Begun::Asked(Ok(Reply::Granted(Goal::Store { .. }) | Reply::Closed)) => unreachable!(),
             Begun::Asked(Err(denial)) | Begun::Unasked(denial) => Response::Denied(denial),
@@ -320,6 +321,7 @@ where
             Response::Listing(lines) => self.say(listing(self.alloc, lines, manner.close)),
             Response::Share(line) => self.say(share(self.alloc, line, manner.close)),
             Response::Shares(lines) => self.say(shares(self.alloc, lines, manner.close)),
+            Response::Items(lines) => self.say(items(self.alloc, lines, manner.close)),
             Response::Plain => self.say(plain(self.alloc, manner.close)),
             Response::Lost(fault) => self.say(refusal(self.alloc, &fault.denial(), manner)),
             Response::File { content, first } => self.send_file(content, first, manner.close),

@@ -14,11 +14,13 @@ use Rattle.nf_words.specs.declared.answer.Report.TheVariants as report
 -- what is answered beside a report and an act: nothing yet, where that is a list
 abbrev pub beside_report : Report → Reply
 beside_report (report.Shares lines) = Closed
+beside_report (report.Items lines) = Closed
 beside_report other = reported other
 
 abbrev pub beside : Allowed → Reply
 beside (allowed.List listing) = Closed
 beside (allowed.Change changes blob told) = beside_report told
+beside (allowed.Trash deed gone told) = beside_report told
 beside other = reply_to other
 
 -- another act does the same, whatever is told of it

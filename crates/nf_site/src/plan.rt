@@ -142,6 +142,14 @@ pub(crate) fn parted(act: Allowed, reply: Reply) -> (Allowed, Reply)
             };
             (act, handed_over(report, reply))
         }
+        Allowed::Trash { deed, gone, report } => {
+            let act = Allowed::Trash {
+                deed,
+                gone,
+                report: Report::Plain,
+            };
+            (act, handed_over(report, reply))
+        }
         act => (act, reply),
     }
 }
@@ -153,6 +161,7 @@ fn handed_over(report: Report, reply: Reply) -> Reply
 {
     match report {
         Report::Shares(lines) => Reply::Shares(lines),
+        Report::Items(lines) => Reply::Items(lines),
         Report::Made | Report::Done | Report::Share(_) | Report::Plain => reply,
     }
 }
@@ -177,8 +186,7 @@ fn beside(alloc: Global, act: &Allowed) -> Result<Reply, AllocError>
             key: key.copy()?,
             length: *length,
         })),
-        Allowed::Change { report, .. } => beside_report(report),
-        Allowed::Delete(_) => Ok(Reply::Done),
+        Allowed::Change { report, .. } | Allowed::Trash { report, .. } => beside_report(report),
         Allowed::Move { transfer, name: _ } => Ok(reply_by(transfer.replaced)),
         Allowed::Copy { rows: _, replaced } => Ok(reply_by(*replaced)),
         Allowed::Cross { replaced, .. } => Ok(reply_by(*replaced)),
@@ -193,7 +201,7 @@ fn beside_report(report: &Report) -> Result<Reply, AllocError>
         Report::Made => Ok(Reply::Made),
         Report::Done => Ok(Reply::Done),
         Report::Share(line) => Ok(Reply::Share(copy_share(line)?)),
-        Report::Shares(_) => Ok(Reply::Closed),
+        Report::Shares(_) | Report::Items(_) => Ok(Reply::Closed),
         Report::Plain => Ok(Reply::Plain),
     }
 }

@@ -44,8 +44,8 @@ use Rattle.nf_words.proofs.Known.{Known}
 use Rattle.nf_words.proofs.Mounting.{mount_found}
 use Rattle.nf_words.proofs.Starts.{row_of_caller, user_seeks}
 use Rattle.nf_words.proofs.Starts.IsAsking.{by_user}
-use Rattle.nf_words.proofs.Ways.{bounded, way_there}
-use Rattle.nf_words.specs.Prelude.{access_of, AreSound, asked_about, asker_of, Call, caller_row, changed_key, counted, ended_row, fault_of_ask, found, is_long, is_own, is_owner, is_steered_by, is_widened, IsKindSound, IsLean, IsNewShare, IsOfNode, IsOtherShare, is_past, IsShareSound, kind_of, kind_to, last_number, limit_of_ask, live_share, mount_limit, new_share, offer_fault, offer_limit, offer_of, parent_by, parent_for, node_found, nothing_done, offered, perms_after, put_mounts, raised, receiver_named, same_end, seeker_of, set_row, share_ended, share_made, share_set, share_shown, share_steered, share_told, shared, StandsOn, unreached, until_after, user_of, users_for, way_of}
+use Rattle.nf_words.proofs.Ways.{bounded, node_present, way_there}
+use Rattle.nf_words.specs.Prelude.{access_of, AreSound, asked_about, asker_of, Call, caller_row, changed_key, counted, ended_row, fault_of_ask, found, is_long, is_own, is_owner, is_steered_by, is_widened, IsKindSound, IsLean, IsNewShare, IsOfNode, IsOtherShare, is_past, IsShareSound, kind_of, kind_to, last_number, LeadsToRoot, limit_of_ask, live_share, mount_limit, new_share, offer_fault, offer_limit, offer_of, parent_by, parent_for, node_found, nothing_done, offered, perms_after, put_mounts, raised, receiver_named, same_end, seeker_of, set_row, share_ended, share_made, share_set, share_shown, share_steered, share_told, shared, StandsOn, unreached, until_after, user_of, users_for, way_of}
 use Rattle.nf_words.specs.Tokens.{link_token}
 use Rattle.nf_words.specs.declared.answer.Limit.{Limit}
 use Rattle.nf_words.specs.declared.answer.Limit.TheVariants as limit
@@ -397,6 +397,7 @@ module _ (call : Call) (user : UserRow) (sound : AreSound call.state.tables) (is
   -- ---- a new share, with the mounts that are put with it
 
   module _ (mount wanted until : Option ℕ) (node : ℕ) (to : Receiver) (of : NodeRow) (there : node_row t.nodes node ≡ Some of)
+      (present : LeadsToRoot t.nodes node)
       (known : IsKindSound t (kind_to (link_token call.words) to))
       (fits : offer_fault (access_of call.state) call (offer_of t.nodes (link_token call.words) mount wanted until node to) ≡ None)
       (few : offer_limit t (offer_of t.nodes (link_token call.words) mount wanted until node to) ≡ None) where
@@ -486,6 +487,7 @@ module _ (call : Call) (user : UserRow) (sound : AreSound call.state.tables) (is
       live = refl;
       node = of;
       there = rw nodes there;
+      present = rw nodes present;
       of_node = of_node;
       initiator = rw users asker_there;
       kind = kind_in to known;
@@ -569,7 +571,8 @@ module _ (call : Call) (user : UserRow) (sound : AreSound call.state.tables) (is
           → Known t call.now (option_map_or (share_made (access_of call.state) call) (of place to) nothing_done)
       here (At node) (Some to) leads named fits few =
           let row = way_there call spot sound (by_user user is) node reached leads in
-          made_known (way_of call spot).mount wanted until node to row.0 row.1 (receiver_there name to named) fits few
+          made_known (way_of call spot).mount wanted until node to row.0 row.1 (node_present call spot sound (by_user user is) node reached leads)
+          (receiver_there name to named) fits few
       here (At node) None leads named fits few = nothing_known t call.now
       here (Free folder) to leads named fits few = nothing_known t call.now
       here (Missing depth) to leads named fits few = nothing_known t call.now

@@ -29,13 +29,13 @@ use Rattle.nf_words.proofs.Passing.{acts_pass, call_passes, no_fault, no_limit, 
 use Rattle.nf_words.proofs.Starts.{has_asker, IsAsking, itself_asker, link_found, link_mount, link_seeks, only_files, root_is, row_of_caller, user_root, user_seeks}
 use Rattle.nf_words.proofs.Starts.IsAsking.{by_link, by_user}
 use Rattle.nf_words.proofs.Transfers.{copied_known, fit_parts, moved_known, off}
-use Rattle.nf_words.proofs.Ways.{bounded, free_no_mount, slot_known, way_there}
+use Rattle.nf_words.proofs.Ways.{bounded, free_no_mount, node_present, present_inside, slot_known, slot_present, way_there}
 use Rattle.nf_words.specs.Asked.{asked_about}
 use Rattle.nf_words.specs.Calls.{link_by}
 use Rattle.nf_words.specs.declared.request.Caller.{Caller}
 use Rattle.nf_words.specs.declared.request.Caller.TheVariants.{Link}
 use Rattle.nf_words.specs.History.{IsShort}
-use Rattle.nf_words.specs.Prelude.{access_of, AreSound, asked_of, asker_of, by_of, Call, call_decision, caller_row, deleted, exists_rule, folder_seen, found, given, is_about_files, is_by_link, is_free_in, IsNodeSound, is_off_mount, is_owner, is_root_at, is_within, IsSound, is_there, last_name, limit_at, limit_rule, limited, link_of, linked_of, listing_of, IsLinkTo, made_folder, may_by, MayWant, mount_left, mount_of, mount_renamed, moved, Need, needs, needs_between, needs_in, node_at, node_found, places_by, root_of, seeker_of, served, stored, taken, target_rule, transfer_between, transfer_of, unfit, unfit_between, unreached, user_of, way_by, way_of, ways_for, fault_by, sharing_rule, limit_by, room_rule}
+use Rattle.nf_words.specs.Prelude.{access_of, AreSound, asked_of, asked_of_trash, asker_of, by_of, Call, call_decision, caller_row, deleted, discard, exists_rule, fault_by, folder_seen, found, given, is_about_files, is_by_link, is_free_in, IsLinkTo, IsNodeSound, is_off_mount, is_owner, is_root_at, IsSound, is_taken, is_there, is_within, last_name, LeadsToRoot, limit_at, limit_by, limited, limit_rule, linked_of, link_of, listing_of, made_folder, may_by, MayWant, mount_left, mount_of, mount_renamed, moved, Need, needs, needs_between, needs_in, node_at, node_found, nothing_done, own_item, people_done, people_limit, places_by, requoted, room_rule, root_of, row_named, seeker_of, served, sharing_rule, stored, taken, target_rule, transfer_between, transfer_of, trash_done, unfit, unfit_between, unreached, user_of, way_by, way_of, ways_for}
 use Rattle.nf_words.specs.Needed.{target_needs}
 use Rattle.nf_words.specs.Sound.{MayStoreBy}
 use Rattle.nf_words.specs.declared.answer.Allowed.{Allowed}
@@ -47,12 +47,17 @@ use Rattle.nf_words.specs.declared.request.Making.TheVariants as making
 use Rattle.nf_words.specs.declared.request.Places.{Places}
 use Rattle.nf_words.specs.declared.request.Spot.{Spot}
 use Rattle.nf_words.specs.declared.request.Wanted.{Wanted}
-use Rattle.nf_words.specs.declared.request.Wanted.TheVariants.{Get, Put, Mkcol, Delete, Move, Copy, Share, People}
+use Rattle.nf_words.specs.declared.request.Wanted.TheVariants.{Get, Put, Mkcol, Delete, Move, Copy, Share, People, Trash}
 use Rattle.nf_words.specs.declared.request.ShareAsk.{ShareAsk}
 use Rattle.nf_words.specs.declared.request.ShareAsk.TheVariants as ask
-use Rattle.nf_words.proofs.Provided.{not_taken, people_known}
+use Rattle.nf_words.proofs.Provided.{not_taken, people_known, row_there}
 use Rattle.nf_words.specs.declared.answer.Breach.TheVariants as rule
-use Rattle.nf_words.proofs.Asks.{asks_known}
+use Rattle.nf_words.proofs.Asks.{asks_known, nothing_known}
+use Rattle.nf_words.proofs.Trashing.{discard_known, dropped_known, emptied_known, requoted_known, restored_known}
+use Rattle.nf_words.specs.declared.request.PeopleAsk.{PeopleAsk}
+use Rattle.nf_words.specs.declared.request.TrashAsk.{TrashAsk}
+use Rattle.nf_words.specs.declared.request.PeopleAsk.TheVariants as people
+use Rattle.nf_words.specs.declared.request.TrashAsk.TheVariants as trash
 
 passed : (b : Bool) (fault : TargetFault) → (if b then Some fault else None) ≡ None → b ≡ false
 passed true fault none = absurd (cc)
@@ -78,7 +83,12 @@ module _ (call : Call) (spot : Spot) (sound : AreSound call.state.tables) (is : 
           → Known t call.now (if folds then allowed.List (listing_of (access_of call.state) call (way_of call spot).mount node)
           else allowed.Get node (content_of t.nodes node))
       here true folds = tt
-      here false folds = record { no_folder = folds; of_node = refl; there = way_there call spot sound is node reached leads }
+      here false folds = record {
+        no_folder = folds;
+        of_node = refl;
+        there = way_there call spot sound is node reached leads;
+        present = node_present call spot sound is node reached leads;
+      }
   served_known nowhere leads = tt
 
   -- a user who stores by no mount may do so as the owner
@@ -163,6 +173,7 @@ module _ (call : Call) (spot : Spot) (sound : AreSound call.state.tables) (is : 
       record {
         short = short;
         held = rw there.1 (no_file there.0 (subst (λ (o : Option NodeRow). option_map_or (λ row. is_folder_kind row.kind) o false ≡ false) there.1 file));
+        present = node_present call spot sound is node reached leads;
         storer = storer_may Update node (subst MayAll asked may);
       }
     where
@@ -170,7 +181,12 @@ module _ (call : Call) (spot : Spot) (sound : AreSound call.state.tables) (is : 
       no_file row none = ap not none
   granted_known length inside (Free folder) short leads file may =
       let slot = slot_known call spot sound is folder reached leads in
-      record { short = short; held = (slot.folds, slot.free); storer = storer_may Create folder (subst MayAll (made ∙ in_folder) may) }
+      record {
+        short = short;
+        held = (slot.folds, slot.free);
+        present = slot_present call spot sound is folder reached leads;
+        storer = storer_may Create folder (subst MayAll (made ∙ in_folder) may);
+      }
     where
       made : target_needs (making.File length) t.nodes (root_of call) inside (way_of call spot) ≡ needs_in t.nodes (root_of call) (way_of call spot)
       made =
@@ -189,14 +205,24 @@ module _ (call : Call) (spot : Spot) (sound : AreSound call.state.tables) (is : 
   folder_known (At node) leads some = tt
   folder_known (Free folder) leads some =
       let slot = slot_known call spot sound is folder reached leads in
-      new_known t call.now folder (last_name spot) Folder [] None 0 sound slot.folds slot.free slot.unmounted
+      new_known t call.now folder (last_name spot) Folder [] None 0 sound slot.folds (slot_present call spot sound is folder reached leads) slot.free
+      slot.unmounted
       (within t 1 (depth t.nodes folder + 1) 0 0 some) (omega arith) refl (λ _. refl)
   folder_known (Missing found) leads some = tt
 
+  -- what is deleted is in a folder: it is no root, and present
   deleted_known : (place : Found) → found call spot ≡ place → is_there (λ node. node == root_of call || is_root t.nodes node) (Some place) ≡ false
-      → Known t call.now (deleted (node_at (Some place)))
-  deleted_known (At node) leads fits = record { no_root = off (node == root_of call) (is_root t.nodes node) fits; there = way_there call spot sound is node reached leads }
-  deleted_known nowhere leads fits = tt
+      → Known t call.now (deleted t call.now (node_at (Some place)))
+  deleted_known (At node) leads fits =
+      let no_root = off (node == root_of call) (is_root t.nodes node) fits in
+      let present = node_present call spot sound is node reached leads in
+      let there = way_there call spot sound is node reached leads in
+      let id : there.0.id ≡ node = eqb-true there.0.id node (found_passes (λ (row : NodeRow). row.id == node) t.nodes there.0 there.1) in
+      let inside = present_inside t.nodes node there.0 there.1 no_root present in
+      subst (λ (o : Option NodeRow). Known t call.now (option_map_or (discard t call.now) o nothing_done)) (sym there.1)
+      (discard_known t sound call.now there.0 (ap (node_row t.nodes) id ∙ there.1) (ap (is_root t.nodes) id ∙ no_root) inside.0 inside.1
+      (subst (LeadsToRoot t.nodes) (sym id) present))
+  deleted_known nowhere leads fits = nothing_known t call.now
 
 -- ---- a mount that gets another name
 
@@ -272,7 +298,7 @@ module _ (call : Call) (sound : AreSound call.state.tables) (is : IsAsking call)
       → (b ≡ false → unreached (access_of call.state) call (way_of call spot) ≡ None)
       → (if not b && is_root_at all.nodes (root_of call) (Some (way_of call spot)) then Some target.Root else None) ≡ None
       → IsKnown (if b then mount_left call (way_of call spot)
-      else deleted (node_at (only_at b (found call spot)).source))
+      else deleted all call.now (node_at (only_at b (found call spot)).source))
   delete_known spot true itself reached fits = left_known call spot sound itself
   delete_known spot false itself reached fits = deleted_known call spot sound is (reached refl) (found call spot) refl (passed _ _ fits)
 
@@ -309,6 +335,25 @@ module _ (call : Call) (sound : AreSound call.state.tables) (is : IsAsking call)
       here (by_user row asks) = (row, asks)
       here (by_link share by there) = absurd (both_ways (is_about_files wanted) other (p.files by))
 
+  -- what is asked about users and groups, a quota among it
+  persons_known : (asked : PeopleAsk) → is_taken all asked ≡ false → people_limit all asked ≡ None → IsKnown (people_done all call.now asked)
+  persons_known (people.SetQuota user quota) free few = here (row_named all user) refl
+    where
+      here : (o : Option UserRow) → row_named all user ≡ o → IsKnown (option_map_or (requoted all call.now quota) o nothing_done)
+      here None e = nothing_known all call.now
+      here (Some row) e = requoted_known all sound call.now quota row (row_there all call.now sound user row e)
+  persons_known (people.NewUser name token quota) free few = people_known all call.now (people.NewUser name token quota) sound free few
+  persons_known (people.NewGroup name) free few = people_known all call.now (people.NewGroup name) sound free few
+  persons_known (people.AddMember user group) free few = people_known all call.now (people.AddMember user group) sound free few
+  persons_known (people.DropMember user group) free few = people_known all call.now (people.DropMember user group) sound free few
+  persons_known (people.AddToken user token) free few = people_known all call.now (people.AddToken user token) sound free few
+
+  trash_known : (asked : TrashAsk) → limited all (places_at call (Trash asked)) (asked_of_trash asked).makes ≡ None → IsKnown (trash_done call asked)
+  trash_known (trash.List user) few = nothing_known all call.now
+  trash_known (trash.Drop user item) few = dropped_known all sound call.now (asker_of call) item (own_item call item) refl
+  trash_known (trash.Empty user) few = emptied_known all sound call.now (asker_of call)
+  trash_known (trash.Restore user item) few = restored_known all sound call.now (asker_of call) item (own_item call item) refl few
+
   pub wanted_known : (wanted : Wanted) → WantedPasses call wanted → IsKnown (given (access_of call.state) call (places_at call wanted) wanted)
   wanted_known (Get spot) p = served_known call spot sound is (p.place.source refl) (found call spot) refl
   wanted_known (Put spot length) p =
@@ -323,7 +368,8 @@ module _ (call : Call) (sound : AreSound call.state.tables) (is : IsAsking call)
   wanted_known (Share asked) p =
       let asker = not_files (Share asked) p refl in
       asks_known call asker.0 sound asker.1 (places_at call (Share asked)) asked (of_place asked p.place) p.sharing p.room
-  wanted_known (People asked) p = people_known all call.now asked sound (not_taken _ rule.Taken p.sharing) p.room
+  wanted_known (People asked) p = persons_known asked (not_taken _ rule.Taken p.sharing) p.room
+  wanted_known (Trash asked) p = trash_known asked p.few
 
 pub wanted_passes : (call : Call) → MayWant call.request → Passes (access_of call.state) call → WantedPasses call call.request.wanted
 unfolding exists_rule target_rule limit_rule sharing_rule room_rule

@@ -14,7 +14,7 @@ use Rattle.nf_words.proofs.Fits.{Within, new_known, over_known, within}
 use Rattle.nf_words.proofs.Found.{found_has}
 use Rattle.nf_words.proofs.Known.{Known}
 use Rattle.nf_words.proofs.Passing.{end_passes, not_refused}
-use Rattle.nf_words.specs.Prelude.{access_of, AreSound, blob_for, call_of, content_in, decision_of, end_lost, end_refusal, ends_at, ends_goal, goal_at, HoldsFor, IsGoalSound, IsHeld, IsSound, IsStorable, IsTicketSound, IsUnmounted, limit_at, MayAsk, MayBring, MayEnd, pieces_of, place_of, refilled, State, stored_at, ticket_of}
+use Rattle.nf_words.specs.Prelude.{access_of, AreSound, blob_for, call_of, content_in, decision_of, end_lost, end_refusal, ends_at, ends_goal, goal_at, HoldsFor, IsGoalSound, IsHeld, IsSound, IsStorable, IsTicketSound, IsUnmounted, LeadsToRoot, limit_at, MayAsk, MayBring, MayEnd, node_of_key, pieces_of, place_of, refilled, State, stored_at, ticket_of}
 use Rattle.nf_words.specs.declared.answer.Allowed.{Allowed}
 use Rattle.nf_words.specs.declared.answer.Allowed.TheVariants as allowed
 use Rattle.nf_words.specs.declared.answer.Denial.TheVariants as denial
@@ -48,21 +48,21 @@ file_row None is = absurd (cc)
 file_row (Some row) is = (row, refl, not-true (is_folder_kind row.kind) is)
 
 key_known : (t : Tables) (now : ℕ) (key : LockKey) (digest : List ℕ) (size : ℕ) → AreSound t → size ≤ MAX_BODY
-    → IsHeld t key → end_lost t key ≡ None → limit_at t (pieces_of size) (place_of key) ≡ None
+    → IsHeld t key × LeadsToRoot t.nodes (node_of_key key) → end_lost t key ≡ None → limit_at t (pieces_of size) (place_of key) ≡ None
     → Known t now (stored_at t now key digest size)
 key_known t now (Node node) digest size sound few held there some =
     let body = body_known t.meta digest size few in
     let blob = blob_for t.meta.next_blob size in
     let content = content_in blob digest size in
-    let file = file_row (node_row t.nodes node) held in
+    let file = file_row (node_row t.nodes node) held.0 in
     subst (λ (o : Option NodeRow). Known t now (allowed.Change (refilled o now content) blob Done)) (sym file.1)
-    (over_known t now node content blob file.0 sound file.1 file.2
+    (over_known t now node content blob file.0 sound file.1 file.2 held.1
     (omega (arith, body.counted, (within t 0 0 (pieces_of size) (pieces_of size) some).next_blob))
     (inl (omega (arith, body.pieces, (within t 0 0 (pieces_of size) (pieces_of size) some).pieces))) (inl body.of_body))
 key_known t now (Slot folder name) digest size sound few held there some =
     let body = body_known t.meta digest size few in
     let blob = blob_for t.meta.next_blob size in
-    new_known t now folder name File (content_in blob digest size) blob (pieces_of size) sound held.0 held.1 (name_unmounted t folder name there)
+    new_known t now folder name File (content_in blob digest size) blob (pieces_of size) sound held.0.0 held.1 held.0.1 (name_unmounted t folder name there)
     (subst (λ (n : ℕ). Within t 1 (depth t.nodes folder + 1) n (pieces_of size)) (sym body.pieces)
     (within t 1 (depth t.nodes folder + 1) (pieces_of size) (pieces_of size) some))
     (omega (arith, body.counted)) body.of_body (λ e. absurd (cc))
@@ -95,16 +95,20 @@ goal_sound s seat sound = here (ticket_of s seat) (found_has (IsTicketSound s.ta
     here (Some ticket) is = is.goal
 
 -- what is stored over is there, or its name is free, as long as the seat holds it
-stored_held : (t : Tables) (goal : Goal) (hold : Option Hold) → HoldsFor goal hold → IfSome hold (λ (hold : Hold). IsHeld t hold.key) → IsStorable t goal
-stored_held t (Serve content) hold for held = tt
-stored_held t (Store by key length) hold for held = subst (λ (o : Option Hold). IfSome o (λ (hold : Hold). IsHeld t hold.key)) for held
+stored_held : (t : Tables) (goal : Goal) (hold : Option Hold) → HoldsFor goal hold → IfSome hold (λ (hold : Hold). IsHeld t hold.key)
+    → IfSome hold (λ (hold : Hold). LeadsToRoot t.nodes (node_of_key hold.key)) → IsStorable t goal
+stored_held t (Serve content) hold for held present = tt
+stored_held t (Store by key length) hold for held present = (
+  subst (λ (o : Option Hold). IfSome o (λ (hold : Hold). IsHeld t hold.key)) for held,
+  subst (λ (o : Option Hold). IfSome o (λ (hold : Hold). LeadsToRoot t.nodes (node_of_key hold.key))) for present,
+)
 
 pub goal_held : (s : State) (seat : ℕ) → IsSound s → IfSome (goal_at s seat) (IsStorable s.tables)
 goal_held s seat sound = here (ticket_of s seat) (found_has (IsTicketSound s.tables) (λ (ticket : Ticket). ticket.seat == seat) s.tickets sound.tickets)
   where
     here : (o : Option Ticket) → IfSome o (IsTicketSound s.tables) → IfSome (option_map (λ ticket. ticket.goal) o) (IsStorable s.tables)
     here None none = tt
-    here (Some ticket) is = stored_held s.tables ticket.goal ticket.hold is.hold is.held
+    here (Some ticket) is = stored_held s.tables ticket.goal ticket.hold is.hold is.held is.present
 
 -- ---- every step
 

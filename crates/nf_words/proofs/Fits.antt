@@ -20,7 +20,7 @@ use Rattle.nf_base.specs.declared.rows.UserRow.{UserRow}
 use Rattle.nf_defs.specs.Prelude.{child_of, depth, filled, is_folder, is_folder_kind, made, node_key, node_row, put, Tables}
 use Rattle.nf_words.proofs.Bodies.{IsOfBody, body_sound, content_decides, refills_none}
 use Rattle.nf_words.proofs.Found.{found_has, found_passes, put_is_found}
-use Rattle.nf_words.specs.Prelude.{AreSound, blob_after, counted, IsBorn, IsFilled, IsLean, IsMountSound, IsNewMount, IsNewShare, IsNewUser, IsNodeSound, IsOfPeople, IsOtherShare, IsPieceSound, IsRemounted, IsShareSound, IsUnmounted, last_number, last_short, limit_passed, new_node, raised, refilled, stored_pieces}
+use Rattle.nf_words.specs.Prelude.{AreSound, blob_after, counted, IsBorn, IsFilled, IsLean, IsMountSound, IsNewMount, IsNewShare, IsNewUser, IsNodeSound, IsOfPeople, IsOtherShare, IsPieceSound, IsRemounted, IsShareSound, IsUnmounted, last_number, LeadsToRoot, last_short, limit_passed, new_node, raised, refilled, stored_pieces}
 use Rattle.nf_words.specs.declared.answer.Limit.TheVariants as limit
 
 -- ---- limits
@@ -134,11 +134,11 @@ not_there t row sound id = λ is.
     absurd (omega (arith, given, id))
 
 pub new_known : (t : Tables) (now folder : ℕ) (name : List ℕ) (kind : NodeKind) (content : List Piece) (blob : Option ℕ) (blobs : ℕ)
-    → AreSound t → is_folder t.nodes folder ≡ true → child_of t.nodes folder name ≡ None → IsUnmounted t folder name
+    → AreSound t → is_folder t.nodes folder ≡ true → LeadsToRoot t.nodes folder → child_of t.nodes folder name ≡ None → IsUnmounted t folder name
     → Within t 1 (depth t.nodes folder + 1) (length content) blobs → blob_after t.meta.next_blob blob ≤ t.meta.next_blob + blobs
     → IsOfBody t.meta blob content → (is_folder_kind kind ≡ true → content ≡ [])
     → KnownChange t now (Put (rows.Node (new_node t now folder name kind content)) ∷ []) blob
-new_known t now folder name kind content blob blobs sound there free unmounted fits counts body empty =
+new_known t now folder name kind content blob blobs sound there present free unmounted fits counts body empty =
     let row = new_node t now folder name kind content in
     let up = raised t now (Put (rows.Node row) ∷ []) blob in
     record {
@@ -148,6 +148,7 @@ new_known t now folder name kind content blob blobs sound there free unmounted f
               folder = folder;
               place = refl;
               in_folder = there;
+              present = present;
               owner = refl;
               free = free;
               unmounted = unmounted;
@@ -178,12 +179,12 @@ new_known t now folder name kind content blob blobs sound there free unmounted f
 -- ---- another content
 
 pub over_known : (t : Tables) (now node : ℕ) (content : List Piece) (blob : Option ℕ) (old : NodeRow)
-    → AreSound t → node_row t.nodes node ≡ Some old → is_folder_kind old.kind ≡ false
+    → AreSound t → node_row t.nodes node ≡ Some old → is_folder_kind old.kind ≡ false → LeadsToRoot t.nodes node
     → blob_after t.meta.next_blob blob ≤ max t.meta.next_blob last_number
     → (stored_pieces t + length content ≤ MAX_STORED_PIECES) ⊎ (content ≡ old.content)
     → IsOfBody t.meta blob content ⊎ ((blob ≡ None) × (content ≡ old.content))
     → KnownChange t now (refilled (Some old) now content) blob
-over_known t now node content blob old sound there file counts few body =
+over_known t now node content blob old sound there file present counts few body =
     elim (cases_Bool (content_eq old.content content && old.changed == now)) [
       | inl same ↦ simp same (record {
         rows = no_more (raised t now [] blob);
@@ -240,6 +241,7 @@ over_known t now node content blob old sound there file counts few body =
                   old = old;
                   there = at;
                   file = file;
+                  present = subst (LeadsToRoot t.nodes) (sym id) present;
                   same = refl;
                   changed = le_refl _;
                   pieces = sound_in up (le_refl _);

@@ -18,3 +18,4 @@ pub mod Opens
 pub mod Orders
 pub mod Asks
 pub mod Provided
+pub mod Trashing

@@ -18,7 +18,7 @@ use Rattle.nf_words.specs.declared.request.Spot.{Spot}
 use Rattle.nf_defs.specs.Prelude.{Access, is_root, owner_of, Tables}
 use Rattle.nf_defs.specs.declared.Found.{Found}
 use Rattle.nf_defs.specs.declared.Found.TheVariants.{At, Missing}
-use Rattle.nf_words.specs.Prelude.{access_of, acts_rule, allowed_of, asks_by_link, answer_at, answer_to, answered_by, asked_by, broken_by, Call, call_of, decision_of, earlier_rules, exceeded, excess_at, end_lost, end_refusal, end_unallowed, end_unreached, ends_at, ends_goal, exists_rule, first_refused, first_that_holds, forbidden_rule, goal_at, has_forbidden, is_caller, is_kept, is_owner, is_refused, is_transfer, key_in_way, later_rules, limit_at, limit_rule, limited, locked_rule, Need, need_broken, needed, needed_by, node_of_key, not_you_rule, overwrite_rule, Pass, pieces_of, place_of, paths_of, place_rule, places_of, quota_rule, refusal_of, root_of, Rule, seeker_of, source_lost, source_refused, State, stored_at, taken, target_lost, target_refused, target_rule, told_broken, token_rule, touches, unfit, unless_refused, unlinked, unreached, unreached_by, users_of, Way, way_of, ways_of, caller_row, named_rule, sharing_rule, room_rule, unnamed, fault_by, limit_by, unnamed_by, may_ask}
+use Rattle.nf_words.specs.Prelude.{access_of, acts_rule, allowed_of, answer_at, answered_by, answer_to, asked_by, asks_by_link, broken_by, Call, caller_row, call_of, decision_of, earlier_rules, end_lost, end_refusal, ends_at, ends_goal, end_unallowed, end_unreached, exceeded, excess_at, exists_rule, fault_by, first_refused, first_that_holds, forbidden_rule, goal_at, has_forbidden, is_caller, is_kept, is_owner, is_refused, is_transfer, key_in_way, lacks_item, later_rules, limit_at, limit_by, limited, limit_rule, locked_rule, may_ask, named_rule, Need, need_broken, needed, needed_by, node_of_key, not_you_rule, overwrite_rule, own_item, Pass, paths_of, pieces_of, place_of, place_rule, places_of, quota_rule, refusal_of, room_rule, root_of, Rule, seeker_of, sharing_rule, source_lost, source_refused, State, stored_at, taken, target_lost, target_refused, target_rule, token_rule, told_broken, touches, unfit, unless_refused, unlinked, unnamed, unnamed_by, unreached, unreached_by, untrashed, users_of, Way, way_of, ways_of}
 use Rattle.nf_words.specs.declared.answer.Allowed.{Allowed}
 use Rattle.nf_words.specs.declared.answer.By.{By}
 use Rattle.nf_words.specs.declared.answer.Denial.{Denial}
@@ -49,6 +49,9 @@ use Rattle.nf_words.specs.declared.request.Wanted.{Wanted}
 use Rattle.nf_words.specs.declared.request.Wanted.TheVariants as wanted
 use Rattle.nf_words.specs.declared.answer.Breach.{Breach}
 use Rattle.nf_words.specs.declared.route.Route.TheVariants.{Files}
+use Rattle.nf_base.specs.declared.rows.ItemRow.{ItemRow}
+use Rattle.nf_words.specs.declared.request.TrashAsk.{TrashAsk}
+use Rattle.nf_words.specs.declared.request.TrashAsk.TheVariants as trash
 
 -- a denial that no rule gives: the step failed, or there was no room for it
 abbrev pub is_failure : Denial → Bool
@@ -230,9 +233,20 @@ named_fine access call = here call.request.wanted
     of_ask (ask.Set share perms until) = unless_test _ denial.NotFound refl
     of_ask (ask.End share) = unless_test _ denial.NotFound refl
 
+    of_item : (o : Option ItemRow) → IsEarly (lacks_item o)
+    of_item None = refl
+    of_item (Some item) = tt
+
+    of_trash : (asked : TrashAsk) → IsEarly (untrashed call asked)
+    of_trash (trash.List user) = tt
+    of_trash (trash.Drop user item) = of_item (own_item call item)
+    of_trash (trash.Empty user) = tt
+    of_trash (trash.Restore user item) = of_item (own_item call item)
+
     here : (wanted : Wanted) → IsEarly (unnamed_by call wanted)
     here (wanted.Share asked) = of_ask asked
     here (wanted.People asked) = unless_test _ denial.NotFound refl
+    here (wanted.Trash asked) = of_trash asked
     here other = tt
 
 acts_fine : (access : Access) (call : Call) → IsEarly (acts_rule access call)
@@ -266,7 +280,7 @@ keys (Some key) = refl
 locked_fine : (access : Access) (call : Call) → IsRefusal (locked_rule access call)
 unfolding locked_rule
 locked_fine access call =
-    keys (key_in_way call.state.tables.nodes call.seat (touches call.state.tables.nodes (asked_by call) (places_of call)) call.state.tickets)
+    keys (key_in_way call.state.tables.nodes call.seat (touches call.state.tables (asked_by call) (places_of call)) call.state.tickets)
 
 limit_fine : (access : Access) (call : Call) → IsRefusal (limit_rule access call)
 unfolding limit_rule

@@ -1,12 +1,12 @@
 -- What an event isn't answered.
-use Rattle.std.proofs.Common.{◌≡◌, ◌≢◌, ℕ, Bool, true, false, List, Result, Ok, Err, refl, sym, ap, ◌∙◌, subst, []}
+use Rattle.std.proofs.Common.{◌≡◌, ◌≢◌, ℕ, Bool, true, false, List, Result, Ok, Err, refl, sym, ap, ◌∙◌, subst, [], ◌==◌, ◌∷◌, filter, not}
 use Rattle.std.specs.Prelude.{Option, None, Some, is_some, if◌then◌else◌}
 use Rattle.std.specs.Option.{option_and_then, option_map_or, option_or}
 use Rattle.nf_base.specs.declared.rows.NodeRow.{NodeRow}
-use Rattle.nf_defs.specs.Prelude.{Access, content_of, is_folder, Tables}
+use Rattle.nf_defs.specs.Prelude.{Access, content_of, is_folder, node_row, Tables}
 use Rattle.nf_defs.specs.declared.Found.{Found}
 use Rattle.nf_defs.specs.declared.Found.TheVariants.{At, Free, Missing}
-use Rattle.nf_words.specs.Prelude.{access_of, allowed_of, answer_to, answered_by, asked_of, by_of, Call, call_of, copied, copies_to, crosses, decided, decision_of, deleted, end_refusal, ends_at, exists_rule, found, given, goal_at, goal_of, hold_of, is_off_mount, is_root_at, last_name, listing_of, made_folder, mount_left, mount_renamed, moved, node_at, node_found, refusal_of, reply_by, reply_to, reported, root_of, served, shown, source_lost, State, step, stored, stored_at, taken, target_lost, target_rule, transfer_between, transfer_by, transfer_of, transfer_to, unfit, unfit_between, unless_refused, Way, way_of, ways_for, with_goal, shared, share_made, nothing_done, offered, share_told, share_shown, share_set, perms_after, share_steered, share_ended, until_after}
+use Rattle.nf_words.specs.Prelude.{access_of, allowed_of, answered_by, answer_to, asked_of, by_of, Call, call_of, copied, copies_to, crosses, decided, decision_of, deleted, discard, end_refusal, ends_at, exists_rule, found, given, goal_at, goal_of, gone_of, hold_of, is_off_mount, is_root_at, item_dropped, item_for, item_restored, items_of, last_name, listing_of, made_folder, mount_left, mount_renamed, moved, node_at, node_found, nothing_done, offered, own_item, people_done, perms_after, quota_of, refusal_of, reply_by, reply_to, reported, requoted, root_of, row_named, served, shared, share_ended, share_made, share_set, share_shown, share_steered, share_told, shown, source_lost, State, step, stored, stored_at, taken, target_lost, target_rule, transfer_between, transfer_by, transfer_of, transfer_to, trash_done, unfit, unfit_between, unless_refused, until_after, Way, way_of, ways_for, with_goal}
 use Rattle.nf_words.specs.declared.answer.Allowed.{Allowed}
 use Rattle.nf_words.specs.declared.answer.Allowed.TheVariants as allowed
 use Rattle.nf_words.specs.declared.answer.Denial.{Denial}
@@ -33,11 +33,20 @@ use Rattle.nf_words.specs.declared.request.Transfer.{Transfer}
 use Rattle.nf_words.specs.declared.request.Words.{Words}
 use Rattle.nf_words.specs.declared.request.Wanted.{Wanted}
 use Rattle.nf_words.specs.declared.route.Route.TheVariants.{Files}
-use Rattle.nf_words.specs.declared.request.Wanted.TheVariants.{Get, Put, Mkcol, Delete, Move, Copy, Share, People}
+use Rattle.nf_words.specs.declared.request.Wanted.TheVariants.{Get, Put, Mkcol, Delete, Move, Copy, Share, People, Trash}
 use Rattle.nf_words.proofs.Begins.{only_at, places_at}
 use Rattle.nf_words.proofs.Passing.{no_fault, PlacePasses, place_passes, unrefused}
 use Rattle.nf_words.proofs.Transfers.{fit_parts, FitParts, same_transfer}
 use Rattle.nf_words.proofs.Steps.{end_nothing, never_granted, ok_reply}
+use Rattle.nf_base.specs.declared.rows.ItemRow.{ItemRow}
+use Rattle.nf_base.specs.declared.rows.UserRow.{UserRow}
+use Rattle.nf_words.specs.declared.request.PeopleAsk.{PeopleAsk}
+use Rattle.nf_words.specs.declared.request.TrashAsk.{TrashAsk}
+use Rattle.nf_words.specs.declared.request.PeopleAsk.TheVariants as people
+use Rattle.nf_words.specs.declared.request.TrashAsk.TheVariants as trash
+use Rattle.nf_words.specs.declared.answer.Deed.TheVariants as deed
+use Rattle.std.proofs.lemmas.Bool.{cond_both}
+use Rattle.std.specs.List.{list_any}
 
 -- ---- never as the End of what stores nothing
 
@@ -50,10 +59,12 @@ report_opens report.Made = λ is. cc
 report_opens report.Done = λ is. cc
 report_opens (report.Share line) = λ is. cc
 report_opens (report.Shares lines) = λ is. cc
+report_opens (report.Items lines) = λ is. cc
 report_opens report.Plain = λ is. cc
 
 closes : (act : Allowed) → reply_to act ≡ Closed → act ≡ allowed.Close
 closes (allowed.Change changes blob report) is = absurd (report_opens report is)
+closes (allowed.Trash did gone report) is = absurd (report_opens report is)
 closes (allowed.Move transfer name) is = absurd (put_opens transfer.replaced is)
 closes (allowed.Copy rows replaced) is = absurd (put_opens replaced is)
 closes (allowed.Cross rows replaced node) is = absurd (put_opens replaced is)
@@ -79,9 +90,48 @@ open_served : (access : Access) (call : Call) (mount : Option ℕ) (place : Foun
 open_served access call mount (At node) there = open_shown access call mount node
 open_served access call mount nowhere there = absurd (cc)
 
-open_deleted : (place : Found) → source_lost place ≡ None → deleted (node_found place) ≢ allowed.Close
-open_deleted (At node) there = λ is. cc
-open_deleted nowhere there = absurd (cc)
+open_discard : (t : Tables) (now : ℕ) (row : NodeRow) → discard t now row ≢ allowed.Close
+open_discard t now row =
+    cond_both (list_any (λ node. node == row.id) gone) (allowed.Trash deed.Nothing (row.id ∷ filter (λ node. not (node == row.id)) gone) report.Done)
+    (allowed.Trash (deed.Discard (item_for now row)) gone report.Done) (λ (a : Allowed). a ≢ allowed.Close) (λ e is. cc) (λ e is. cc)
+  where
+    gone : List ℕ
+    gone = gone_of t now (quota_of t row.owner) (item_for now row ∷ items_of t row.owner)
+
+open_deleted : (t : Tables) (now : ℕ) (node : Option ℕ) → deleted t now node ≢ allowed.Close
+open_deleted t now node = here (option_and_then (node_row t.nodes) node)
+  where
+    here : (o : Option NodeRow) → option_map_or (discard t now) o nothing_done ≢ allowed.Close
+    here None = λ is. cc
+    here (Some row) = open_discard t now row
+
+open_requoted : (t : Tables) (now quota : ℕ) (row : UserRow) → requoted t now quota row ≢ allowed.Close
+open_requoted t now quota row =
+    cond_both (row.quota == quota) nothing_done
+    (allowed.Trash (deed.Requote (record row { quota = quota })) (gone_of t now quota (items_of t row.id)) report.Plain)
+    (λ (a : Allowed). a ≢ allowed.Close) (λ e is. cc) (λ e is. cc)
+
+open_people : (t : Tables) (now : ℕ) (asked : PeopleAsk) → people_done t now asked ≢ allowed.Close
+open_people t now (people.SetQuota user quota) = here (row_named t user)
+  where
+    here : (o : Option UserRow) → option_map_or (requoted t now quota) o nothing_done ≢ allowed.Close
+    here None = λ is. cc
+    here (Some row) = open_requoted t now quota row
+open_people t now asked = λ is. cc
+
+open_trash : (call : Call) (asked : TrashAsk) → trash_done call asked ≢ allowed.Close
+open_trash call (trash.List user) = λ is. cc
+open_trash call (trash.Drop user item) = here (own_item call item)
+  where
+    here : (o : Option ItemRow) → option_map_or (item_dropped call.state.tables call.now) o nothing_done ≢ allowed.Close
+    here None = λ is. cc
+    here (Some row) = λ is. cc
+open_trash call (trash.Empty user) = λ is. cc
+open_trash call (trash.Restore user item) = here (own_item call item)
+  where
+    here : (o : Option ItemRow) → option_map_or (item_restored call.state.tables call.now) o nothing_done ≢ allowed.Close
+    here None = λ is. cc
+    here (Some row) = λ is. cc
 
 open_put : (by : By) (name : List ℕ) (length : ℕ) (place : Found) → target_lost place ≡ None → stored by name length (Some place) ≢ allowed.Close
 open_put by name length (Missing depth) there = absurd (cc)
@@ -162,9 +212,9 @@ open_given call (Mkcol spot) led free fits = open_made call.state.tables call.no
 open_given call (Delete spot) led free fits = here (way_of call spot).itself
   where
     here : (b : Bool) → (if b then mount_left call (way_of call spot)
-        else deleted (node_at (only_at b (found call spot)).source)) ≢ allowed.Close
+        else deleted call.state.tables call.now (node_at (only_at b (found call spot)).source)) ≢ allowed.Close
     here true = λ is. cc
-    here false = open_deleted (found call spot) led.there
+    here false = open_deleted call.state.tables call.now (node_at (only_at false (found call spot)).source)
 open_given call (Move source to overwrite) led free fits = here (way_of call source).itself fits
   where
     here : (b : Bool)
@@ -182,7 +232,8 @@ open_given call (Copy source to overwrite) led free fits =
     open_copied call.state.tables call.now (last_name to) (transfer_of call.state.tables.nodes places)
     (fits_some call.state.tables.nodes (root_of call) (way_of call source) (way_of call to) led.there fits)
 open_given call (Share asked) led free fits = open_shared (access_of call.state) call (places_at call (Share asked)) asked
-open_given call (People asked) led free fits = λ is. cc
+open_given call (People asked) led free fits = open_people call.state.tables call.now asked
+open_given call (Trash asked) led free fits = open_trash call asked
 
 -- a Begin isn't
 pub begins_open : (s : State) (seat now : ℕ) (words : Words) (request : Request) → answer_to s seat now (Begin words request) ≢ Ok Closed

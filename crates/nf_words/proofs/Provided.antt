@@ -27,6 +27,7 @@ use Rattle.nf_words.proofs.Asks.{Differs, ensured_lean, found_any, lean_with, mo
 use Rattle.nf_words.proofs.Ensured.{ensured_known, IsMountable}
 use Rattle.nf_words.proofs.Fits.{KnownChange, newest, no_more, not_there, one_more, put_found, user_more}
 use Rattle.nf_words.proofs.Found.{found_has, found_passes, put_is_found}
+use Rattle.nf_words.proofs.Ways.{present_row}
 use Rattle.nf_words.specs.Prelude.{AreSound, counted, is_joined, is_member, is_taken, IsLean, IsMountSound, IsShareSound, join_limit, joined_by, left_by, membership, mount_limit, mounts_joined, new_root, new_user, people_changed, people_limit, put_mounts, raised, requoted, row_named, user_made}
 use Rattle.nf_words.specs.declared.answer.Breach.{Breach}
 use Rattle.nf_words.specs.declared.answer.Limit.{Limit}
@@ -262,35 +263,6 @@ module _ (t : Tables) (now : ℕ) (sound : AreSound t) where
         next_blob = omega arith;
       }
 
-  -- ---- a quota
-
-  quota_known : (quota : ℕ) (row : UserRow) → user_row t.users row.id ≡ Some row → KnownChange t now (requoted quota row) None
-  quota_known quota row there = here (row.quota == quota) refl
-    where
-      new : UserRow
-      new = record row { quota = quota }
-
-      given : row.id < t.meta.next_user
-      given = subst (λ (o : Option UserRow). IfSome o (λ (old : UserRow). old.id < t.meta.next_user)) there
-          (found_has (λ (old : UserRow). old.id < t.meta.next_user) (λ (old : UserRow). old.id == row.id) t.users sound.users_given)
-
-      here : (b : Bool) → (row.quota == quota) ≡ b → KnownChange t now (if b then [] else Put (rows.User new) ∷ []) None
-      here true e = nothing_known t now
-      here false e =
-          let differs : new ≢ row = λ same. both_ways (row.quota == quota) e (eq-eqb row.quota quota (sym (ap (λ (r : UserRow). r.quota) same))) in
-          let up = raised t now (Put (rows.User new) ∷ []) None in
-          record {
-            rows = one_more up (Put (rows.User new)) [] (refl, record { old = row; there = there; same = refl; other = differs })
-                (no_more (made up (Put (rows.User new))));
-            lean = one_lean t (Put (rows.User new)) (user_differs t new (λ same. differs (same_Some new row (sym same ∙ there))));
-            stored = λ none. refl;
-            next_user = omega (arith, given);
-            next_group = omega arith;
-            next_node = omega arith;
-            next_share = omega arith;
-            next_blob = omega arith;
-          }
-
   -- ---- members
 
   -- who is to be a member is there, and so is the group
@@ -306,15 +278,11 @@ module _ (t : Tables) (now : ℕ) (sound : AreSound t) where
       one (get_or (filter (is_joined row) t.shares) k d) (filter_passes (is_joined row) t.shares k d within)
       (All-filter (is_joined row) (IsShareSound t) t.shares sound.others.shares k d within))
     where
-      some_of : {X : Type 0} (o : Option X) → is_some o ≡ true → (x : X) × (o ≡ Some x)
-      some_of None is = absurd (cc)
-      some_of (Some x) is = (x, refl)
-
       one : (share : ShareRow) → is_joined row share ≡ true → IsShareSound t share → IsMountable t (row.user, share.node)
       one share joined fine =
           let outer = and_parts _ _ joined in
           let inner = and_parts _ _ outer.0 in
-          let node = some_of (node_row t.nodes share.node) (fine.present (not-true share.ended inner.0)) in
+          let node = present_row t.nodes share.node (fine.present (not-true share.ended inner.0)) in
           record {
             node = node.0;
             there = node.1;
@@ -420,11 +388,7 @@ people_known t now (ask.DropMember user group) sound free few = here (membership
     here : (o : Option MemberRow) → KnownChange t now (option_map_or (left_by t) o []) None
     here None = nothing_known t now
     here (Some row) = leaves_known t now sound row
-people_known t now (ask.SetQuota user quota) sound free few = here (row_named t user) refl
-  where
-    here : (o : Option UserRow) → row_named t user ≡ o → KnownChange t now (option_map_or (requoted quota) o []) None
-    here None e = nothing_known t now
-    here (Some row) e = quota_known t now sound quota row (row_there t now sound user row e)
+people_known t now (ask.SetQuota user quota) sound free few = nothing_known t now
 people_known t now (ask.AddToken user token) sound free few = here (user_named t.users user) refl
   where
     here : (o : Option ℕ) → user_named t.users user ≡ o

@@ -1,10 +1,10 @@
 -- What a step that no rule refuses leaves to the others who hold something.
-use Rattle.std.proofs.Common.{◌≡◌, ◌≢◌, ℕ, ◌<◌, ◌≤◌, ◌==◌, ◌&&◌, ◌||◌, not, find, filter, get_or, Bool, true, false, List, [], ◌∷◌, length, suc, Option, Ok, Result, if◌then◌else◌, refl, sym, subst, arith}
-use Rattle.std.specs.Prelude.{None, Some, IsNone, nat_lt, option_and_then, option_map}
+use Rattle.std.proofs.Common.{◌≡◌, ◌≢◌, ℕ, ◌<◌, ◌≤◌, ◌==◌, ◌&&◌, ◌||◌, not, find, filter, get_or, Bool, true, false, List, [], ◌∷◌, length, suc, Option, Ok, Result, if◌then◌else◌, refl, sym, subst, arith, ◌⊎◌, inl, inr, map}
+use Rattle.std.specs.Prelude.{None, Some, IsNone, nat_lt, option_and_then, option_map, slice_get}
 use Rattle.std.specs.List.{All, AllPairs, list_any}
 use Rattle.std.specs.Option.{IfSome, option_map_or}
 use Rattle.std.proofs.lemmas.Bool.{both_ways, eq-eqb, eqb-true, not-true}
-use Rattle.std.proofs.lemmas.List.Elements.{All-cons, All-filter, All-head, All-map, All-nil, All-tail, filter_passes}
+use Rattle.std.proofs.lemmas.List.Elements.{All-cons, All-filter, All-head, All-map, All-nil, All-tail, filter_passes, All-weaker}
 use Rattle.std.proofs.lemmas.Option.{none-some, same_Some}
 use Rattle.std.proofs.lemmas.Slice.Eq.{bytes_eq-Decides}
 use Rattle.nf_base.specs.Content.{content_eq}
@@ -23,14 +23,14 @@ use Rattle.nf_base.specs.declared.rows.UserRow.{UserRow}
 use Rattle.nf_defs.specs.Prelude.{Access, content_of, is_folder, is_under, node_row, Tables, user_named}
 use Rattle.nf_defs.specs.declared.Found.{Found}
 use Rattle.nf_defs.specs.declared.Found.TheVariants.{At, Free, Missing}
-use Rattle.nf_words.proofs.Begins.{only_at, places_at, wanted_passes, WantedPasses}
+use Rattle.nf_words.proofs.Begins.{only_at, places_at, wanted_known, wanted_passes, WantedPasses}
 use Rattle.nf_words.proofs.Found.{found_has, found_passes}
-use Rattle.nf_words.proofs.Known.{KnownCopies}
+use Rattle.nf_words.proofs.Known.{IsItem, Known, KnownCopies, KnownGoes}
 use Rattle.nf_words.proofs.Passing.{place_passes, call_passes, no_key, not_refused}
 use Rattle.nf_words.proofs.Starts.{has_asker, IsAsking}
 use Rattle.nf_words.proofs.Steps.{fails_each}
 use Rattle.nf_words.proofs.Transfers.{copies_known}
-use Rattle.nf_words.specs.Prelude.{access_of, AreApartHolds, AreKeysApart, AreSound, asked_by, asked_of, blob_for, blocks, by_of, Call, call_decision, call_of, carry_limit, clashes, content_in, copied, copies_to, copy_limit, crosses, decision_of, deleted, end_decision, end_refusal, ends_at, ends_goal, found, given, HoldsFor, is_exclusive, IsNodeSound, IsSound, IsTicketSound, key_in_way, last_name, least, left_row, lesser, limited, listing_of, locked_rule, made_folder, makes, MayAsk, MayWant, mount_left, mount_renamed, move_limit, moved, named_row, new_node, node_at, node_of_key, own_mount, places_of, refilled, root_of, same_key, served, source_touches, State, stored, stored_at, target_touches, ticket_of, Touch, touch_key, touch_under, touched, touches, transfer_of, transfer_touches, unfit_between, unreached, way_of, with_mount_row, without, without_ticket, share_made, shared, new_share, nothing_done, offered, share_told, share_shown, share_set, perms_after, share_steered, share_ended, ended_row, put_mounts, until_after, mounts_for, same_end, set_row, new_user, new_root, membership, mounts_joined, joined_by, left_by, is_member, row_named, requoted, people_changed}
+use Rattle.nf_words.specs.Prelude.{access_of, AreApartHolds, AreKeysApart, AreSound, asked_by, asked_of, asked_of_trash, asker_of, blob_for, blocks, by_of, Call, call_decision, call_of, carry_limit, clashes, content_in, copied, copies_to, copy_limit, crosses, decision_of, deleted, discard, end_decision, ended_row, end_refusal, ends_at, ends_goal, found, given, gone_beside, gone_of, HoldsFor, home_of, is_exclusive, is_member, IsNodeSound, IsSound, IsTicketSound, item_dropped, item_for, item_restored, items_of, joined_by, key_in_way, last_name, least, left_by, left_row, lesser, limited, listing_of, locked_rule, made_folder, makes, MayAsk, MayWant, membership, mount_left, mount_renamed, mounts_for, mounts_joined, moved, move_limit, name_back, named_row, new_node, new_root, new_share, new_user, node_at, node_of_key, nothing_done, offered, own_item, own_mount, people_changed, people_done, perms_after, places_of, put_mounts, quota_of, refilled, requoted, restore_touches, root_of, row_named, same_end, same_key, served, set_row, shared, share_ended, share_made, share_set, share_shown, share_steered, share_told, source_touches, State, stored, stored_at, target_name, target_touches, ticket_of, Touch, touched, touches, touch_key, touch_under, transfer_of, transfer_touches, trash_done, unfit_between, unreached, until_after, way_of, with_mount_row, without, without_ticket}
 use Rattle.nf_words.specs.declared.answer.Allowed.{Allowed}
 use Rattle.nf_words.specs.declared.answer.Allowed.TheVariants as allowed
 use Rattle.nf_words.specs.declared.answer.By.{By}
@@ -62,6 +62,12 @@ use Rattle.nf_words.specs.declared.request.Transfer.{Transfer}
 use Rattle.nf_words.specs.declared.request.Wanted.{Wanted}
 use Rattle.nf_words.specs.declared.request.Wanted.TheVariants.{Copy, Delete, Get, Mkcol, Move}
 use Rattle.nf_words.specs.declared.request.Wanted.TheVariants as wanted
+use Rattle.nf_words.proofs.Trashing.{beside_goes, emptied_items, own_is, own_there, user_goes}
+use Rattle.nf_base.specs.declared.rows.ItemRow.{ItemRow}
+use Rattle.nf_words.specs.declared.answer.Deed.{Deed}
+use Rattle.nf_words.specs.declared.answer.Deed.TheVariants as deed
+use Rattle.nf_words.specs.declared.request.TrashAsk.{TrashAsk}
+use Rattle.nf_words.specs.declared.request.TrashAsk.TheVariants as trash
 
 -- ---- what a step leaves alone
 
@@ -83,13 +89,24 @@ pub record SparesTarget (t : Tables) (key : LockKey) (transfer : Transfer) (name
   pub slot : key ≢ Slot transfer.folder name
   pub replaced : IfSome transfer.replaced (SparesUnder t key)
 
+-- nor is it under what is put in the trash, and no item comes back under a name that is held
+abbrev pub SparesDeed : Tables → LockKey → Deed → Type 0
+SparesDeed t key deed.Nothing = Unit {0}
+SparesDeed t key (deed.Discard item) = SparesUnder t key item.node
+SparesDeed t key (deed.Restore node folder name) = key ≢ Slot folder name
+SparesDeed t key (deed.Requote row) = Unit {0}
+
+-- nor under what goes for good, unless that is an item: what is held isn't in the trash
+abbrev pub SparesGone : Tables → LockKey → ℕ → Type 0
+SparesGone t key node = IsItem t node ⊎ SparesUnder t key node
+
 -- an act leaves alone what is held, and what it grants is another key, or both read
 abbrev pub Spares : Tables → ℕ → Hold → Allowed → Type 0
 Spares t now hold (allowed.Get node content) = AreKeysApart (Node node) Shared hold.key hold.mode
 Spares t now hold (allowed.List listing) = Unit {0}
 Spares t now hold (allowed.Put by key length) = AreKeysApart key Exclusive hold.key hold.mode
 Spares t now hold (allowed.Change changes blob report) = All (SparesChange t hold.key) changes
-Spares t now hold (allowed.Delete node) = SparesUnder t hold.key node
+Spares t now hold (allowed.Trash did gone report) = SparesDeed t hold.key did × All (SparesGone t hold.key) gone
 Spares t now hold (allowed.Move transfer name) = SparesUnder t hold.key transfer.node × SparesTarget t hold.key transfer name
 Spares t now hold (allowed.Copy rows replaced) =
     (known : KnownCopies t now rows replaced) × SparesTarget t hold.key known.transfer known.name
@@ -194,10 +211,44 @@ folder_spares t now hold name (Free folder) clear =
     (other_key (Slot folder name) hold (key_apart t hold (Slot folder name) Exclusive [] clear))
 folder_spares t now hold name (Missing depth) clear = tt
 
-deleted_spares : (t : Tables) (now : ℕ) (hold : Hold) (node : Option ℕ)
-    → IsClear t hold (option_map_or (source_touches t.nodes true) node []) → Spares t now hold (deleted node)
-deleted_spares t now hold None clear = tt
-deleted_spares t now hold (Some node) clear = under_spared t hold node [] clear
+-- those that go of whom nothing else is known are items
+gone_spared : (t : Tables) (hold : Hold) (nodes : List ℕ) → All (IsItem t) nodes → All (SparesGone t hold.key) nodes
+gone_spared t hold nodes all = All-weaker (IsItem t) (SparesGone t hold.key) (λ node is. inl is) nodes all
+
+-- of what goes the first may be present, and has to be touched then
+goes_spared : (t : Tables) (hold : Hold) (nodes : List ℕ) → KnownGoes t nodes → IfSome (slice_get nodes 0) (λ node. IsItem t node ⊎ SparesUnder t hold.key node)
+    → All (SparesGone t hold.key) nodes
+goes_spared t hold [] goes first = All-nil (SparesGone t hold.key)
+goes_spared t hold (node ∷ nodes) goes first = All-cons (SparesGone t hold.key) node nodes first (gone_spared t hold nodes goes.1)
+
+-- what is put in the trash, or goes, is touched with all under it
+discard_spares : (t : Tables) (now : ℕ) (hold : Hold) (row : NodeRow) → Known t now (discard t now row) → SparesUnder t hold.key row.id
+    → Spares t now hold (discard t now row)
+discard_spares t now hold row known under = here (list_any (λ node. node == row.id) nodes) known
+  where
+    nodes : List ℕ
+    nodes = gone_of t now (quota_of t row.owner) (item_for now row ∷ items_of t row.owner)
+
+    rest : List ℕ
+    rest = filter (λ node. not (node == row.id)) nodes
+
+    here : (b : Bool)
+        → Known t now (if b then allowed.Trash deed.Nothing (row.id ∷ rest) report.Done else allowed.Trash (deed.Discard (item_for now row)) nodes report.Done)
+        → Spares t now hold (if b then allowed.Trash deed.Nothing (row.id ∷ rest) report.Done else allowed.Trash (deed.Discard (item_for now row)) nodes report.Done)
+    here true known = (tt, goes_spared t hold (row.id ∷ rest) known.goes (inr under))
+    here false known = (under, gone_spared t hold nodes (known.items (λ same. cc)))
+
+deleted_spares : (t : Tables) (now : ℕ) (hold : Hold) (node : Option ℕ) → Known t now (deleted t now node)
+    → IsClear t hold (option_map_or (source_touches t.nodes true) node []) → Spares t now hold (deleted t now node)
+deleted_spares t now hold None known clear = All-nil (SparesChange t hold.key)
+deleted_spares t now hold (Some node) known clear = here (node_row t.nodes node) refl known
+  where
+    here : (o : Option NodeRow) → node_row t.nodes node ≡ o → Known t now (option_map_or (discard t now) o nothing_done)
+        → Spares t now hold (option_map_or (discard t now) o nothing_done)
+    here None e known = All-nil (SparesChange t hold.key)
+    here (Some row) e known =
+        let id : row.id ≡ node = eqb-true row.id node (found_passes (λ (row : NodeRow). row.id == node) t.nodes row e) in
+        discard_spares t now hold row known (subst (SparesUnder t hold.key) (sym id) (under_spared t hold node [] clear))
 
 -- what is replaced, if anything is
 abbrev gone_touches : Option ℕ → List Touch
@@ -243,10 +294,11 @@ module _ (call : Call) (hold : Hold) (sound : AreSound call.state.tables) (is : 
   nowhere = record { source = None; target = None }
 
   delete_spares : (spot : Spot) (b : Bool) → IsClear t hold (option_map_or (source_touches t.nodes true) (node_at (only_at b (found call spot)).source) [])
-      → IsSpared (if b then mount_left call (way_of call spot) else deleted (node_at (only_at b (found call spot)).source))
-  delete_spares spot true clear =
+      → Known t call.now (if b then mount_left call (way_of call spot) else deleted t call.now (node_at (only_at b (found call spot)).source))
+      → IsSpared (if b then mount_left call (way_of call spot) else deleted t call.now (node_at (only_at b (found call spot)).source))
+  delete_spares spot true clear known =
       mount_spares t call.now hold (option_map left_row (own_mount call (way_of call spot).mount)) report.Done
-  delete_spares spot false clear = deleted_spares t call.now hold (node_at (Some (found call spot))) clear
+  delete_spares spot false clear known = deleted_spares t call.now hold (node_at (Some (found call spot))) known clear
 
   -- a transfer that a rule let pass
   abbrev Copies : Spot → Transfer → Type 0
@@ -284,7 +336,7 @@ module _ (call : Call) (hold : Hold) (sound : AreSound call.state.tables) (is : 
       → unreached (access_of call.state) call (way_of call to) ≡ None
       → unfit_between t.nodes (root_of call) b (record { source = Some (way_of call from); target = Some (way_of call to) }) ≡ None
       → limited t (if b then nowhere else led from to) making.Moved ≡ None
-      → IsClear t hold (touched t.nodes true (last_name to) (if b then nowhere else led from to) making.Moved)
+      → IsClear t hold (touched t true (last_name to) (if b then nowhere else led from to) making.Moved)
       → IsSpared (if b then mount_renamed call (way_of call from) (last_name to)
       else moved t call.now (last_name to) (transfer_of t.nodes (if b then nowhere else led from to)))
   unfolding copies_known
@@ -377,16 +429,7 @@ module _ (call : Call) (hold : Hold) (sound : AreSound call.state.tables) (is : 
       here : (o : Option MemberRow) → All (SparesChange t hold.key) (option_map_or (left_by t) o [])
       here None = All-nil (SparesChange t hold.key)
       here (Some row) = leaves row (is_member t row)
-  people_spare (people.SetQuota user quota) = here (row_named t user)
-    where
-      another : (row : UserRow) (b : Bool) → All (SparesChange t hold.key) (if b then [] else Put (rows.User (record row { quota = quota })) ∷ [])
-      another row true = All-nil (SparesChange t hold.key)
-      another row false =
-          All-cons (SparesChange t hold.key) (Put (rows.User (record row { quota = quota }))) [] tt (All-nil (SparesChange t hold.key))
-
-      here : (o : Option UserRow) → All (SparesChange t hold.key) (option_map_or (requoted quota) o [])
-      here None = All-nil (SparesChange t hold.key)
-      here (Some row) = another row (row.quota == quota)
+  people_spare (people.SetQuota user quota) = All-nil (SparesChange t hold.key)
   people_spare (people.AddToken user token) = here (user_named t.users user)
     where
       here : (o : Option ℕ)
@@ -395,19 +438,63 @@ module _ (call : Call) (hold : Hold) (sound : AreSound call.state.tables) (is : 
       here (Some user) =
           All-cons (SparesChange t hold.key) (Put (rows.Token (record { digest = token; user = user }))) [] tt (All-nil (SparesChange t hold.key))
 
-  wanted_spares : (wanted : Wanted) → WantedPasses call wanted → IsClear t hold (touches t.nodes (asked_of wanted) (places_at call wanted))
+  -- a quota takes items alone
+  persons_spare : (asked : PeopleAsk) → IsSpared (people_done t call.now asked)
+  persons_spare (people.SetQuota user quota) = here (row_named t user)
+    where
+      another : (row : UserRow) (b : Bool) → IsSpared (if b then nothing_done
+          else allowed.Trash (deed.Requote (record row { quota = quota })) (gone_of t call.now quota (items_of t row.id)) report.Plain)
+      another row true = All-nil (SparesChange t hold.key)
+      another row false = (tt, gone_spared t hold (gone_of t call.now quota (items_of t row.id)) (user_goes t sound call.now quota row.id))
+
+      here : (o : Option UserRow) → IsSpared (option_map_or (requoted t call.now quota) o nothing_done)
+      here None = All-nil (SparesChange t hold.key)
+      here (Some row) = another row (row.quota == quota)
+  persons_spare (people.NewUser name token quota) = people_spare (people.NewUser name token quota)
+  persons_spare (people.NewGroup name) = people_spare (people.NewGroup name)
+  persons_spare (people.AddMember user group) = people_spare (people.AddMember user group)
+  persons_spare (people.DropMember user group) = people_spare (people.DropMember user group)
+  persons_spare (people.AddToken user token) = people_spare (people.AddToken user token)
+
+  -- of the trash items alone go, and one that comes back takes a free name
+  trash_spares : (asked : TrashAsk) → IsClear t hold (touches t (asked_of_trash asked) (places_at call (wanted.Trash asked)))
+      → IsSpared (trash_done call asked)
+  trash_spares (trash.List user) clear = All-nil (SparesChange t hold.key)
+  trash_spares (trash.Drop user node) clear = here (own_item call node) refl
+    where
+      here : (o : Option ItemRow) → own_item call node ≡ o → IsSpared (option_map_or (item_dropped t call.now) o nothing_done)
+      here None e = All-nil (SparesChange t hold.key)
+      here (Some item) e = (
+        tt,
+        gone_spared t hold (item.node ∷ gone_beside t call.now item)
+            (All-cons (IsItem t) item.node (gone_beside t call.now item) (own_is t sound (asker_of call) node item e) (beside_goes t sound call.now item)),
+      )
+  trash_spares (trash.Empty user) clear =
+      (tt, gone_spared t hold (map (λ item. item.node) (items_of t (asker_of call))) (emptied_items t sound (asker_of call)))
+  trash_spares (trash.Restore user node) clear = here (own_item call node) refl
+    where
+      here : (o : Option ItemRow) → own_item call node ≡ o → IsSpared (option_map_or (item_restored t call.now) o nothing_done)
+      here None e = All-nil (SparesChange t hold.key)
+      here (Some item) e =
+          let there = own_there t sound (asker_of call) node item e in
+          let slot : LockKey = Slot (home_of t item) (name_back t item) in
+          let free : IsClear t hold (touch_key slot Exclusive ∷ []) = subst (λ (o : Option ItemRow). IsClear t hold (option_map_or (restore_touches t) o [])) there clear in
+          (other_key slot hold (key_apart t hold slot Exclusive [] free), gone_spared t hold (gone_beside t call.now item) (beside_goes t sound call.now item))
+
+  wanted_spares : (wanted : Wanted) → WantedPasses call wanted → IsClear t hold (touches t (asked_of wanted) (places_at call wanted))
       → IsSpared (given (access_of call.state) call (places_at call wanted) wanted)
   wanted_spares (Get spot) p clear = served_spares (access_of call.state) call hold (way_of call spot).mount (node_at (Some (found call spot))) clear
   wanted_spares (wanted.Put spot size) p clear =
       stored_spares t call.now hold (by_of call spot) (last_name spot) size (found call spot) clear
   wanted_spares (Mkcol spot) p clear = folder_spares t call.now hold (last_name spot) (found call spot) clear
-  wanted_spares (Delete spot) p clear = delete_spares spot (way_of call spot).itself clear
+  wanted_spares (Delete spot) p clear = delete_spares spot (way_of call spot).itself clear (wanted_known call sound is (Delete spot) p)
   wanted_spares (Move from to overwrite) p clear =
       move_spares from to (way_of call from).itself refl p.place.source p.place.target p.fits p.few clear
   wanted_spares (Copy from to overwrite) p clear =
       copy_spares from to (p.place.source refl) p.place.target p.fits (transfer_of t.nodes (led from to)) refl p.few clear
   wanted_spares (wanted.Share asked) p clear = asks_spare (places_at call (wanted.Share asked)) asked
-  wanted_spares (wanted.People asked) p clear = people_spare asked
+  wanted_spares (wanted.People asked) p clear = persons_spare asked
+  wanted_spares (wanted.Trash asked) p clear = trash_spares asked clear
 
 -- ---- nobody is in the way
 
@@ -460,7 +547,7 @@ none_blocks nodes seat touches tickets none =
 
 -- a call that may do something leaves alone what no touch of it clashes with
 call_spares : (call : Call) (act : Allowed) (hold : Hold) → IsSound call.state → MayWant call.request → call_decision call ≡ Ok act
-    → IsClear call.state.tables hold (touches call.state.tables.nodes (asked_by call) (places_of call))
+    → IsClear call.state.tables hold (touches call.state.tables (asked_by call) (places_of call))
     → Spares call.state.tables call.now hold act
 call_spares call act hold sound may is clear =
     let h = call_passes call act is in
@@ -485,7 +572,7 @@ begin_spares call act sound may none is k d within =
     ticket = get_or call.state.tickets k d
 
     all : List Touch
-    all = touches t.nodes (asked_by call) (places_of call)
+    all = touches t (asked_by call) (places_of call)
 
     clear : (own clashing : Bool) → (not own && clashing) ≡ false → own ≡ false → clashing ≡ false
     clear false clashing h other = h

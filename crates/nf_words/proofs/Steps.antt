@@ -167,10 +167,12 @@ reports_nothing report.Made goal = λ is. cc
 reports_nothing report.Done goal = λ is. cc
 reports_nothing (report.Share line) goal = λ is. cc
 reports_nothing (report.Shares lines) goal = λ is. cc
+reports_nothing (report.Items lines) goal = λ is. cc
 reports_nothing report.Plain goal = λ is. cc
 
 goal_of_reply : (act : Allowed) (goal : Goal) → reply_to act ≡ Granted goal → goal_of act ≡ Some goal
 goal_of_reply (allowed.Change changes blob report) goal is = absurd (reports_nothing report goal is)
+goal_of_reply (allowed.Trash did gone report) goal is = absurd (reports_nothing report goal is)
 goal_of_reply (allowed.Move transfer name) goal is = absurd (put_grants_nothing transfer.replaced goal is)
 goal_of_reply (allowed.Copy rows replaced) goal is = absurd (put_grants_nothing replaced goal is)
 goal_of_reply (allowed.Cross rows replaced node) goal is = absurd (put_grants_nothing replaced goal is)

@@ -11,8 +11,8 @@ use Rattle.nf_defs.specs.declared.Found.TheVariants.{At, Free, Missing}
 use Rattle.nf_words.proofs.Fits.{within}
 use Rattle.nf_words.proofs.Known.{Known, KnownCopies, KnownTransfer}
 use Rattle.nf_words.proofs.Starts.{IsAsking}
-use Rattle.nf_words.proofs.Ways.{at_in, HasRow, slot_known, taken_unmounted, way_there}
-use Rattle.nf_words.specs.Prelude.{access_of, AreSound, Call, carry_limit, copied, copies_to, copy_limit, crosses, deepest_in, folder_at, folder_seen, found, is_off_mount, is_root_at, is_start, is_there, IsUnmounted, last_name, misplaced, misplaced_by, move_limit, moved, node_found, pieces_in, root_of, transfer_between, transfer_by, transfer_of, transfer_to, unfit_between, unreached, Way, Ways, way_of}
+use Rattle.nf_words.proofs.Ways.{at_in, folder_present, HasRow, node_present, slot_known, slot_present, taken_unmounted, way_there}
+use Rattle.nf_words.specs.Prelude.{access_of, AreSound, Call, carry_limit, copied, copies_to, copy_limit, crosses, deepest_in, folder_at, folder_seen, found, is_off_mount, is_root_at, is_start, is_there, IsUnmounted, last_name, LeadsToRoot, misplaced, misplaced_by, moved, move_limit, node_found, pieces_in, root_of, transfer_between, transfer_by, transfer_of, transfer_to, unfit_between, unreached, Way, way_of, Ways}
 use Rattle.nf_words.specs.declared.answer.Allowed.TheVariants as allowed
 use Rattle.nf_words.specs.declared.answer.TargetFault.{TargetFault}
 use Rattle.nf_words.specs.declared.answer.TargetFault.TheVariants as target
@@ -38,6 +38,7 @@ transfer_parts rows node place transfer is = here (folder_at rows place) is
 -- what is known of the place that something is put at
 record KnownTarget (t : Tables) (transfer : Transfer) (name : List ℕ) : Type 0 where
   in_folder : is_folder t.nodes transfer.folder ≡ true
+  present : LeadsToRoot t.nodes transfer.folder
   there : child_of t.nodes transfer.folder name ≡ transfer.replaced
   unmounted : IsUnmounted t transfer.folder name
 
@@ -51,6 +52,7 @@ target_known call spot (At node) transfer sound is reached other no_start leads 
     let step = at_in call spot sound is node transfer.folder other no_start leads above in
     record {
       in_folder = step.0;
+      present = folder_present t.nodes node transfer.folder above (node_present call spot sound is node reached leads);
       there = step.1 ∙ replaced;
       unmounted = taken_unmounted t transfer.folder node (last_name spot) sound step.1;
     }
@@ -60,6 +62,7 @@ target_known call spot (Free folder) transfer sound is reached other no_start le
     let slot = slot_known call spot sound is folder reached leads in
     record {
       in_folder = subst (λ (n : ℕ). is_folder t.nodes n ≡ true) same slot.folds;
+      present = subst (LeadsToRoot t.nodes) same (slot_present call spot sound is folder reached leads);
       there = subst (λ (n : ℕ). child_of t.nodes n (last_name spot) ≡ None) same slot.free ∙ replaced;
       unmounted = subst (λ (n : ℕ). IsUnmounted t n (last_name spot)) same slot.unmounted;
     }
@@ -184,7 +187,9 @@ module _ (call : Call) (source target : Spot) (sound : AreSound call.state.table
             source = subst (HasRow t.nodes) parts.0 there;
             no_root = subst (λ (n : ℕ). is_root t.nodes n ≡ false) parts.0
                 (off (node == root_of call) (is_root t.nodes node) (sym (ap (λ (place : Found). is_there (λ node. node == root_of call || is_root t.nodes node) (Some place)) leads) ∙ fit.no_root));
+            present = subst (LeadsToRoot t.nodes) parts.0 (node_present call source sound is node from_reached leads);
             in_folder = at.in_folder;
+            folder_present = at.present;
             there = at.there;
             unmounted = at.unmounted;
             differs = placed.0;

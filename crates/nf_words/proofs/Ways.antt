@@ -1,11 +1,11 @@
 -- Where the ways of a call lead by whose mounts it is reached.
-use Rattle.std.proofs.Common.{◌≡◌, ◌⊎◌, ℕ, ◌+◌, ◌<◌, ◌==◌, ◌&&◌, inl, inr, bytes_eq, find, not, sym, Bool, true, false, List, [], ◌∷◌, ◌∙◌, Option, option_map, if◌then◌else◌, refl, ap, subst}
+use Rattle.std.proofs.Common.{◌≡◌, ◌⊎◌, ℕ, zero, suc, ◌+◌, ◌<◌, ◌==◌, ◌&&◌, inl, inr, bytes_eq, find, not, sym, Bool, true, false, List, [], ◌∷◌, ◌∙◌, Option, option_map, if◌then◌else◌, refl, ap, subst}
 use Rattle.std.specs.Prelude.{None, Some, is_some}
 use Rattle.std.specs.List.{AllPairs, list_any}
 use Rattle.std.specs.Option.{IfSome, option_and_then, option_map_or}
-use Rattle.std.proofs.lemmas.Bool.{and_parts, both_ways, eq-eqb, eqb-true, not-true}
+use Rattle.std.proofs.lemmas.Bool.{and_parts, both_ways, eq-eqb, eqb-true, false≢true, not-true}
 use Rattle.std.proofs.lemmas.List.Elements.{All-weaker}
-use Rattle.std.proofs.lemmas.Option.{none-some, same_Some}
+use Rattle.std.proofs.lemmas.Option.{none-some, option_and_then_some, same_Some}
 use Rattle.std.proofs.lemmas.Slice.Eq.{bytes_eq-Decides}
 use Rattle.nf_access.proofs.Granted.{reach_is_a_chain_lem}
 use Rattle.nf_access.proofs.Kept.{chained_is_bounded_lem}
@@ -20,7 +20,7 @@ use Rattle.nf_base.specs.declared.rows.Place.{Place}
 use Rattle.nf_base.specs.declared.rows.Place.TheVariants.{Root, Inside, Trash}
 use Rattle.nf_base.specs.declared.rows.ShareRow.{ShareRow}
 use Rattle.nf_base.specs.declared.rows.UserRow.{UserRow}
-use Rattle.nf_defs.specs.Prelude.{child_of, folder_of, found_from, is_folder, is_root, is_root_place, node_row, onward, owner_of, parent_of, Tables}
+use Rattle.nf_defs.specs.Prelude.{child_of, climb, folder_of, found_from, is_folder, is_root, is_root_place, node_row, onward, owner_of, parent_of, Tables}
 use Rattle.nf_defs.specs.declared.Found.{Found}
 use Rattle.nf_defs.specs.declared.Found.TheVariants.{At, Free, Missing}
 use Rattle.nf_defs.specs.declared.Seeker.{Seeker}
@@ -28,7 +28,7 @@ use Rattle.nf_defs.specs.declared.Seeker.TheVariants as seeker
 use Rattle.nf_words.proofs.Found.{at_known, child_parent, found_has, found_passes, free_known, last_more, last_of, last_step}
 use Rattle.nf_words.proofs.Passing.{if_none}
 use Rattle.nf_words.proofs.Starts.{IsAsking, none_of_user, root_is, root_known, user_seeks}
-use Rattle.nf_words.specs.Prelude.{access_of, AreSound, asker_of, behind, Call, caller_row, found, is_itself, is_start, IsMountSound, IsNodeSound, IsShareSound, IsUnmounted, IsPlaceSound, last_name, mount_for, mount_of, mounted, root_of, root_of_user, seeker_of, unreached, unreached_by, Way, way_by, way_of}
+use Rattle.nf_words.specs.Prelude.{access_of, AreSound, asker_of, behind, Call, caller_row, found, is_itself, is_start, IsMountSound, IsNodeSound, IsShareSound, IsUnmounted, IsPlaceSound, last_name, LeadsToRoot, mount_for, mount_of, mounted, root_of, root_of_user, seeker_of, unreached, unreached_by, Way, way_by, way_of}
 use Rattle.nf_words.specs.declared.request.Spot.{Spot}
 
 -- the node is there
@@ -55,6 +55,87 @@ inside_no_root rows node folder above = here (node_row rows node) above
         by_place Root above = absurd (none-some folder above)
         by_place (Inside parent) above = refl
         by_place Trash above = refl
+
+-- ---- what is present
+
+-- what is in a folder that is present is present
+pub inside_present : (rows : List NodeRow) (node folder : ℕ) → parent_of rows node ≡ Some folder → LeadsToRoot rows folder → LeadsToRoot rows node
+inside_present rows node folder above is = record {
+  steps = suc is.steps;
+  top = is.top;
+  climbs = ap (option_and_then (climb rows is.steps)) above ∙ is.climbs;
+  root = is.root;
+}
+
+-- and the folder of what is present is
+pub folder_present : (rows : List NodeRow) (node folder : ℕ) → parent_of rows node ≡ Some folder → LeadsToRoot rows node → LeadsToRoot rows folder
+folder_present rows node folder above is = here is.steps is.climbs
+  where
+    here : (k : ℕ) → climb rows k node ≡ Some is.top → LeadsToRoot rows folder
+    here zero climbs =
+        absurd (both_ways (is_root rows node) (inside_no_root rows node folder above)
+        (subst (λ (n : ℕ). is_root rows n ≡ true) (sym (same_Some node is.top climbs)) is.root))
+    here (suc k) climbs = record {
+      steps = k;
+      top = is.top;
+      climbs = sym (ap (option_and_then (climb rows k)) above) ∙ climbs;
+      root = is.root;
+    }
+
+-- what is present is there
+pub present_row : (rows : List NodeRow) (node : ℕ) → LeadsToRoot rows node → HasRow rows node
+present_row rows node is = here (node_row rows node) refl
+  where
+    none : node_row rows node ≡ None → (k : ℕ) → climb rows k node ≡ Some is.top → ⊥
+    none e zero climbs =
+        false≢true (sym (ap (λ (o : Option NodeRow). option_map_or (λ row. is_root_place row.place) o false) e)
+        ∙ subst (λ (n : ℕ). is_root rows n ≡ true) (sym (same_Some node is.top climbs)) is.root)
+    none e (suc k) climbs =
+        none-some is.top
+        (sym (ap (λ (o : Option NodeRow). option_and_then (climb rows k) (option_and_then (λ row. folder_of row.place) o)) e) ∙ climbs)
+
+    here : (o : Option NodeRow) → node_row rows node ≡ o → HasRow rows node
+    here None e = absurd (none e is.steps is.climbs)
+    here (Some row) e = (row, e)
+
+-- what is present and no root is in a folder
+pub present_inside : (rows : List NodeRow) (node : ℕ) (row : NodeRow) → node_row rows node ≡ Some row → is_root rows node ≡ false → LeadsToRoot rows node
+    → (folder : ℕ) × (row.place ≡ Inside folder)
+present_inside rows node row there no_root is = here is.steps is.climbs
+  where
+    placed : (k : ℕ) (place : Place) → option_and_then (climb rows k) (folder_of place) ≡ Some is.top → (folder : ℕ) × (place ≡ Inside folder)
+    placed k Root climbs = absurd (none-some is.top climbs)
+    placed k (Inside folder) climbs = (folder, refl)
+    placed k Trash climbs = absurd (none-some is.top climbs)
+
+    here : (k : ℕ) → climb rows k node ≡ Some is.top → (folder : ℕ) × (row.place ≡ Inside folder)
+    here zero climbs =
+        absurd (both_ways (is_root rows node) no_root (subst (λ (n : ℕ). is_root rows n ≡ true) (sym (same_Some node is.top climbs)) is.root))
+    here (suc k) climbs =
+        placed k row.place
+        (sym (ap (λ (o : Option NodeRow). option_and_then (climb rows k) (option_and_then (λ row. folder_of row.place) o)) there) ∙ climbs)
+
+-- what is at a place, or the folder of a free name, is present
+abbrev pub IsPresentAt : List NodeRow → Found → Type 0
+IsPresentAt rows (At node) = LeadsToRoot rows node
+IsPresentAt rows (Free folder) = LeadsToRoot rows folder
+IsPresentAt rows (Missing depth) = Unit {0}
+
+-- names lead from what is present to what is
+led_present : (rows : List NodeRow) (before at : ℕ) (names : List (List ℕ)) → AllPairs (λ (a b : NodeRow). a.id < b.id) rows
+    → LeadsToRoot rows at → IsPresentAt rows (found_from rows before at names)
+led_present rows before at [] rising is = is
+led_present rows before at (name ∷ names) rising is =
+    here (is_folder rows at) (child_of rows at name) names refl (λ child there.
+    led_present rows (before + 1) child names rising (inside_present rows child at (child_parent rows at name child rising there) is))
+  where
+    here : (folds : Bool) (child : Option ℕ) (names : List (List ℕ)) → child_of rows at name ≡ child
+        → ((child : ℕ) → child_of rows at name ≡ Some child → IsPresentAt rows (found_from rows (before + 1) child names))
+        → IsPresentAt rows (if folds then onward before at names child (λ child. found_from rows (before + 1) child names) else Missing before)
+    here true None [] e rest = is
+    here true None (first ∷ others) e rest = tt
+    here true (Some child) names e rest = rest child e
+    here false child names e rest = tt
 
 -- ---- what names lead to
 
@@ -106,11 +187,12 @@ bounded t sound = chained_is_bounded_lem (ground_of t) (record {
   shallow = All-weaker (IsNodeSound t) (λ row. IsShallow t.nodes row.id) (shallow t) t.nodes sound.nodes;
 })
 
--- the node of a share that stands is there, and is no root
+-- the node of a share that stands is present, and is no root
 pub record IsShared (t : Tables) (node : ℕ) : Type 0 where
   pub row : NodeRow
   pub there : node_row t.nodes node ≡ Some row
   pub no_root : is_root_place row.place ≡ false
+  pub present : LeadsToRoot t.nodes node
 
 first_row : (shares : List ShareRow) (share : ShareRow) (up : List ShareRow) → IsChain shares (share ∷ up) → share_row shares share.id ≡ Some share
 first_row shares share [] chain = chain.0
@@ -120,16 +202,12 @@ not_ended : (g : Ground) (share : ShareRow) (up : List ShareRow) → Stands g (s
 not_ended g share [] stands = stands
 not_ended g share (parent ∷ up) stands = stands.0
 
-some_row : (o : Option NodeRow) → is_some o ≡ true → (row : NodeRow) × (o ≡ Some row)
-some_row None is = absurd (cc)
-some_row (Some row) is = (row, refl)
-
 share_there : (t : Tables) (share : ShareRow) → AreSound t → share_row t.shares share.id ≡ Some share → share.ended ≡ false → IsShared t share.node
 share_there t share sound is unended =
     let fine = subst (λ (o : Option ShareRow). IfSome o (IsShareSound t)) is
     (found_has (IsShareSound t) (λ (row : ShareRow). row.id == share.id) t.shares sound.others.shares) in
-    let row = some_row (node_row t.nodes share.node) (fine.present unended) in
-    record { row = row.0; there = row.1; no_root = (fine.of_node row.0 row.1).no_root }
+    let row = present_row t.nodes share.node (fine.present unended) in
+    record { row = row.0; there = row.1; no_root = (fine.of_node row.0 row.1).no_root; present = fine.present unended }
 
 -- so where somebody is reached by a mount, its node is
 pub reached_there : (t : Tables) (seeker : Seeker) (now mount : ℕ) → AreSound t
@@ -219,6 +297,32 @@ module _ (call : Call) (spot : Spot) (sound : AreSound call.state.tables) (is : 
                 (shared.row, ap (node_row t.nodes) (sym same.0) ∙ shared.there))
             | inr above ↦ inside_there t.nodes node above.0 above.1
           ]
+
+  -- and is present, or in a folder that is
+  pub way_present : unreached (access_of call.state) call (way_of call spot) ≡ None → IsPresentAt t.nodes (found call spot)
+  way_present reached = here (mount_of call spot) refl reached
+    where
+      here : (mount : Option ℕ) → mount_of call spot ≡ mount → Reached mount → IsPresentAt t.nodes (lead mount)
+      here None none reached =
+          let user = none_of_user call spot is none in
+          let root = root_is call user.0 sound user.1 in
+          led_present t.nodes 0 (root_of call) spot.path sound.rising
+          (record {
+            steps = 0;
+            top = root_of call;
+            climbs = refl;
+            root = ap (λ (o : Option NodeRow). option_map_or (λ row. is_root_place row.place) o false) root.there ∙ ap is_root_place root.place;
+          })
+      here (Some mount) by reached =
+          led_present t.nodes 0 mount (behind (seeker_of call) spot.path) sound.rising
+          (reached_there t (seeker_of call) call.now mount sound reached).present
+
+  pub node_present : (node : ℕ) → unreached (access_of call.state) call (way_of call spot) ≡ None → found call spot ≡ At node → LeadsToRoot t.nodes node
+  node_present node reached leads = subst (IsPresentAt t.nodes) leads (way_present reached)
+
+  pub slot_present : (folder : ℕ) → unreached (access_of call.state) call (way_of call spot) ≡ None → found call spot ≡ Free folder
+      → LeadsToRoot t.nodes folder
+  slot_present folder reached leads = subst (IsPresentAt t.nodes) leads (way_present reached)
 
   -- what is known of a free name at the end of a way
   pub record IsSlot (folder : ℕ) (name : List ℕ) : Type 0 where

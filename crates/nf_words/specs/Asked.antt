@@ -7,11 +7,14 @@ use Rattle.nf_words.specs.declared.request.Spot.{Spot}
 use Rattle.nf_words.specs.declared.request.Wanted.{Wanted}
 use Rattle.nf_words.specs.declared.request.ShareAsk.{ShareAsk}
 use Rattle.nf_words.specs.declared.request.ShareAsk.TheVariants as ask
-use Rattle.nf_words.specs.declared.request.Wanted.TheVariants.{Get, Put, Mkcol, Delete, Move, Copy, Share, People}
+use Rattle.nf_words.specs.declared.request.TrashAsk.{TrashAsk}
+use Rattle.nf_words.specs.declared.request.TrashAsk.TheVariants as trash
+use Rattle.nf_words.specs.declared.request.Wanted.TheVariants.{Get, Put, Mkcol, Delete, Move, Copy, Share, People, Trash}
 
--- the place of what it acts upon, that of what it makes or stores over, what it makes there, whether what is at the source doesn't
+-- the user whose trash it is about, the place of what it acts upon, that of what it makes or stores over, what it makes there, whether what is at the source doesn't
 -- stay, and whether what is at the target may be replaced
 pub record Asked : Type 0 where
+  pub user : Option (List ℕ)
   pub source : Option Spot
   pub target : Option Spot
   pub makes : Making
@@ -19,7 +22,7 @@ pub record Asked : Type 0 where
   pub overwrites : Bool
 
 abbrev pub asks_nothing : Asked
-asks_nothing = record { source = None; target = None; makes = making.Nothing; removes = false; overwrites = false }
+asks_nothing = record { user = None; source = None; target = None; makes = making.Nothing; removes = false; overwrites = false }
 
 -- a new share is of what is at the source, and so are the shares that are told
 abbrev pub asked_about : ShareAsk → Asked
@@ -29,17 +32,25 @@ asked_about (ask.Show share) = asks_nothing
 asked_about (ask.Set share perms until) = asks_nothing
 asked_about (ask.End share) = asks_nothing
 
+-- an item comes back, and nothing else is made
+abbrev pub asked_of_trash : TrashAsk → Asked
+asked_of_trash (trash.List user) = record asks_nothing { user = Some user }
+asked_of_trash (trash.Drop user item) = record asks_nothing { user = Some user }
+asked_of_trash (trash.Empty user) = record asks_nothing { user = Some user }
+asked_of_trash (trash.Restore user item) = record asks_nothing { user = Some user; makes = making.Restored item }
+
 abbrev pub asked_of : Wanted → Asked
 asked_of (Get spot) = record asks_nothing { source = Some spot }
 asked_of (Put spot length) = record asks_nothing { target = Some spot; makes = making.File length; overwrites = true }
 asked_of (Mkcol spot) = record asks_nothing { target = Some spot; makes = making.Folder }
 asked_of (Delete spot) = record asks_nothing { source = Some spot; removes = true }
 asked_of (Move source target overwrite) =
-    record { source = Some source; target = Some target; makes = making.Moved; removes = true; overwrites = overwrite }
+    record { user = None; source = Some source; target = Some target; makes = making.Moved; removes = true; overwrites = overwrite }
 asked_of (Copy source target overwrite) =
-    record { source = Some source; target = Some target; makes = making.Copied; removes = false; overwrites = overwrite }
+    record { user = None; source = Some source; target = Some target; makes = making.Copied; removes = false; overwrites = overwrite }
 asked_of (Share ask) = asked_about ask
 asked_of (People ask) = asks_nothing
+asked_of (Trash ask) = asked_of_trash ask
 
 -- ---- what follows from it
 
@@ -53,7 +64,7 @@ named_at place = option_map_or (λ spot. named_in spot.user) place []
 
 -- the users that it names
 abbrev pub users_of : Asked → List (List ℕ)
-users_of asked = named_at asked.source ++ named_at asked.target
+users_of asked = named_in asked.user ++ named_at asked.source ++ named_at asked.target
 
 abbrev pub path_at : Option Spot → List (List (List ℕ))
 path_at place = option_map_or (λ spot. spot.path ∷ []) place []
@@ -71,6 +82,7 @@ is_transfer making.Moved = true
 is_transfer making.Copied = true
 is_transfer making.Shared = false
 is_transfer making.Told = false
+is_transfer (making.Restored item) = false
 
 -- something is asked about shares
 abbrev pub is_about_shares : Wanted → Bool
@@ -86,4 +98,5 @@ is_about_people other = false
 abbrev pub is_about_files : Wanted → Bool
 is_about_files (Share ask) = false
 is_about_files (People ask) = false
+is_about_files (Trash ask) = false
 is_about_files other = true

@@ -22,7 +22,7 @@ use Rattle.nf_words.specs.State.{State, ticket_for}
 use Rattle.nf_words.specs.Calls.{asker_of, Call, last_name, places_of, seeker_of, Way, way_of}
 use Rattle.nf_words.specs.Copies.{copies_to}
 use Rattle.nf_words.specs.Listing.{listing_of}
-use Rattle.nf_words.specs.People.{people_changed, put_mounts}
+use Rattle.nf_words.specs.People.{people_changed, put_mounts, row_named}
 use Rattle.nf_words.specs.Places.{crosses, node_at, transfer_of}
 use Rattle.nf_words.specs.Sharing.{mounts_for, new_share, offered, perms_after, share_line, share_lines, share_shown, share_steered, until_after}
 use Rattle.nf_words.specs.declared.request.Offer.{Offer}
@@ -47,6 +47,18 @@ use Rattle.nf_words.specs.declared.answer.Reply.TheVariants as reply
 use Rattle.nf_words.specs.declared.answer.Report.{Report}
 use Rattle.nf_words.specs.declared.answer.Report.TheVariants as report
 use Rattle.nf_words.specs.declared.history.Ticket.{Ticket}
+use Rattle.nf_words.specs.Charges.{quota_of}
+use Rattle.nf_words.specs.Deeds.{cleared, deed_done, ended_for, ended_row, gone_for, gone_under, purged_all, removed, told_deed, told_purges}
+use Rattle.nf_words.specs.Trash.{gone_of, item_for, item_lines, items_but, items_of, own_item}
+use Rattle.nf_words.specs.Homes.{home_of, name_back}
+use Rattle.nf_base.specs.declared.rows.ItemRow.{ItemRow}
+use Rattle.nf_base.specs.declared.rows.UserRow.{UserRow}
+use Rattle.nf_words.specs.declared.request.PeopleAsk.{PeopleAsk}
+use Rattle.nf_words.specs.declared.request.PeopleAsk.TheVariants as people
+use Rattle.nf_words.specs.declared.request.TrashAsk.{TrashAsk}
+use Rattle.nf_words.specs.declared.request.TrashAsk.TheVariants as trash
+use Rattle.nf_words.specs.declared.answer.Deed.TheVariants as deed
+use Rattle.std.specs.List.{list_any}
 
 -- ---- what an act may do at the places that its paths lead to; elsewhere, where a rule refuses it, nothing
 
@@ -93,9 +105,20 @@ made_folder t now name (Some (At node)) = allowed.Close
 made_folder t now name (Some (Free folder)) = makes (new_node t now folder name Folder []) None
 made_folder t now name (Some (Missing depth)) = allowed.Close
 
--- DELETE removes the node that is there with all under it
-abbrev pub deleted : Option ℕ → Allowed
-deleted node = option_map_or allowed.Delete node allowed.Close
+-- nothing is done
+abbrev pub nothing_done : Allowed
+nothing_done = allowed.Change [] None report.Plain
+
+-- DELETE puts the node that is there in the trash, with all under it, unless the trash can't hold it. What goes for good goes then
+abbrev pub discard : Tables → ℕ → NodeRow → Allowed
+discard t now row =
+    let gone = gone_of t now (quota_of t row.owner) (item_for now row ∷ items_of t row.owner) in
+    if list_any (λ node. node == row.id) gone
+    then allowed.Trash deed.Nothing (row.id ∷ filter (λ node. not (node == row.id)) gone) report.Done
+    else allowed.Trash (deed.Discard (item_for now row)) gone report.Done
+
+abbrev pub deleted : Tables → ℕ → Option ℕ → Allowed
+deleted t now node = option_map_or (discard t now) (option_and_then (node_row t.nodes) node) nothing_done
 
 -- MOVE puts the node that is there, and COPY copies of it and of all under it, into the target's folder under the target's name. What
 -- goes to another owner is copied there, and then removed
@@ -138,17 +161,9 @@ mount_left call way = with_mount_row (option_map left_row (own_mount call way.mo
 abbrev pub mount_renamed : Call → Way → List ℕ → Allowed
 mount_renamed call way name = with_mount_row (option_map (named_row name) (own_mount call way.mount)) report.Made
 
--- a share that ended
-abbrev pub ended_row : ShareRow → ShareRow
-ended_row row = record row { ended = true }
-
 -- some rows are put, and a share is told as it is then
 abbrev pub share_told : Tables → List Change → ShareRow → Allowed
 share_told t changes row = allowed.Change changes None (option_map_or report.Share (share_line t row) report.Plain)
-
--- nothing is done
-abbrev pub nothing_done : Allowed
-nothing_done = allowed.Change [] None report.Plain
 
 -- a share is made, and those whom it names have a mount of the node
 abbrev pub share_made : Access → Call → Offer → Allowed
@@ -186,12 +201,44 @@ shared access call places (ask.Set share perms until) =
     (share_steered call share) nothing_done
 shared access call places (ask.End share) = option_map_or share_ended (share_steered call share) nothing_done
 
+-- ---- the trash
+
+-- what is left of the trash of a user once that item is gone: of it some goes, too
+abbrev pub gone_beside : Tables → ℕ → ItemRow → List ℕ
+gone_beside t now item = gone_of t now (quota_of t item.owner) (items_but t item.owner item.node)
+
+abbrev pub item_dropped : Tables → ℕ → ItemRow → Allowed
+item_dropped t now item = allowed.Trash deed.Nothing (item.node ∷ gone_beside t now item) report.Done
+
+abbrev pub item_restored : Tables → ℕ → ItemRow → Allowed
+item_restored t now item =
+    allowed.Trash (deed.Restore item.node (home_of t item) (name_back t item)) (gone_beside t now item) report.Made
+
+abbrev pub trash_done : Call → TrashAsk → Allowed
+trash_done call (trash.List user) = allowed.Change [] None (report.Items (item_lines call.state.tables (asker_of call)))
+trash_done call (trash.Drop user item) = option_map_or (item_dropped call.state.tables call.now) (own_item call item) nothing_done
+trash_done call (trash.Empty user) =
+    allowed.Trash deed.Nothing (map (λ item. item.node) (items_of call.state.tables (asker_of call))) report.Done
+trash_done call (trash.Restore user item) = option_map_or (item_restored call.state.tables call.now) (own_item call item) nothing_done
+
+-- ---- people
+
+-- a user has another quota, if it is another, and of the user's trash what is beyond it goes
+abbrev pub requoted : Tables → ℕ → ℕ → UserRow → Allowed
+requoted t now quota row =
+    if row.quota == quota then nothing_done
+    else allowed.Trash (deed.Requote (record row { quota = quota })) (gone_of t now quota (items_of t row.id)) report.Plain
+
+abbrev pub people_done : Tables → ℕ → PeopleAsk → Allowed
+people_done t now (people.SetQuota user quota) = option_map_or (requoted t now quota) (row_named t user) nothing_done
+people_done t now asked = allowed.Change (people_changed t now asked) None report.Plain
+
 abbrev pub given : Access → Call → Places → Wanted → Allowed
 given access call places (wanted.Get spot) = served access call (way_of call spot).mount (node_at places.source)
 given access call places (wanted.Put spot length) = stored (by_of call spot) (last_name spot) length places.target
 given access call places (wanted.Mkcol spot) = made_folder call.state.tables call.now (last_name spot) places.target
 given access call places (wanted.Delete spot) =
-    let way = way_of call spot in if way.itself then mount_left call way else deleted (node_at places.source)
+    let way = way_of call spot in if way.itself then mount_left call way else deleted call.state.tables call.now (node_at places.source)
 given access call places (wanted.Move source target overwrite) =
     let way = way_of call source in
     if way.itself then mount_renamed call way (last_name target)
@@ -199,7 +246,8 @@ given access call places (wanted.Move source target overwrite) =
 given access call places (wanted.Copy source target overwrite) =
     copied call.state.tables call.now (last_name target) (transfer_of call.state.tables.nodes places)
 given access call places (wanted.Share ask) = shared access call places ask
-given access call places (wanted.People ask) = allowed.Change (people_changed call.state.tables call.now ask) None report.Plain
+given access call places (wanted.People asked) = people_done call.state.tables call.now asked
+given access call places (wanted.Trash asked) = trash_done call asked
 
 -- what a call that no rule refuses may do, by what shares let their seekers do
 abbrev pub allowed_of : Access → Call → Allowed
@@ -230,21 +278,6 @@ raised t now changes blob = record t {
   meta = record (counted t.meta changes) { next_blob = blob_after t.meta.next_blob blob; last = now };
 }
 
--- the shares, where those of nodes under one are ended
-abbrev pub ended_under : List NodeRow → ℕ → List ShareRow → List ShareRow
-ended_under rows top shares = map (λ share. if is_under rows share.node top then ended_row share else share) shares
-
-abbrev pub ended_for : List NodeRow → Option ℕ → List ShareRow → List ShareRow
-ended_for rows replaced shares = option_map_or (λ top. ended_under rows top shares) replaced shares
-
--- the tables without the nodes under one, which are gone for good; their shares are ended
-abbrev pub removed : Tables → ℕ → Tables
-removed t node = record t { nodes = without_under t.nodes node; shares = ended_under t.nodes node t.shares }
-
--- the nodes without those under one that has to go, if there is one
-abbrev pub cleared : List NodeRow → Option ℕ → List NodeRow
-cleared rows replaced = option_map_or (without_under rows) replaced rows
-
 -- the tables with that node in another place
 abbrev pub transferred : Tables → Transfer → List ℕ → Tables
 transferred t transfer name = record t {
@@ -265,7 +298,7 @@ altered t now (allowed.Get node content) = t
 altered t now (allowed.List listing) = t
 altered t now (allowed.Put by key length) = t
 altered t now (allowed.Change changes blob report) = record (put_all t changes) { meta = (raised t now changes blob).meta }
-altered t now (allowed.Delete node) = removed t node
+altered t now (allowed.Trash deed gone report) = purged_all (deed_done t deed) gone
 altered t now (allowed.Move transfer name) = transferred t transfer name
 altered t now (allowed.Copy rows replaced) = joined t rows replaced
 altered t now (allowed.Cross rows replaced node) = removed (joined t rows replaced) node
@@ -285,31 +318,13 @@ abbrev pub transferred_row : Option NodeRow → Transfer → List ℕ → List C
 transferred_row row transfer name =
     option_map_or (λ row. Put (rows.Node (relinked transfer.folder name row)) ∷ []) row []
 
--- the nodes under one are dropped
-abbrev pub dropped_under : List NodeRow → ℕ → List Change
-dropped_under nodes top = map (λ node. Drop (keys.Node node)) (walk_of nodes top)
-
--- the shares of nodes under one are ended, where they weren't
-abbrev pub is_closing : List NodeRow → ℕ → ShareRow → Bool
-is_closing nodes top share = not share.ended && is_under nodes share.node top
-
-abbrev pub closed_under : List NodeRow → List ShareRow → ℕ → List Change
-closed_under nodes shares top = map (λ share. Put (rows.Share (ended_row share))) (filter (is_closing nodes top) shares)
-
--- what becomes of the rows of a node and of those under it, where it is removed
-abbrev pub gone_under : List NodeRow → List ShareRow → ℕ → List Change
-gone_under nodes shares top = dropped_under nodes top ++ closed_under nodes shares top
-
-abbrev pub gone_for : List NodeRow → List ShareRow → Option ℕ → List Change
-gone_for nodes shares replaced = option_map_or (gone_under nodes shares) replaced []
-
 -- the rows that an act changes, but for the meta row
 abbrev pub told : Tables → Allowed → List Change
 told t (allowed.Get node content) = []
 told t (allowed.List listing) = []
 told t (allowed.Put by key length) = []
 told t (allowed.Change changes blob report) = changes
-told t (allowed.Delete node) = gone_under t.nodes t.shares node
+told t (allowed.Trash deed gone report) = told_deed t deed ++ told_purges (deed_done t deed) gone
 told t (allowed.Move transfer name) =
     gone_for t.nodes t.shares transfer.replaced ++ transferred_row (node_row t.nodes transfer.node) transfer name
 told t (allowed.Copy copies replaced) = gone_for t.nodes t.shares replaced ++ map (λ row. Put (rows.Node row)) copies
@@ -323,7 +338,7 @@ meta_after t now (allowed.Get node content) = record t.meta { last = now }
 meta_after t now (allowed.List listing) = record t.meta { last = now }
 meta_after t now (allowed.Put by key length) = record t.meta { last = now }
 meta_after t now (allowed.Change changes blob report) = (raised t now changes blob).meta
-meta_after t now (allowed.Delete node) = record t.meta { last = now }
+meta_after t now (allowed.Trash deed gone report) = record t.meta { last = now }
 meta_after t now (allowed.Move transfer name) = record t.meta { last = now }
 meta_after t now (allowed.Copy rows replaced) = record t.meta { next_node = t.meta.next_node + length rows; last = now }
 meta_after t now (allowed.Cross rows replaced node) = record t.meta { next_node = t.meta.next_node + length rows; last = now }
@@ -365,7 +380,7 @@ goal_of (allowed.Get node content) = Some (Serve content)
 goal_of (allowed.List listing) = None
 goal_of (allowed.Put by key length) = Some (Store by key length)
 goal_of (allowed.Change changes blob report) = None
-goal_of (allowed.Delete node) = None
+goal_of (allowed.Trash deed gone report) = None
 goal_of (allowed.Move transfer name) = None
 goal_of (allowed.Copy rows replaced) = None
 goal_of (allowed.Cross rows replaced node) = None
@@ -377,7 +392,7 @@ hold_of (allowed.Get node content) = Some (record { key = Node node; mode = Shar
 hold_of (allowed.List listing) = None
 hold_of (allowed.Put by key length) = Some (record { key = key; mode = Exclusive })
 hold_of (allowed.Change changes blob report) = None
-hold_of (allowed.Delete node) = None
+hold_of (allowed.Trash deed gone report) = None
 hold_of (allowed.Move transfer name) = None
 hold_of (allowed.Copy rows replaced) = None
 hold_of (allowed.Cross rows replaced node) = None
@@ -395,7 +410,7 @@ blob_of (allowed.Get node content) = None
 blob_of (allowed.List listing) = None
 blob_of (allowed.Put by key length) = None
 blob_of (allowed.Change changes blob report) = blob
-blob_of (allowed.Delete node) = None
+blob_of (allowed.Trash deed gone report) = None
 blob_of (allowed.Move transfer name) = None
 blob_of (allowed.Copy rows replaced) = None
 blob_of (allowed.Cross rows replaced node) = None
@@ -416,6 +431,7 @@ reported report.Made = Made
 reported report.Done = Done
 reported (report.Share line) = reply.Share line
 reported (report.Shares lines) = reply.Shares lines
+reported (report.Items lines) = reply.Items lines
 reported report.Plain = reply.Plain
 
 -- what is answered
@@ -424,7 +440,7 @@ reply_to (allowed.Get node content) = Granted (Serve content)
 reply_to (allowed.List listing) = Listing listing
 reply_to (allowed.Put by key length) = Granted (Store by key length)
 reply_to (allowed.Change changes blob report) = reported report
-reply_to (allowed.Delete node) = Done
+reply_to (allowed.Trash deed gone report) = reported report
 reply_to (allowed.Move transfer name) = reply_by transfer.replaced
 reply_to (allowed.Copy rows replaced) = reply_by replaced
 reply_to (allowed.Cross rows replaced node) = reply_by replaced

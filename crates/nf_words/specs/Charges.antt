@@ -2,7 +2,7 @@
 use Rattle.std.specs.Prelude.{ℕ, ◌+◌, ◌-◌, ◌==◌, ◌&&◌, Bool, nat_lt, sum_by, Option, None, Some, option_map, option_and_then, if◌then◌else◌}
 use Rattle.std.specs.Option.{option_map_or}
 use Rattle.nf_base.specs.declared.rows.NodeRow.{NodeRow}
-use Rattle.nf_defs.specs.Prelude.{Access, is_present, owner_of, Tables, user_row}
+use Rattle.nf_defs.specs.Prelude.{Access, is_present, item_row, owner_of, Tables, user_row}
 use Rattle.nf_defs.specs.declared.Found.{Found}
 use Rattle.nf_defs.specs.declared.Found.TheVariants.{At, Free, Missing}
 use Rattle.nf_words.specs.Calls.{Call, asked_by, places_of}
@@ -15,6 +15,8 @@ use Rattle.nf_words.specs.declared.request.Transfer.{Transfer}
 use Rattle.nf_words.specs.declared.answer.Denial.{Denial}
 use Rattle.nf_words.specs.declared.answer.Denial.TheVariants as denial
 use Rattle.nf_words.specs.declared.answer.Excess.{Excess}
+use Rattle.nf_base.specs.declared.rows.ItemRow.{ItemRow}
+use Rattle.nf_words.specs.Trash.{item_size}
 
 -- the bytes of a row that count for a user: those of what is the user's and present, whoever wrote it
 abbrev pub counted_for : Tables → ℕ → NodeRow → ℕ
@@ -51,6 +53,10 @@ copy_excess t transfer =
 abbrev pub carry_excess : Tables → Transfer → Option Excess
 carry_excess t transfer = if crosses t.nodes transfer then copy_excess t transfer else None
 
+-- what comes back is charged anew
+abbrev pub restore_excess : Tables → ItemRow → Option Excess
+restore_excess t item = excess t item.owner 0 (item_size t item)
+
 -- by how much what is made would pass the quota of who is charged for it
 abbrev pub exceeded : Tables → Places → Making → Option Excess
 exceeded t places making.Nothing = None
@@ -60,6 +66,7 @@ exceeded t places making.Moved = option_and_then (carry_excess t) (transfer_of t
 exceeded t places making.Copied = option_and_then (copy_excess t) (transfer_of t.nodes places)
 exceeded t places making.Shared = None
 exceeded t places making.Told = None
+exceeded t places (making.Restored item) = option_and_then (restore_excess t) (item_row t.items item)
 
 -- `quota`: the step would take a charge beyond its quota
 unfoldable pub quota_rule : Access → Call → Option Denial

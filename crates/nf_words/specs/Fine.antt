@@ -19,17 +19,19 @@ use Rattle.nf_base.specs.declared.rows.UserRow.{UserRow}
 use Rattle.nf_defs.specs.Prelude.{child_of, depth, filled, group_named, group_row, holder_of, is_folder, is_folder_kind, is_member_of, is_root, node_row, owner_of, Tables, user_named, user_row}
 use Rattle.nf_words.specs.Contents.{IsPieceSound, stored_pieces}
 use Rattle.nf_words.specs.Others.{IsKindSound, IsOfNode}
+use Rattle.nf_words.specs.Present.{LeadsToRoot}
 
 -- where the folder is a user's root, no mount of the user has that name
 abbrev pub IsUnmounted : Tables → ℕ → List ℕ → Type 0
 IsUnmounted t folder name = is_root t.nodes folder ≡ true → mount_at t.mounts (owner_of t.nodes folder) name ≡ None
 
--- a new node: its number is above all others, also those of shares and mounts, and it is in a folder of its owner's that has no child
--- of its name
+-- a new node: its number is above all others, also those of shares and mounts, and it is in a folder of its owner's that is present and
+-- has no child of its name
 pub record IsBorn (t : Tables) (row : NodeRow) : Type 0 where
   pub folder : ℕ
   pub place : row.place ≡ Inside folder
   pub in_folder : is_folder t.nodes folder ≡ true
+  pub present : LeadsToRoot t.nodes folder
   pub owner : row.owner ≡ owner_of t.nodes folder
   pub free : child_of t.nodes folder row.name ≡ None
   pub unmounted : IsUnmounted t folder row.name
@@ -44,11 +46,12 @@ pub record IsBorn (t : Tables) (row : NodeRow) : Type 0 where
   pub few_nodes : length t.nodes + 1 ≤ MAX_NODES
   pub few_pieces : stored_pieces t + length row.content ≤ MAX_STORED_PIECES
 
--- a file that is there, with another content or another moment
+-- a file that is present, with another content or another moment
 pub record IsFilled (t : Tables) (row : NodeRow) : Type 0 where
   pub old : NodeRow
   pub there : node_row t.nodes row.id ≡ Some old
   pub file : is_folder_kind old.kind ≡ false
+  pub present : LeadsToRoot t.nodes row.id
   pub same : row ≡ filled row.content row.changed old
   pub changed : row.changed ≤ t.meta.last
   pub pieces : All (IsPieceSound t) row.content
@@ -80,7 +83,7 @@ abbrev pub StandsOn : Tables → ShareRow → Option ℕ → Type 0
 StandsOn t row None = row.initiator ≡ row.owner
 StandsOn t row (Some parent) = (is_some (share_row t.shares parent) ≡ true) × (length (chain_of t.shares parent) < MAX_CHAIN)
 
--- a new share of a node that is there, whose number is above all others; the token of a link is no other's
+-- a new share of a node that is present, whose number is above all others; the token of a link is no other's
 pub record IsNewShare (t : Tables) (row : ShareRow) : Type 0 where
   pub newest : All (λ (old : ShareRow). old.id < row.id) t.shares
   pub given : row.id < t.meta.next_share
@@ -88,6 +91,7 @@ pub record IsNewShare (t : Tables) (row : ShareRow) : Type 0 where
   pub live : row.ended ≡ false
   pub node : NodeRow
   pub there : node_row t.nodes row.node ≡ Some node
+  pub present : LeadsToRoot t.nodes row.node
   pub of_node : IsOfNode row node
   pub initiator : is_some (user_row t.users row.initiator) ≡ true
   pub kind : IsKindSound t row.kind

@@ -66,6 +66,7 @@ IsShort making.Moved = Unit {0}
 IsShort making.Copied = Unit {0}
 IsShort making.Shared = Unit {0}
 IsShort making.Told = Unit {0}
+IsShort (making.Restored item) = Unit {0}
 
 -- a place names its user exactly where the caller isn't a link and nothing is asked about shares
 abbrev pub NamesUser : Request → Spot → Type 0

@@ -7,19 +7,17 @@ use Rattle.nf_defs.specs.Prelude.{Tables}
 
 pub data Kind : Type 0 where
   versions : Kind
-  items : Kind
   uploads : Kind
   chunks : Kind
 
 -- the kinds to come: what builds one deletes it here
 abbrev pub later_kinds : List Kind
-later_kinds = versions ∷ items ∷ uploads ∷ chunks ∷ []
+later_kinds = versions ∷ uploads ∷ chunks ∷ []
 
 -- ---- a row
 
 abbrev pub is_of : Row → Kind → Bool
 is_of (rows.Version row) versions = true
-is_of (rows.Item row) items = true
 is_of (rows.Upload row) uploads = true
 is_of (rows.Chunk row) chunks = true
 is_of row kind = false
@@ -32,7 +30,6 @@ is_later row = list_any (is_of row) later_kinds
 
 abbrev pub HasNone : Tables → Kind → Type 0
 HasNone t versions = t.versions ≡ []
-HasNone t items = t.items ≡ []
 HasNone t uploads = t.uploads ≡ []
 HasNone t chunks = t.chunks ≡ []
 

@@ -4,9 +4,12 @@ pub mod Calls
 pub mod Callers
 pub mod Places
 pub mod Contents
+pub mod Present
 pub mod Needed
+pub mod Homes
 pub mod Limits
 pub mod Listing
+pub mod Trash
 pub mod Charges
 pub mod People
 pub mod Sharing
@@ -14,6 +17,7 @@ pub mod Copies
 pub mod Holds
 pub mod Locks
 pub mod Rules
+pub mod Deeds
 pub mod Changes
 pub mod Endings
 pub mod Step

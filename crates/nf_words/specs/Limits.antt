@@ -1,7 +1,7 @@
 -- The limits of the site, and the rule that none is passed.
 use Rattle.std.specs.Prelude.{ℕ, ◌+◌, ◌-◌, ◌==◌, ◌||◌, nat_lt, max, List, [], ◌∷◌, filter, length, sum_by, Option, None, Some, is_none, option_map, option_and_then, if◌then◌else◌}
 use Rattle.nf_access.specs.Mounts.{mount_row}
-use Rattle.nf_defs.specs.Prelude.{Access, content_of, depth, Tables, walk_of}
+use Rattle.nf_defs.specs.Prelude.{Access, content_of, depth, item_row, Tables, walk_of}
 use Rattle.nf_base.specs.declared.limits.TheConstants.{MAX_DEPTH, MAX_GROUPS, MAX_MEMBERS, MAX_MOUNTS, MAX_NODES, MAX_SHARES, MAX_STORED_PIECES, MAX_TOKENS, MAX_USERS}
 use Rattle.nf_base.specs.declared.rows.MountRow.{MountRow}
 use Rattle.nf_base.specs.declared.rows.NodeRow.{NodeRow}
@@ -18,6 +18,8 @@ use Rattle.nf_words.specs.declared.answer.Denial.{Denial}
 use Rattle.nf_words.specs.declared.answer.Denial.TheVariants as denial
 use Rattle.nf_words.specs.declared.answer.Limit.{Limit}
 use Rattle.nf_words.specs.declared.answer.Limit.TheVariants as limit
+use Rattle.nf_base.specs.declared.rows.ItemRow.{ItemRow}
+use Rattle.nf_words.specs.Homes.{home_of}
 
 -- the number of a limit
 abbrev pub count_of : Limit → ℕ
@@ -88,6 +90,10 @@ copy_limit t transfer =
 abbrev pub carry_limit : Tables → Transfer → Option Limit
 carry_limit t transfer = if crosses t.nodes transfer then copy_limit t transfer else move_limit t transfer
 
+-- the limit that is passed by what comes back
+abbrev pub restore_limit : Tables → ItemRow → Option Limit
+restore_limit t item = limit_passed t 0 (deepest_in t.nodes item.node (home_of t item)) 0 0
+
 -- the limit that is passed by what is made
 abbrev pub limited : Tables → Places → Making → Option Limit
 limited t places making.Nothing = None
@@ -97,6 +103,7 @@ limited t places making.Moved = option_and_then (carry_limit t) (transfer_of t.n
 limited t places making.Copied = option_and_then (copy_limit t) (transfer_of t.nodes places)
 limited t places making.Shared = None
 limited t places making.Told = None
+limited t places (making.Restored item) = option_and_then (restore_limit t) (item_row t.items item)
 
 -- `limit`: the step would pass a limit
 unfoldable pub limit_rule : Access → Call → Option Denial

@@ -82,6 +82,7 @@ target_needs making.Moved rows root within way = (if within then [] else needs_i
 target_needs making.Copied rows root within way = needs_in rows root way ++ needs_at Delete way
 target_needs making.Shared rows root within way = []
 target_needs making.Told rows root within way = []
+target_needs (making.Restored item) rows root within way = []
 
 -- leaving or renaming one's own mount needs nothing
 abbrev pub needs_between : List NodeRow → ℕ → Asked → Option Way → Option Way → List Need

@@ -14,8 +14,9 @@ use Rattle.nf_base.specs.declared.rows.ShareKind.TheVariants as to
 use Rattle.nf_base.specs.declared.rows.ShareRow.{ShareRow}
 use Rattle.nf_base.specs.declared.rows.UploadRow.{UploadRow}
 use Rattle.nf_base.specs.declared.rows.VersionRow.{VersionRow}
-use Rattle.nf_defs.specs.Prelude.{child_of, is_file, is_root_place, IsRising, mount_key, node_row, share_key, Tables, user_row}
+use Rattle.nf_defs.specs.Prelude.{child_of, is_file, is_root_place, IsRising, item_key, mount_key, node_row, share_key, Tables, user_row}
 use Rattle.nf_words.specs.Contents.{IsPieceSound}
+use Rattle.nf_words.specs.Present.{LeadsToRoot}
 
 abbrev pub upload_row : List UploadRow → ℕ → List ℕ → Option UploadRow
 upload_row rows user dir = find (λ row. row.user == user && bytes_eq row.dir dir) rows
@@ -32,8 +33,8 @@ pub record IsOfNode (row : ShareRow) (of : NodeRow) : Type 0 where
   pub no_root : is_root_place of.place ≡ false
   pub perms : perms_of_share of.kind row.kind row.perms ≡ row.perms
 
--- a share's number was given, and so were its node's and its users'; it has a chain, and passes on an earlier share. Its node is there where
--- it isn't ended, and as long as it is there the share is of it
+-- a share's number was given, and so were its node's and its users'; it has a chain, and passes on an earlier share. Its node is present
+-- where it isn't ended, and as long as it is there the share is of it
 pub record IsShareSound (t : Tables) (row : ShareRow) : Type 0 where
   pub some : 1 ≤ row.id
   pub given : row.id < t.meta.next_share
@@ -44,7 +45,7 @@ pub record IsShareSound (t : Tables) (row : ShareRow) : Type 0 where
   pub kind : IsKindSound t row.kind
   pub chained : is_some (chain_within MAX_CHAIN t.shares row.id) ≡ true
   pub parent : IfSome row.parent (λ (id : ℕ). id < row.id)
-  pub present : row.ended ≡ false → is_some (node_row t.nodes row.node) ≡ true
+  pub present : row.ended ≡ false → LeadsToRoot t.nodes row.node
   pub of_node : (of : NodeRow) → node_row t.nodes row.node ≡ Some of → IsOfNode row of
 
 -- a mount is a user's who is there, and of nobody's own node. Where it wasn't left, no child of the user's root has its name
@@ -95,5 +96,6 @@ pub record AreOthersSound (t : Tables) : Type 0 where
   pub few_mounts : length t.mounts ≤ MAX_MOUNTS
   pub versions : All (IsVersionSound t) t.versions
   pub items : All (IsItemSound t) t.items
+  pub items_rise : IsRising item_key t.items
   pub uploads : All (IsUploadSound t) t.uploads
   pub chunks : All (IsChunkSound t) t.chunks

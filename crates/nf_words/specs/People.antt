@@ -144,15 +144,11 @@ joined_by t row = if is_member t row then [] else Put (rows.Member row) ∷ put_
 abbrev pub left_by : Tables → MemberRow → List Change
 left_by t row = if is_member t row then Drop (keys.Member row.group row.user) ∷ [] else []
 
--- a user has another quota, if it is another
-abbrev pub requoted : ℕ → UserRow → List Change
-requoted quota row = if row.quota == quota then [] else Put (rows.User (record row { quota = quota })) ∷ []
-
 abbrev pub people_changed : Tables → ℕ → PeopleAsk → List Change
 people_changed t now (ask.NewUser name token quota) = user_made t now name token quota
 people_changed t now (ask.NewGroup name) = Put (rows.Group (record { id = t.meta.next_group; name = name })) ∷ []
 people_changed t now (ask.AddMember user group) = option_map_or (joined_by t) (membership t user group) []
 people_changed t now (ask.DropMember user group) = option_map_or (left_by t) (membership t user group) []
-people_changed t now (ask.SetQuota user quota) = option_map_or (requoted quota) (row_named t user) []
+people_changed t now (ask.SetQuota user quota) = []
 people_changed t now (ask.AddToken user token) =
     option_map_or (λ user. Put (rows.Token (record { digest = token; user = user })) ∷ []) (user_named t.users user) []

@@ -68,6 +68,7 @@ taken rows places making.Moved = None
 taken rows places making.Copied = None
 taken rows places making.Shared = None
 taken rows places making.Told = None
+taken rows places (making.Restored item) = None
 
 -- `exists`
 unfoldable pub exists_rule : Access → Call → Option Denial

@@ -20,6 +20,7 @@ use Rattle.nf_words.specs.Later.{HasNoLater}
 use Rattle.nf_words.specs.Holds.{AreApartHolds, IsHeld, node_of_key}
 use Rattle.nf_words.specs.Limits.{count_of}
 use Rattle.nf_words.specs.Others.{AreOthersSound}
+use Rattle.nf_words.specs.Present.{LeadsToRoot}
 use Rattle.nf_words.specs.State.{State}
 use Rattle.nf_words.specs.declared.answer.By.{By}
 use Rattle.nf_words.specs.declared.answer.Goal.{Goal}
@@ -131,15 +132,16 @@ abbrev pub HoldsFor : Goal → Option Hold → Type 0
 HoldsFor (Serve content) hold = (node : ℕ) × (hold ≡ Some (record { key = Node node; mode = Shared }))
 HoldsFor (Store by key length) hold = hold ≡ Some (record { key = key; mode = Exclusive })
 
--- what is stored over is there, or its name is free
+-- what is stored over is present, or its name is free in a folder that is
 abbrev pub IsStorable : Tables → Goal → Type 0
 IsStorable t (Serve content) = Unit {0}
-IsStorable t (Store by key length) = IsHeld t key
+IsStorable t (Store by key length) = IsHeld t key × LeadsToRoot t.nodes (node_of_key key)
 
 pub record IsTicketSound (t : Tables) (ticket : Ticket) : Type 0 where
   pub goal : IsGoalSound t ticket.goal
   pub hold : HoldsFor ticket.goal ticket.hold
   pub held : IfSome ticket.hold (λ hold. IsHeld t hold.key)
+  pub present : IfSome ticket.hold (λ hold. LeadsToRoot t.nodes (node_of_key hold.key))
 
 -- ---- states
 

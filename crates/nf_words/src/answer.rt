@@ -3,12 +3,12 @@
 ghost use Rattle.std.specs.Prelude.{◌≡◌, IfOk};
 ghost use Rattle.nf_words.specs.Limits.{count_of};
 
-use crate::{Listing, Route, ShareLine, ShareLines, Transfer};
+use crate::{Items, Listing, Route, ShareLine, ShareLines, Transfer};
 use nf_access::Cause;
 use nf_base::{
-    BlobId, Changes, Content, Digest, MAX_DEPTH, MAX_GROUPS, MAX_MEMBERS, MAX_MOUNTS, MAX_NODES,
-    MAX_SHARES, MAX_STORED_PIECES, MAX_TOKENS, MAX_USERS, Name, NameFault, NodeId, NodeRow,
-    ShareId,
+    BlobId, Changes, Content, Digest, ItemRow, MAX_DEPTH, MAX_GROUPS, MAX_MEMBERS, MAX_MOUNTS,
+    MAX_NODES, MAX_SHARES, MAX_STORED_PIECES, MAX_TOKENS, MAX_USERS, Name, NameFault, NodeId,
+    NodeRow, ShareId, UserRow,
 };
 use nf_defs::Seeker;
 use std::alloc::AllocError;
@@ -272,6 +272,8 @@ pub enum Reply {
     Granted(Goal),
     /// What is in a folder.
     Listing(Listing),
+    /// What is in the trash of a user.
+    Items(Items),
     /// What there is to tell of a share.
     Share(ShareLine),
     Shares(ShareLines),
@@ -326,8 +328,55 @@ pub enum Report {
     /// A share as it is now.
     Share(ShareLine),
     Shares(ShareLines),
+    /// What is in the trash of a user.
+    Items(Items),
     /// Nothing more.
     Plain,
+}
+
+/// Numbers of nodes.
+#[derive(Drop)]
+pub struct NodeIds {
+    ids: Vec<NodeId>,
+}
+
+impl Model for NodeIds {
+    ghost use Rattle.std.specs.Prelude.{List, ℕ};
+
+    ghost Value = { List ℕ };
+
+    ghost view = { λ nodes. nodes.ids.items };
+}
+
+impl NodeIds {
+    pub fn new(ids: Vec<NodeId>) -> Self
+        ensures { result ≡ ids.items }
+    {
+        NodeIds { ids }
+    }
+
+    pub fn ids(&self) -> &[NodeId]
+        ensures { result.now ≡ self.now }
+    {
+        &self.ids
+    }
+}
+
+/// What is done before items of the trash go for good.
+#[derive(Drop)]
+pub enum Deed {
+    /// Nothing.
+    Nothing,
+    /// A node is put in the trash with all under it, as that item of its owner's, and their shares end.
+    Discard(ItemRow),
+    /// The node of an item comes back, into that folder under that name.
+    Restore {
+        node: NodeId,
+        folder: NodeId,
+        name: Name,
+    },
+    /// A user has another quota.
+    Requote(UserRow),
 }
 
 /// What a step that isn't refused does. A blob is one that the act stores, not one that it names again.
@@ -347,14 +396,19 @@ pub enum Allowed {
         length: u64,
     },
     /// These rows are put and dropped, each of them once: MKCOL, PUT at its End, and what becomes of a mount or is asked about shares or
-    /// people. Where shares are only told, there is none.
+    /// people. Where shares or the trash are only told, there is none.
     Change {
         changes: Changes,
         blob: Option<BlobId>,
         report: Report,
     },
-    /// DELETE: the node is removed for good, with all under it.
-    Delete(NodeId),
+    /// DELETE, what is asked about the trash, and another quota: what is done, and then the nodes that go for good, one after the other,
+    /// each with all under it and with its item.
+    Trash {
+        deed: Deed,
+        gone: NodeIds,
+        report: Report,
+    },
     /// MOVE: the node is in the folder, under that name.
     Move {
         transfer: Transfer,
@@ -365,7 +419,7 @@ pub enum Allowed {
         rows: NodeRows,
         replaced: Option<NodeId>,
     },
-    /// MOVE to another owner: these nodes are made as by COPY, then the node is removed as by DELETE.
+    /// MOVE to another owner: these nodes are made as by COPY, then the node is removed for good, with all under it.
     Cross {
         rows: NodeRows,
         replaced: Option<NodeId>,

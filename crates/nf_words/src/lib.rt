@@ -11,18 +11,18 @@ mod route;
 mod sharing;
 
 pub use answer::{
-    Allowed, Answer, Breach, By, Damage, Denial, Excess, Goal, Hold, Limit, LockKey, Measure, Mode,
-    NodeRows, Parameter, Reply, Report, TargetFault,
+    Allowed, Answer, Breach, By, Damage, Deed, Denial, Excess, Goal, Hold, Limit, LockKey, Measure,
+    Mode, NodeIds, NodeRows, Parameter, Reply, Report, TargetFault,
 };
 pub use history::{Entry, Event, Mark, Outcome, Ticket};
 pub use laws::{
     ends_free, grants_ticket, marks_answer, others_keep, refusals_keep, rules_in_order,
     seats_differ,
 };
-pub use listing::{Listing, ListingLine};
+pub use listing::{ItemLine, Items, Listing, ListingLine};
 pub use request::{
     Asked, Caller, Making, Offer, PeopleAsk, Places, Receiver, Request, ShareAsk, Sharee, Spot,
-    Transfer, Until, Wanted, Words,
+    Transfer, TrashAsk, Until, Wanted, Words,
 };
 pub use route::Route;
 pub use sharing::{Recipient, ShareLine, ShareLines};

@@ -1,4 +1,4 @@
-//! Listings of folders.
+//! Listings of folders and of the trash.
 
 ghost use Rattle.std.specs.Prelude.{◌≡◌};
 
@@ -44,6 +44,47 @@ impl Listing {
     }
 
     pub fn lines(&self) -> &[ListingLine]
+        ensures { result.now ≡ self.now }
+    {
+        &self.lines
+    }
+}
+
+/// What is told of an item of the trash.
+#[derive(Drop)]
+pub struct ItemLine {
+    /// When it was put there.
+    pub at: Moment,
+    pub id: NodeId,
+    pub kind: NodeKind,
+    pub name: Name,
+    /// The bytes of the file, or of all files under the folder; 2^64 - 1 at most.
+    pub size: u64,
+}
+
+/// What is in the trash of a user, newest first.
+#[derive(Drop)]
+pub struct Items {
+    lines: Vec<ItemLine>,
+}
+
+impl Model for Items {
+    ghost use Rattle.std.specs.Prelude.{List};
+    ghost use Rattle.nf_words.specs.declared.listing.ItemLine.{ItemLine};
+
+    ghost Value = { List ItemLine };
+
+    ghost view = { λ items. items.lines.items };
+}
+
+impl Items {
+    pub fn new(lines: Vec<ItemLine>) -> Self
+        ensures { result ≡ lines.items }
+    {
+        Items { lines }
+    }
+
+    pub fn lines(&self) -> &[ItemLine]
         ensures { result.now ≡ self.now }
     {
         &self.lines

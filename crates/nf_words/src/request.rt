@@ -1,7 +1,7 @@
 //! Requests.
 
 ghost use Rattle.std.specs.Prelude.{◌≡◌};
-ghost use Rattle.nf_words.specs.Asked.{asked_about, asked_of, asks_nothing};
+ghost use Rattle.nf_words.specs.Asked.{asked_about, asked_of, asked_of_trash, asks_nothing};
 ghost use Rattle.nf_words.specs.declared.request.Wanted.TheVariants as wanted;
 
 use nf_base::{Digest, GroupId, Moment, Name, NodeId, Path, Perms, ShareId, UserId};
@@ -57,6 +57,21 @@ pub enum Wanted {
     Share(ShareAsk),
     /// Something about users and groups.
     People(PeopleAsk),
+    /// Something about the trash of a user.
+    Trash(TrashAsk),
+}
+
+/// What is asked about the trash of a user.
+#[derive(Drop)]
+pub enum TrashAsk {
+    /// What is in it.
+    List(Name),
+    /// That an item, by the number of its node, goes for good with all under it.
+    Drop { user: Name, item: NodeId },
+    /// That all its items do.
+    Empty(Name),
+    /// That an item comes back: into the folder that it came from where that is present, and else into the root, under a free name.
+    Restore { user: Name, item: NodeId },
 }
 
 /// What is asked about shares.
@@ -159,11 +174,15 @@ pub enum Making {
     Shared,
     /// Nothing: shares of what is at the source are told.
     Told,
+    /// The node of an item of the trash, which comes back.
+    Restored { item: NodeId },
 }
 
 /// What a request asks for, as the rules see it.
 #[derive(Drop)]
 pub struct Asked<'a> {
+    /// The user whose trash it is about.
+    pub user: Option<&'a Name>,
     /// The place of what it acts upon.
     pub source: Option<&'a Spot>,
     /// The place of what it makes, or stores over.
@@ -182,6 +201,7 @@ impl<'a> Model for Asked<'a> {
     ghost Value = { Asked };
 
     ghost view = { λ asked. record {
+      user = option_copied asked.user;
       source = option_copied asked.source;
       target = option_copied asked.target;
       makes = asked.makes;
@@ -196,6 +216,7 @@ impl<'a> Asked<'a> {
         ensures { result ≡ asks_nothing }
     {
         Asked {
+            user: None,
             source: None,
             target: None,
             makes: Making::Nothing,
@@ -243,7 +264,24 @@ impl Wanted {
             } => copies(source, target, *overwrite),
             Wanted::Share(ask) => about(ask),
             Wanted::People(_) => Asked::nothing(),
+            Wanted::Trash(ask) => of_trash(ask),
         }
+    }
+}
+
+fn of_trash(ask: &TrashAsk) -> Asked<'_>
+    ensures { result ≡ asked_of_trash ask.now }
+{
+    match ask {
+        TrashAsk::List(user) | TrashAsk::Drop { user, .. } | TrashAsk::Empty(user) => Asked {
+            user: Some(user),
+            ..Asked::nothing()
+        },
+        TrashAsk::Restore { user, item } => Asked {
+            user: Some(user),
+            makes: Making::Restored { item: *item },
+            ..Asked::nothing()
+        },
     }
 }
 
@@ -279,6 +317,7 @@ fn copies<'a>(source: &'a Spot, target: &'a Spot, overwrites: bool) -> Asked<'a>
     ensures { result ≡ asked_of (wanted.Copy source.now target.now overwrites) }
 {
     Asked {
+        user: None,
         source: Some(source),
         target: Some(target),
         makes: Making::Copied,

@@ -1,5 +1,5 @@
 use Rattle.std.proofs.Common.{◌≡◌, ◌++◌, take}
-use Rattle.nf_words.specs.Changes.{closed_under}
+use Rattle.nf_words.specs.Deeds.{closed_under}
 use Rattle.nf_decide.proofs.telling.close_under.Given as goal
 
 -- those of the shares so far

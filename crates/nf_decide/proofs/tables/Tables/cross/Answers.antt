@@ -2,7 +2,8 @@ use Rattle.std.proofs.Common.{◌++◌, map, ap, sym, ◌∙◌}
 use Rattle.nf_base.specs.declared.changes.Change.TheVariants.{Put}
 use Rattle.nf_base.specs.declared.rows.Row.TheVariants.{Node}
 use Rattle.nf_defs.specs.Tables.{Tables}
-use Rattle.nf_words.specs.Changes.{gone_for, gone_under, joined, removed}
+use Rattle.nf_words.specs.Changes.{joined}
+use Rattle.nf_words.specs.Deeds.{gone_for, gone_under, removed}
 use Rattle.nf_decide.proofs.Stamps.{crossed_some, stamped_some}
 use Rattle.nf_decide.proofs.tables.Tables.cross.Goals as goal
 

@@ -3,7 +3,8 @@ use Rattle.nf_base.specs.declared.changes.Change.TheVariants.{Put}
 use Rattle.nf_base.specs.declared.rows.NodeRow.{NodeRow}
 use Rattle.nf_base.specs.declared.rows.Row.TheVariants.{Node}
 use Rattle.nf_defs.specs.Tables.{Tables}
-use Rattle.nf_words.specs.Changes.{gone_for, joined}
+use Rattle.nf_words.specs.Changes.{joined}
+use Rattle.nf_words.specs.Deeds.{gone_for}
 use Rattle.nf_decide.proofs.Stamps.{put_some, stamped_some}
 use Rattle.nf_decide.proofs.tables.Tables.join.Goals as goal
 use Rattle.nf_decide.proofs.tables.Tables.join.Goals.{else-is_empty-via-then-is_empty+else-is_none, else-is_empty-via-else-is_empty}

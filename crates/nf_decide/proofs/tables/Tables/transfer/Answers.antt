@@ -1,6 +1,7 @@
 use Rattle.std.proofs.Common.{◌++◌, ap, sym, ◌∙◌}
 use Rattle.nf_defs.specs.Prelude.{node_row, relinked, Tables, with_node}
-use Rattle.nf_words.specs.Changes.{gone_for, transferred, transferred_row}
+use Rattle.nf_words.specs.Changes.{transferred, transferred_row}
+use Rattle.nf_words.specs.Deeds.{gone_for}
 use Rattle.nf_decide.specs.Rows.{Rows}
 use Rattle.nf_decide.proofs.Stamps.{stamped_some, transferred_some}
 use Rattle.nf_decide.proofs.tables.Tables.transfer.Goals as goal

@@ -34,6 +34,11 @@ returns-in-Shares-clause-writes g c = rw c.in-Shares.is
     (says_so (scene g.S.Ends g.O.Ends g.B.Backend c.args.self.now) (scene g.S.Ends g.O.Ends g.B.Backend c.say-in-Shares.new.self)
     (λ v. v.items) _ c.shares.result c.say-in-Shares.result c.shares.ensures c.say-in-Shares.ensures.ok c.say-in-Shares.ensures.err)
 
+pub returns-in-Items-clause-writes : goal.returns-in-Items-clause-writes
+returns-in-Items-clause-writes g c = rw c.in-Items.is
+    (says_so (scene g.S.Ends g.O.Ends g.B.Backend c.args.self.now) (scene g.S.Ends g.O.Ends g.B.Backend c.say-in-Items.new.self)
+    (λ v. v.items) _ c.items.result c.say-in-Items.result c.items.ensures c.say-in-Items.ensures.ok c.say-in-Items.ensures.err)
+
 pub returns-in-Plain-clause-writes : goal.returns-in-Plain-clause-writes
 returns-in-Plain-clause-writes g c = rw c.in-Plain.is
     (says_so (scene g.S.Ends g.O.Ends g.B.Backend c.args.self.now) (scene g.S.Ends g.O.Ends g.B.Backend c.say-in-Plain.new.self)

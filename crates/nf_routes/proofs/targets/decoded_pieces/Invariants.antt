@@ -1,6 +1,6 @@
 use Rattle.std.proofs.Common.{◌≡◌, map, take}
 use Rattle.percent_encoding.specs.Percent.{percent_decode}
-use Rattle.nf_routes.proofs.targets.segments.Given as goal
+use Rattle.nf_routes.proofs.targets.decoded_pieces.Given as goal
 
 abbrev pub invariant-loop-piece : goal.invariant-loop-piece
 invariant-loop-piece l =

@@ -1,0 +1,294 @@
+//! What is put in the trash and comes back from there, and what goes for good beside it.
+
+ghost use Rattle.std.specs.Prelude.{◌≡◌, ◌==◌, ◌∷◌, List, filter, if◌then◌else◌, map, not, unwrap_or, IfOk, OnOk};
+ghost use Rattle.nf_base.specs.declared.rows.ItemRow.{ItemRow};
+ghost use Rattle.nf_defs.specs.Prelude.{folder_of};
+ghost use Rattle.nf_retention.specs.Trash.{trashed};
+ghost use Rattle.nf_words.specs.Prelude.{AreSound, discard, gone_beside, gone_of, item_dropped, item_for, item_restored, item_size, items_but, items_of, nothing_done, quota_of, requoted};
+ghost use Rattle.nf_words.specs.declared.answer.Allowed.TheVariants as allowed;
+ghost use Rattle.nf_words.specs.declared.answer.Deed.TheVariants as deed;
+ghost use Rattle.nf_words.specs.declared.answer.Report.TheVariants as report;
+
+use crate::homes::{home_of, name_back};
+use crate::quotas::quota_of;
+use crate::shared::nothing_done;
+use crate::view::View;
+use nf_base::{ItemRow, Moment, NodeId, NodeRow, Place, UserId, UserRow};
+use nf_retention::{Trashed, going, newest_first, trash_bound};
+use nf_words::{Allowed, Deed, NodeIds, Report};
+use std::alloc::{AllocError, Global};
+
+// ---- items
+
+/// What a node is in the trash, when it is put there.
+fn item_for(moment: Moment, row: &NodeRow) -> Result<ItemRow, AllocError>
+    ensures { IfOk result (λ item. item ≡ item_for moment row.now) }
+{
+    Ok(ItemRow {
+        node: row.id,
+        owner: row.owner,
+        name: row.name.copy()?,
+        from: folder_in(row.place),
+        at: moment,
+    })
+}
+
+/// The folder of a place, and no node's number where there is none.
+fn folder_in(place: Place) -> NodeId
+    ensures { result ≡ unwrap_or (folder_of place) 0 }
+{
+    match place {
+        Place::Inside(folder) => folder,
+        Place::Root | Place::Trash => NodeId::new(0),
+    }
+}
+
+/// What the rules of the trash see of an item.
+pub(crate) fn trashed(view: &View<'_>, item: &ItemRow) -> Trashed
+    requires { AreSound view.now.tables }
+    ensures { result ≡ trashed (item_size view.now.tables) item.now }
+{
+    Trashed {
+        node: item.node,
+        at: item.at,
+        size: view.size(item.node),
+    }
+}
+
+/// What they see of a user's items.
+pub(crate) fn trash_of(
+    alloc: Global,
+    view: &View<'_>,
+    user: UserId,
+) -> Result<Vec<Trashed>, AllocError>
+    requires { AreSound view.now.tables }
+    ensures { IfOk result (λ carried. carried.items ≡ map (trashed (item_size view.now.tables)) (items_of view.now.tables user)) }
+{
+    view.items()
+        .rows()
+        .iter()
+        .filter(|item| item.owner == user)
+        .map(|item| trashed(view, item))
+        .collect(alloc)
+}
+
+/// Of all but that of a node.
+fn trash_but(
+    alloc: Global,
+    view: &View<'_>,
+    user: UserId,
+    node: NodeId,
+) -> Result<Vec<Trashed>, AllocError>
+    requires { AreSound view.now.tables }
+    ensures { IfOk result (λ carried. carried.items ≡ map (trashed (item_size view.now.tables)) (items_but view.now.tables user node)) }
+{
+    view.items()
+        .rows()
+        .iter()
+        .filter(|item| item.owner == user)
+        .filter(|item| item.node != node)
+        .map(|item| trashed(view, item))
+        .collect(alloc)
+}
+
+/// Of a new item, and of all that its owner has.
+fn trash_with(alloc: Global, view: &View<'_>, item: &ItemRow) -> Result<Vec<Trashed>, AllocError>
+    requires { AreSound view.now.tables }
+    ensures { IfOk result (λ carried. carried.items ≡ map (trashed (item_size view.now.tables)) (item.now ∷ items_of view.now.tables item.now.owner)) }
+{
+    let mut carried = trash_of(alloc, view, item.owner)?;
+    carried.insert(0, trashed(view, item))?;
+    Ok(carried)
+}
+
+// ---- what goes
+
+/// Of some items of a user's with that quota, the nodes of those that go for good.
+fn gone_of(
+    alloc: Global,
+    view: &View<'_>,
+    moment: Moment,
+    quota: u64,
+    carried: Vec<Trashed>,
+) -> Result<Vec<NodeId>, AllocError>
+    ensures { IfOk result (λ nodes. (items : List ItemRow) → carried.items ≡ map (trashed (item_size view.now.tables)) items → nodes.items ≡ gone_of view.now.tables moment quota items) }
+{
+    let sorted = newest_first(carried)?;
+    going(alloc, &sorted, moment, trash_bound(quota))
+}
+
+/// What goes of a user's trash with a node that is put there.
+fn gone_with(
+    alloc: Global,
+    view: &View<'_>,
+    moment: Moment,
+    item: &ItemRow,
+) -> Result<Vec<NodeId>, AllocError>
+    requires { AreSound view.now.tables }
+    ensures { IfOk result (λ nodes. nodes.items ≡ gone_of view.now.tables moment (quota_of view.now.tables item.now.owner) (item.now ∷ items_of view.now.tables item.now.owner)) }
+{
+    let carried = trash_with(alloc, view, item)?;
+    gone_of(alloc, view, moment, quota_of(view, item.owner), carried)
+}
+
+/// What goes of it beside an item that is there no more.
+fn gone_beside(
+    alloc: Global,
+    view: &View<'_>,
+    moment: Moment,
+    item: &ItemRow,
+) -> Result<Vec<NodeId>, AllocError>
+    requires { AreSound view.now.tables }
+    ensures { IfOk result (λ nodes. nodes.items ≡ gone_beside view.now.tables moment item.now) }
+{
+    let carried = trash_but(alloc, view, item.owner, item.node)?;
+    gone_of(alloc, view, moment, quota_of(view, item.owner), carried)
+}
+
+/// What goes of it with another quota.
+fn gone_by(
+    alloc: Global,
+    view: &View<'_>,
+    moment: Moment,
+    quota: u64,
+    user: UserId,
+) -> Result<Vec<NodeId>, AllocError>
+    requires { AreSound view.now.tables }
+    ensures { IfOk result (λ nodes. nodes.items ≡ gone_of view.now.tables moment quota (items_of view.now.tables user)) }
+{
+    let carried = trash_of(alloc, view, user)?;
+    gone_of(alloc, view, moment, quota, carried)
+}
+
+/// A node, and then the others of some.
+fn first(node: NodeId, mut nodes: Vec<NodeId>) -> Result<Vec<NodeId>, AllocError>
+    ensures { IfOk result (λ all. all.items ≡ node ∷ filter (λ other. not (other == node)) nodes.items) }
+{
+    leave_out(&mut nodes, node);
+    nodes.insert(0, node)?;
+    Ok(nodes)
+}
+
+/// Leaves a node out.
+fn leave_out(nodes: &mut Vec<NodeId>, but: NodeId)
+    ensures { nodes.new.items ≡ filter (λ node. not (node == but)) nodes.old.items }
+{
+    nodes.retain(|node| *node != but)
+}
+
+// ---- what is done
+
+/// A deed is done, and then those nodes go.
+fn done(deed: Deed, gone: Vec<NodeId>, report: Report) -> Allowed
+    ensures { result ≡ allowed.Trash deed gone.items report }
+{
+    Allowed::Trash {
+        deed,
+        gone: NodeIds::new(gone),
+        report,
+    }
+}
+
+/// A node is put in the trash, unless the trash can't hold it.
+pub(crate) fn discard(
+    alloc: Global,
+    view: &View<'_>,
+    moment: Moment,
+    row: &NodeRow,
+) -> Result<Allowed, AllocError>
+    requires { AreSound view.now.tables }
+    ensures { IfOk result (λ allowed. allowed ≡ discard view.now.tables moment row.now) }
+{
+    let item = item_for(moment, row)?;
+    let gone = gone_with(alloc, view, moment, &item)?;
+    if gone.contains(&row.id) {
+        Ok(done(Deed::Nothing, first(row.id, gone)?, Report::Done))
+    } else {
+        Ok(done(Deed::Discard(item), gone, Report::Done))
+    }
+}
+
+/// An item goes for good.
+pub(crate) fn item_dropped(
+    alloc: Global,
+    view: &View<'_>,
+    moment: Moment,
+    item: &ItemRow,
+) -> Result<Allowed, AllocError>
+    requires { AreSound view.now.tables }
+    ensures { IfOk result (λ allowed. allowed ≡ item_dropped view.now.tables moment item.now) }
+{
+    let mut gone = gone_beside(alloc, view, moment, item)?;
+    gone.insert(0, item.node)?;
+    Ok(done(Deed::Nothing, gone, Report::Done))
+}
+
+/// An item comes back.
+pub(crate) fn item_restored(
+    alloc: Global,
+    view: &View<'_>,
+    moment: Moment,
+    item: &ItemRow,
+) -> Result<Allowed, AllocError>
+    requires { AreSound view.now.tables }
+    ensures { IfOk result (λ allowed. allowed ≡ item_restored view.now.tables moment item.now) }
+{
+    let deed = Deed::Restore {
+        node: item.node,
+        folder: home_of(view, item),
+        name: name_back(alloc, view, item)?,
+    };
+    let gone = gone_beside(alloc, view, moment, item)?;
+    Ok(done(deed, gone, Report::Made))
+}
+
+/// All items of a user's go for good.
+pub(crate) fn emptied(alloc: Global, view: &View<'_>, user: UserId) -> Result<Allowed, AllocError>
+    ensures { IfOk result (λ act. act ≡ allowed.Trash deed.Nothing (map (λ item. item.node) (items_of view.now.tables user)) report.Done) }
+{
+    let gone = nodes_of(alloc, view, user)?;
+    Ok(done(Deed::Nothing, gone, Report::Done))
+}
+
+/// Their nodes.
+fn nodes_of(alloc: Global, view: &View<'_>, user: UserId) -> Result<Vec<NodeId>, AllocError>
+    ensures { IfOk result (λ nodes. nodes.items ≡ map (λ item. item.node) (items_of view.now.tables user)) }
+{
+    view.items()
+        .rows()
+        .iter()
+        .filter(|item| item.owner == user)
+        .map(|item| item.node)
+        .collect(alloc)
+}
+
+/// A user has another quota, if it is another, and of the user's trash what is beyond it goes.
+pub(crate) fn requoted(
+    alloc: Global,
+    view: &View<'_>,
+    moment: Moment,
+    quota: u64,
+    row: &UserRow,
+) -> Result<Allowed, AllocError>
+    requires { AreSound view.now.tables }
+    ensures { IfOk result (λ allowed. allowed ≡ requoted view.now.tables moment quota row.now) }
+{
+    if row.quota == quota {
+        return Ok(nothing_done(alloc));
+    }
+    let gone = gone_by(alloc, view, moment, quota, row.id)?;
+    let other = with_quota(row, quota)?;
+    Ok(done(Deed::Requote(other), gone, Report::Plain))
+}
+
+/// The row of a user with another quota.
+fn with_quota(row: &UserRow, quota: u64) -> Result<UserRow, AllocError>
+    ensures { IfOk result (λ other. other ≡ record row.now { quota = quota }) }
+{
+    Ok(UserRow {
+        id: row.id,
+        name: row.name.copy()?,
+        quota,
+        root: row.root,
+    })
+}
