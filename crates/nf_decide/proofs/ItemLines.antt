@@ -1,6 +1,6 @@
 -- The lines of the items of a user's trash.
-use Rattle.std.proofs.Common.{ℕ, zero, suc, ◌==◌, ◌≡◌, List, [], ◌∷◌, Option, Some, filter_map, get_or, map, refl, sym, ap, subst, ◌∙◌, arith}
-use Rattle.std.specs.List.{All, AllPairs, cons_option}
+use Rattle.std.proofs.Common.{ℕ, zero, suc, ◌==◌, ◌≡◌, List, [], ◌∷◌, Option, Some, filter_map, get_or, map, refl, sym, ap, ◌∙◌, arith}
+use Rattle.std.specs.List.{All, cons_option}
 use Rattle.std.specs.Option.{option_and_then}
 use Rattle.std.proofs.lemmas.Bool.{eq-eqb, ne_eqb}
 use Rattle.std.proofs.lemmas.Cmp.{tied_itself}
@@ -13,7 +13,6 @@ use Rattle.nf_retention.proofs.Newest.{newest_right}
 use Rattle.nf_retention.specs.Trash.{newest_first, trashed}
 use Rattle.nf_retention.specs.declared.trash.Trashed.{Trashed}
 use Rattle.nf_words.specs.Prelude.{AreSound, item_line, item_lines, item_size, items_of}
-use Rattle.nf_words.specs.declared.listing.ItemLine.{ItemLine}
 use Rattle.nf_decide.specs.Listed.{line_at}
 
 -- an item is found by its node

@@ -1,5 +1,5 @@
 -- What an item of the trash takes where it comes back, and the names that are taken there.
-use Rattle.std.proofs.Common.{◌≤◌, ◌≡◌, ◌+◌, ◌==◌, ℕ, Bool, true, false, not, List, [], ◌∷◌, filter, map, length, Option, None, Some, option_map, if◌then◌else◌, refl, ap, arith}
+use Rattle.std.proofs.Common.{◌≤◌, ◌≡◌, ◌+◌, ◌==◌, ℕ, Bool, true, false, not, List, [], ◌∷◌, filter, length, Option, None, Some, option_map, if◌then◌else◌, refl, ap, arith}
 use Rattle.std.specs.Option.{option_map_or}
 use Rattle.std.proofs.lemmas.List.{length-map}
 use Rattle.std.proofs.lemmas.List.Filters.{length-filter_both}

@@ -48,7 +48,6 @@ use Rattle.nf_words.specs.declared.answer.LockKey.{LockKey}
 use Rattle.nf_words.specs.declared.answer.LockKey.TheVariants.{Node, Slot}
 use Rattle.nf_words.specs.declared.answer.Report.{Report}
 use Rattle.nf_words.specs.declared.answer.Report.TheVariants as report
-use Rattle.nf_words.specs.declared.history.Event.TheVariants.{Begin, End}
 use Rattle.nf_words.specs.declared.request.Making.TheVariants as making
 use Rattle.nf_words.specs.declared.request.Places.{Places}
 use Rattle.nf_words.specs.declared.request.ShareAsk.{ShareAsk}

@@ -28,7 +28,7 @@ use Rattle.nf_words.proofs.Ensured.{ensured_known, IsMountable}
 use Rattle.nf_words.proofs.Fits.{KnownChange, newest, no_more, not_there, one_more, put_found, user_more}
 use Rattle.nf_words.proofs.Found.{found_has, found_passes, put_is_found}
 use Rattle.nf_words.proofs.Ways.{present_row}
-use Rattle.nf_words.specs.Prelude.{AreSound, counted, is_joined, is_member, is_taken, IsLean, IsMountSound, IsShareSound, join_limit, joined_by, left_by, membership, mount_limit, mounts_joined, new_root, new_user, people_changed, people_limit, put_mounts, raised, requoted, row_named, user_made}
+use Rattle.nf_words.specs.Prelude.{AreSound, counted, is_joined, is_member, is_taken, IsLean, IsMountSound, IsShareSound, join_limit, joined_by, left_by, membership, mount_limit, mounts_joined, new_root, new_user, people_changed, people_limit, put_mounts, raised, row_named, user_made}
 use Rattle.nf_words.specs.declared.answer.Breach.{Breach}
 use Rattle.nf_words.specs.declared.answer.Limit.{Limit}
 use Rattle.nf_words.specs.declared.answer.Limit.TheVariants as limit

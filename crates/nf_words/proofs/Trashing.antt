@@ -1,33 +1,28 @@
 -- What is known of a DELETE, of what is asked about the trash, and of another quota: which nodes go for good.
-use Rattle.std.proofs.Common.{◌≡◌, ◌≢◌, ◌⊎◌, ℕ, zero, suc, ◌+◌, ◌<◌, ◌==◌, ◌||◌, inl, inr, Bool, true, false, not, List, [], ◌∷◌, ◌∙◌, drop, filter, find, get_or, length, map, Option, unwrap_or, if◌then◌else◌, refl, sym, ap, subst, arith}
+use Rattle.std.proofs.Common.{◌≡◌, ◌≢◌, ◌⊎◌, ℕ, zero, suc, ◌==◌, ◌||◌, inl, inr, Bool, true, false, not, List, [], ◌∷◌, ◌∙◌, drop, filter, get_or, map, Option, unwrap_or, if◌then◌else◌, refl, sym, ap, subst, arith}
 use Rattle.std.specs.Prelude.{None, Some, is_some}
 use Rattle.std.specs.List.{All, AllPairs, list_any}
-use Rattle.std.specs.Option.{IfSome, option_and_then, option_map_or}
+use Rattle.std.specs.Option.{option_and_then, option_map_or}
 use Rattle.std.proofs.lemmas.Cmp.{tied_itself}
-use Rattle.std.proofs.lemmas.Bool.{both_ways, cases_Bool, cond_both, eq-eqb, eqb-true, not-true}
-use Rattle.std.proofs.lemmas.List.{get_or-map, length-map}
+use Rattle.std.proofs.lemmas.Bool.{both_ways, cond_both, eq-eqb, eqb-true, not-true}
 use Rattle.std.proofs.lemmas.List.Elements.{All-cons, All-drop, All-filter, All-head, All-map, All-nil, All-tail, All-weaker, filter_passes}
 use Rattle.std.proofs.lemmas.List.Kept.{AllPairs-cons, AllPairs-filter}
 use Rattle.std.proofs.lemmas.Option.{none-some, same_Some}
 use Rattle.nf_base.specs.declared.rows.ItemRow.{ItemRow}
 use Rattle.nf_base.specs.declared.rows.NodeRow.{NodeRow}
-use Rattle.nf_base.specs.declared.rows.Place.{Place}
-use Rattle.nf_base.specs.declared.rows.Place.TheVariants.{Inside, Root, Trash}
+use Rattle.nf_base.specs.declared.rows.Place.TheVariants.{Inside, Trash}
 use Rattle.nf_base.specs.declared.rows.UserRow.{UserRow}
 use Rattle.nf_defs.proofs.Puts.{key_total}
-use Rattle.nf_defs.specs.Prelude.{folder_of, is_root, is_root_place, item_key, item_row, key_cmp, node_row, Tables, user_row}
-use Rattle.nf_retention.specs.Trash.{going, is_newer, newest_first, put_newest, staying}
+use Rattle.nf_defs.specs.Prelude.{folder_of, is_root, item_key, item_row, key_cmp, node_row, Tables, user_row}
+use Rattle.nf_retention.specs.Trash.{is_newer, newest_first, put_newest}
 use Rattle.nf_words.proofs.Asks.{nothing_known}
 use Rattle.nf_words.proofs.Fits.{within}
-use Rattle.nf_words.proofs.Found.{found_has, found_passes}
-use Rattle.nf_words.proofs.Known.{IsItem, Known, KnownGoes, KnownGone, KnownTrash}
-use Rattle.nf_words.proofs.Ways.{HasRow}
-use Rattle.nf_words.specs.Prelude.{AreSound, deepest_in, deleted, discard, gone_beside, gone_of, home_of, IsItemSound, item_dropped, item_for, item_if_of, item_restored, items_but, items_of, LeadsToRoot, name_back, nothing_done, quota_of, requoted, restore_limit}
+use Rattle.nf_words.proofs.Found.{found_passes}
+use Rattle.nf_words.proofs.Known.{IsItem, Known, KnownGoes, KnownTrash}
+use Rattle.nf_words.specs.Prelude.{AreSound, deepest_in, discard, gone_beside, gone_of, home_of, IsItemSound, item_dropped, item_for, item_if_of, item_restored, items_but, items_of, LeadsToRoot, nothing_done, quota_of, requoted, restore_limit}
 use Rattle.nf_words.specs.declared.answer.Allowed.{Allowed}
 use Rattle.nf_words.specs.declared.answer.Allowed.TheVariants as allowed
-use Rattle.nf_words.specs.declared.answer.Deed.{Deed}
 use Rattle.nf_words.specs.declared.answer.Deed.TheVariants as deed
-use Rattle.nf_words.specs.declared.answer.Limit.{Limit}
 use Rattle.nf_words.specs.declared.answer.Report.TheVariants as report
 
 -- ---- items, newest first

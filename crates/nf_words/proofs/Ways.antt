@@ -5,7 +5,7 @@ use Rattle.std.specs.List.{AllPairs, list_any}
 use Rattle.std.specs.Option.{IfSome, option_and_then, option_map_or}
 use Rattle.std.proofs.lemmas.Bool.{and_parts, both_ways, eq-eqb, eqb-true, false≢true, not-true}
 use Rattle.std.proofs.lemmas.List.Elements.{All-weaker}
-use Rattle.std.proofs.lemmas.Option.{none-some, option_and_then_some, same_Some}
+use Rattle.std.proofs.lemmas.Option.{none-some, same_Some}
 use Rattle.std.proofs.lemmas.Slice.Eq.{bytes_eq-Decides}
 use Rattle.nf_access.proofs.Granted.{reach_is_a_chain_lem}
 use Rattle.nf_access.proofs.Kept.{chained_is_bounded_lem}
