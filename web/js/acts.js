@@ -90,6 +90,17 @@ export async function rename(context, entry) {
 
 const all = (entries) => (entries.length === 1 ? `“${visible(entries[0].name)}”` : counted(entries.length, 'thing'));
 
+// What becomes of what is removed: it goes into the trash of whose it is, and nobody else can put it back.
+function afterwards(place, owner) {
+  const mine = place.kind === 'own' && (!owner || owner === place.user);
+  const whose = mine ? 'your trash' : owner ? `${visible(owner)}’s trash` : 'the trash of whose it is';
+  const who = mine ? 'you can' : 'only its owner can';
+  return [
+    h('p', {}, `It stays in ${whose} for 30 days, where ${who} put it back. What is larger than half of ${mine ? 'your' : 'the owner’s'} quota is gone for good at once.`),
+    h('p', {}, 'What was shared of it isn’t any more, nor when it is put back.'),
+  ];
+}
+
 export async function removeAll(context, entries) {
   const { place, path } = context;
   const mounts = entries.filter((entry) => place.isMount([...path, entry.name], entry));
@@ -98,12 +109,12 @@ export async function removeAll(context, entries) {
   const words = [];
   if (others.length === 1) words.push(h('p', {}, named(others[0].name), folders ? ' is removed with all that is in it.' : ' is removed.'));
   else if (others.length) words.push(`${counted(others.length, 'thing')} are removed${folders ? ', folders with all that is in them' : ''}.`);
-  if (others.length) words.push(h('p', {}, h('strong', {}, 'It is gone for good.'), ' There is no way to get it back, and what was shared of it isn’t any more.'));
+  if (others.length) words.push(...afterwards(place, context.owner));
   if (mounts.length === 1) words.push(h('p', {}, named(mounts[0].name), ` goes from your files. Nothing is removed of what ${visible(mounts[0].owner)} shares with you.`));
   else if (mounts.length) words.push(`${mounts.length} things that others share with you go from your files. Nothing is removed of what is shared.`);
-  const sure = await question(others.length ? 'Remove for good?' : 'Leave what is shared?', words, [
+  const sure = await question(others.length === 0 ? 'Leave what is shared?' : others.length === 1 ? 'Remove it?' : 'Remove them?', words, [
     { text: 'Cancel', value: null },
-    { text: others.length ? 'Remove for good' : 'Leave', value: true, kind: 'main danger' },
+    { text: others.length ? 'Remove' : 'Leave', value: true, kind: 'main danger' },
   ]);
   if (!sure) return;
   const results = await each(entries, (entry) => place.remove([...path, entry.name]));

@@ -7,6 +7,7 @@ import { showSignIn } from './signin.js';
 import { openFiles } from './files.js';
 import { openLink } from './link.js';
 import { openShares } from './shared.js';
+import { openTrash } from './trash.js';
 import { openPeople } from './people.js';
 import { uploadsRunning } from './uploads.js';
 
@@ -20,7 +21,7 @@ function show(address, arrival) {
   const { path, asked } = readAddress(address);
   const [first, ...rest] = path ?? [''];
   const member = session();
-  const kind = first === 'link' && rest.length ? 'link' : !member ? 'sign-in' : first === 'people' && !member.admin ? 'files' : ['files', 'shares', 'people'].includes(first) ? first : 'files';
+  const kind = first === 'link' && rest.length ? 'link' : !member ? 'sign-in' : first === 'people' && !member.admin ? 'files' : ['files', 'shares', 'trash', 'people'].includes(first) ? first : 'files';
   if (kind === 'files' && first !== 'files') return go('#/files/', true);
   if (member && own?.user !== member.name) own = ownFiles(member);
   if (document.body.dataset.view === kind && view?.update?.(rest, asked, arrival)) return;
@@ -33,6 +34,7 @@ function show(address, arrival) {
   view = kind === 'sign-in' ? showSignIn(main, left)
     : kind === 'link' ? openLink(main, rest, asked, arrival)
     : kind === 'shares' ? openShares(main, own, rest)
+    : kind === 'trash' ? openTrash(main, member)
     : kind === 'people' ? openPeople(main)
     : openFiles(main, own, rest, asked, arrival);
   // Who came by a link of the page reads on from its heading; who opened the page isn't moved.
@@ -54,6 +56,7 @@ function head(kind) {
     member && h('nav', { 'aria-label': 'Main' },
       link('#/files/', 'Files', 'file', 'files'),
       link('#/shares/given', 'Shared', 'share', 'shares'),
+      link('#/trash', 'Trash', 'remove', 'trash'),
       member.admin && link('#/people', 'People', 'people', 'people')),
     member ? h('div', { class: 'me' }, icon('person'), named(member.name), button('Sign out', signOut, { class: 'plain' }))
       : h('a', { class: 'plain me', href: '#/files/' }, 'Sign in'));
