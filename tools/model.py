@@ -79,6 +79,15 @@ class Tree:
             node = node.get(name) if isinstance(node, Folder) else None
         return node
 
+    def path_of(self, folder):
+        """The path of a folder that is under the top, or None where it isn't any more."""
+        paths = [((), self.root)]
+        for path, node in paths:
+            if node is folder:
+                return list(path)
+            paths += [((*path, name), child) for name, child in node.items() if isinstance(child, Folder)]
+        return None
+
     def folder(self, path):
         """The folder in which the last name of a path is or may be, or None."""
         node = self.find(path[:-1])
