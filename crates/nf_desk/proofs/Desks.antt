@@ -126,6 +126,7 @@ put_short : (t : Tables) (now : ℕ) (act : Allowed) (by : By) (key : LockKey) (
 put_short t now (allowed.Put other lock length) by key size known is =
     let same : length ≡ size = cc in subst (λ (n : ℕ). n ≤ MAX_BODY) same known.short
 put_short t now (allowed.Change changes blob report) by key size known is = absurd (reports_nothing report (Store by key size) is)
+put_short t now (allowed.Trash did gone report) by key size known is = absurd (reports_nothing report (Store by key size) is)
 put_short t now (allowed.Move transfer name) by key size known is = absurd (put_grants_nothing transfer.replaced (Store by key size) is)
 put_short t now (allowed.Copy rows replaced) by key size known is = absurd (put_grants_nothing replaced (Store by key size) is)
 put_short t now (allowed.Cross rows replaced node) by key size known is = absurd (put_grants_nothing replaced (Store by key size) is)
