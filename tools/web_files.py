@@ -220,7 +220,7 @@ def changing(t):
 def trash(t):
     b = t.browser
     pat = t.member("pat", quota=1_000)
-    for name, content in (("old.txt", b"old"), ("large.bin", bytes(600)), ("plans/a.txt", b"plan a")):
+    for name, content in (("old.txt", b"old"), ("heavy.bin", bytes(600)), ("plans/a.txt", b"plan a")):
         if "/" in name:
             pat.files("MKCOL", name.split("/")[0])
         pat.files("PUT", name, content)
@@ -234,10 +234,10 @@ def trash(t):
     t.act("old.txt", "Remove")
     check("before a file is removed, it says where it goes", "your trash for 30 days" in b.text("dialog[open]"), b.text("dialog[open]"))
     b.click("button", "Remove", "dialog[open]")
-    check("it is gone from the list", t.rows_are(["large.bin", "plans"]) and t.closed(), t.rows())
+    check("it is gone from the list", t.rows_are(["heavy.bin", "plans"]) and t.closed(), t.rows())
     t.act("plans", "Remove")
     b.click("button", "Remove", "dialog[open]")
-    check("so is a folder", t.rows_are(["large.bin"]) and t.closed(), t.rows())
+    check("so is a folder", t.rows_are(["heavy.bin"]) and t.closed(), t.rows())
     t.go("#/trash")
     items = lambda: b.js("return [...document.querySelectorAll('#trash tbody bdi.name')].map(name => name.textContent)")
     check("both are in the trash, the last removed first", b.until(lambda: items() == ["plans", "old.txt"]), items())
@@ -265,7 +265,7 @@ def trash(t):
     b.click("button", "Empty it", "dialog[open]")
     check("the trash is emptied", t.says("is empty") and b.until(lambda: items() == []), t.said())
     t.go("#/files/")
-    t.act("large.bin", "Remove")
+    t.act("heavy.bin", "Remove")
     check("what the trash can't hold is told before it is removed", "half of your quota" in b.text("dialog[open]"), b.text("dialog[open]"))
     b.click("button", "Remove", "dialog[open]")
     t.closed()
