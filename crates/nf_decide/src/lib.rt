@@ -11,6 +11,7 @@ mod discarding;
 mod ending;
 mod homes;
 mod items;
+mod leaving;
 mod limits;
 mod listing;
 mod locking;
