@@ -8,7 +8,7 @@ use Rattle.std.proofs.lemmas.List.Kept.{AllPairs-filter}
 use Rattle.std.proofs.lemmas.List.Quantifiers.{all_pairs_push}
 use Rattle.std.proofs.lemmas.Grind.{common_steps}
 use Rattle.nf_defs.specs.Prelude.{Access, Tables}
-use Rattle.nf_words.specs.Prelude.{access_of, after, after_mark, answer_to, answered_by, decided, decision_of, end_decision, end_refusal, ends_at, ends_goal, failed, goal_at, goal_of, hold_of, IsLegalFrom, MayAsk, replay, reply_by, reply_to, reported, State, step, stored_at, ticket_for, ticket_of, unless_refused, with_goal, without, without_ticket}
+use Rattle.nf_words.specs.Prelude.{access_of, after, after_mark, answer_to, answered_by, decided, decision_of, end_decision, end_refusal, ends_at, ends_goal, failed, goal_at, goal_of, hold_of, IsLegalFrom, MayAsk, replay, reply_to, reported, State, step, stored_at, ticket_for, ticket_of, unless_refused, with_goal, without, without_ticket}
 use Rattle.nf_words.specs.declared.answer.Allowed.{Allowed}
 use Rattle.nf_words.specs.declared.answer.Allowed.TheVariants as allowed
 use Rattle.nf_words.specs.declared.answer.Denial.{Denial}
@@ -156,12 +156,7 @@ gone_keeps s seat now = goal_keeps s seat now Gone (goal_at s seat) (λ goal. re
 
 -- ---- a granted step
 
--- what is put at a place grants nothing
-pub put_grants_nothing : (replaced : Option ℕ) (goal : Goal) → reply_by replaced ≢ Granted goal
-put_grants_nothing None goal = λ is. cc
-put_grants_nothing (Some node) goal = λ is. cc
-
--- nor does a change
+-- a change grants nothing
 pub reports_nothing : (report : Report) (goal : Goal) → reported report ≢ Granted goal
 reports_nothing report.Made goal = λ is. cc
 reports_nothing report.Done goal = λ is. cc
@@ -172,10 +167,7 @@ reports_nothing report.Plain goal = λ is. cc
 
 goal_of_reply : (act : Allowed) (goal : Goal) → reply_to act ≡ Granted goal → goal_of act ≡ Some goal
 goal_of_reply (allowed.Change changes blob report) goal is = absurd (reports_nothing report goal is)
-goal_of_reply (allowed.Trash did gone report) goal is = absurd (reports_nothing report goal is)
-goal_of_reply (allowed.Move transfer name) goal is = absurd (put_grants_nothing transfer.replaced goal is)
-goal_of_reply (allowed.Copy rows replaced) goal is = absurd (put_grants_nothing replaced goal is)
-goal_of_reply (allowed.Cross rows replaced node) goal is = absurd (put_grants_nothing replaced goal is)
+goal_of_reply (allowed.Deeds deeds report) goal is = absurd (reports_nothing report goal is)
 goal_of_reply act goal is = cc
 
 pub ok_reply : (x y : Reply) → ◌≡◌ {A = Result Reply Denial} (Ok x) (Ok y) → x ≡ y

@@ -163,7 +163,7 @@ copies t now name transfer =
 abbrev pub carries : Tables → ℕ → List ℕ → Transfer → List Deed
 carries t now name transfer =
     if crosses t.nodes transfer
-    then copies t now name transfer ++ discards t now (Some transfer.node) ++ besides t now (Some transfer.node)
+    then copies t now name transfer ++ (discards t now (Some transfer.node) ++ besides t now (Some transfer.node))
     else moves t now name transfer
 
 abbrev pub moved : Tables → ℕ → List ℕ → Option Transfer → Allowed
