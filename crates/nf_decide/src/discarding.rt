@@ -145,8 +145,8 @@ fn gone_beside(
     gone_of(alloc, view, moment, quota_of(view, item.owner), carried)
 }
 
-/// What goes of it with another quota.
-fn gone_by(
+/// What goes of a user's trash with that quota.
+pub(crate) fn gone_by(
     alloc: Global,
     view: &View<'_>,
     moment: Moment,

@@ -58,7 +58,7 @@ use Rattle.nf_words.specs.declared.request.PeopleAsk.TheVariants as people
 use Rattle.nf_words.specs.declared.request.TrashAsk.{TrashAsk}
 use Rattle.nf_words.specs.declared.request.TrashAsk.TheVariants as trash
 use Rattle.nf_words.specs.declared.answer.Deed.TheVariants as deed
-use Rattle.std.specs.List.{list_any}
+use Rattle.std.specs.List.{flat_map, list_any}
 
 -- ---- what an act may do at the places that its paths lead to; elsewhere, where a rule refuses it, nothing
 
@@ -260,6 +260,14 @@ trash_done call (trash.Drop user item) = option_map_or (item_dropped call.state.
 trash_done call (trash.Empty user) =
     done (purges (map (λ item. item.node) (items_of call.state.tables (asker_of call)))) report.Done
 trash_done call (trash.Restore user item) = option_map_or (item_restored call.state.tables call.now) (own_item call item) nothing_done
+
+-- of the trash of a user goes what it doesn't hold any more
+abbrev pub swept_of : Tables → ℕ → UserRow → List Deed
+swept_of t now row = purges (gone_of t now row.quota (items_of t row.id))
+
+-- a sweep: of the trash of each does
+abbrev pub swept : Tables → ℕ → Allowed
+swept t now = done (flat_map (swept_of t now) t.users) report.Plain
 
 -- ---- people
 
