@@ -137,13 +137,6 @@ impl People {
         Some(self.groups.find(name.as_bytes())?.id)
     }
 
-    /// The rows of all users, by rising number.
-    pub fn users(&self) -> &[UserRow]
-        ensures { result.now ≡ self.now.users }
-    {
-        self.users.rows()
-    }
-
     pub fn row(&self, user: UserId) -> Option<&UserRow>
         ensures { option_copied result ≡ user_row self.now.users user }
     {

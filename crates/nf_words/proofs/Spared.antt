@@ -1,5 +1,5 @@
 -- What a step that no rule refuses leaves to the others who hold something.
-use Rattle.std.proofs.Common.{◌≡◌, ◌≢◌, ℕ, ◌<◌, ◌≤◌, ◌==◌, ◌&&◌, ◌||◌, not, find, filter, get_or, Bool, true, false, List, [], ◌∷◌, ◌++◌, length, suc, Option, Ok, Result, if◌then◌else◌, refl, sym, subst, arith, ◌⊎◌, inl, inr, map}
+use Rattle.std.proofs.Common.{◌≡◌, ◌≢◌, ℕ, ◌<◌, ◌≤◌, ◌==◌, ◌&&◌, ◌||◌, not, find, filter, get_or, Bool, true, false, List, [], ◌∷◌, ◌++◌, length, suc, Option, Ok, Result, if◌then◌else◌, refl, sym, subst, arith, ◌⊎◌, inl, inr, map, flat_map}
 use Rattle.std.specs.Prelude.{None, Some, IsNone, nat_lt, option_and_then, option_map, slice_get}
 use Rattle.std.specs.List.{All, AllPairs, list_any}
 use Rattle.std.specs.Option.{IfSome, option_map_or}
@@ -31,7 +31,7 @@ use Rattle.nf_words.proofs.Passing.{place_passes, call_passes, no_key, not_refus
 use Rattle.nf_words.proofs.Starts.{has_asker, IsAsking}
 use Rattle.nf_words.proofs.Steps.{fails_each}
 use Rattle.nf_words.proofs.Transfers.{copies_known, replaced_leaves, row_leaves, transfer_known}
-use Rattle.nf_words.specs.Prelude.{access_of, AreApartHolds, AreKeysApart, AreSound, asked_by, asked_of, asked_of_trash, asker_of, beside, besides, blob_for, blocks, by_of, Call, call_decision, call_of, carry_limit, clashes, content_in, copied, copies, copies_to, copy_limit, crosses, decision_of, deepest_in, deleted, discard, discards, done, end_decision, ended_row, end_refusal, ends_at, ends_goal, found, given, goes_itself, gone_beside, gone_of, HoldsFor, home_of, is_exclusive, is_member, IsNodeSound, IsSound, IsTicketSound, item_dropped, item_for, item_restored, items_of, joined_by, key_in_way, last_name, least, left_by, left_row, lesser, limited, listing_of, locked_rule, made_folder, makes, MayAsk, MayWant, membership, mount_left, mount_renamed, mounts_for, mounts_joined, moved, move_limit, moves, name_back, named_row, new_node, new_root, new_share, new_user, node_at, node_of_key, nothing_done, offered, own_item, own_mount, people_changed, people_done, perms_after, pieces_in, places_of, purges, put_mounts, quota_of, refilled, requoted, restore_touches, root_of, row_at, row_named, same_end, same_key, served, set_row, shared, share_ended, share_made, share_set, share_shown, share_steered, share_told, source_touches, State, stored, stored_at, target_touches, ticket_of, Touch, touched, touches, touch_key, touch_under, transfer_of, transfer_touches, trash_done, unfit_between, unreached, until_after, way_of, with_mount_row, without, without_ticket}
+use Rattle.nf_words.specs.Prelude.{access_of, AreApartHolds, AreKeysApart, AreSound, asked_by, asked_of, asked_of_trash, asker_of, beside, besides, blob_for, blocks, by_of, Call, call_decision, call_of, carry_limit, clashes, content_in, copied, copies, copies_to, copy_limit, crosses, decision_of, deepest_in, deleted, discard, discards, done, end_decision, ended_row, end_refusal, ends_at, ends_goal, found, given, goes_itself, gone_beside, gone_from, gone_of, HoldsFor, home_of, is_exclusive, is_member, IsNodeSound, IsSound, IsTicketSound, item_dropped, item_for, item_restored, items_of, joined_by, key_in_way, last_name, least, left_by, left_row, lesser, limited, listing_of, locked_rule, made_folder, makes, MayAsk, MayWant, membership, mount_left, mount_renamed, mounts_for, mounts_joined, moved, move_limit, moves, name_back, named_row, new_node, new_root, new_share, new_user, node_at, node_of_key, nothing_done, offered, owners_of, own_item, own_mount, people_changed, people_done, perms_after, pieces_in, places_of, purges, put_mounts, quota_of, refilled, requoted, restore_touches, root_of, row_at, row_named, same_end, same_key, served, set_row, shared, share_ended, share_made, share_set, share_shown, share_steered, share_told, source_touches, State, stored, stored_at, swept, target_touches, ticket_of, Touch, touched, touches, touch_key, touch_under, transfer_of, transfer_touches, trash_done, unfit_between, unreached, until_after, way_of, with_mount_row, without, without_ticket}
 use Rattle.nf_words.specs.declared.answer.Allowed.{Allowed}
 use Rattle.nf_words.specs.declared.answer.Allowed.TheVariants as allowed
 use Rattle.nf_words.specs.declared.answer.By.{By}
@@ -48,7 +48,7 @@ use Rattle.nf_words.specs.declared.answer.Report.TheVariants as report
 use Rattle.nf_words.specs.declared.request.Making.TheVariants as making
 use Rattle.nf_words.specs.declared.request.Spot.{Spot}
 use Rattle.nf_words.specs.declared.history.Event.{Event}
-use Rattle.nf_words.specs.declared.history.Event.TheVariants.{Begin, End}
+use Rattle.nf_words.specs.declared.history.Event.TheVariants.{Begin, End, Sweep}
 use Rattle.nf_words.specs.declared.history.Outcome.{Outcome}
 use Rattle.nf_words.specs.declared.history.Outcome.TheVariants.{Body, Gone, Sent}
 use Rattle.nf_words.specs.declared.history.Ticket.{Ticket}
@@ -65,6 +65,7 @@ use Rattle.nf_words.specs.declared.request.Transfer.{Transfer}
 use Rattle.nf_words.specs.declared.request.Wanted.{Wanted}
 use Rattle.nf_words.specs.declared.request.Wanted.TheVariants.{Copy, Delete, Get, Mkcol, Move}
 use Rattle.nf_words.specs.declared.request.Wanted.TheVariants as wanted
+use Rattle.nf_words.proofs.Sweeping.{swept_goes}
 use Rattle.nf_words.proofs.Trashing.{beside_goes, emptied_items, own_is, own_there, rest_goes, user_goes}
 use Rattle.nf_base.specs.declared.rows.ItemRow.{ItemRow}
 use Rattle.nf_words.specs.declared.answer.Deed.{Deed}
@@ -734,3 +735,12 @@ pub step_spares : (s : State) (seat now : ℕ) (event : Event) (act : Allowed) �
 step_spares s seat now (Begin words request) act sound asked is =
     begin_spares (call_of s seat now words request) act sound asked.1 asked.0 is
 step_spares s seat now (End outcome) act sound asked is = end_spares s seat now outcome act sound is
+step_spares s seat now Sweep act sound asked is =
+    let same : swept s.tables now ≡ act = cc in
+    subst (λ (act : Allowed). All (λ ticket. IfSome ticket.hold (λ hold. Spares s.tables now hold act)) s.tickets) same
+    (λ k d within. some_spared (get_or s.tickets k d).hold)
+  where
+    some_spared : (hold : Option Hold) → IfSome hold (λ hold. Spares s.tables now hold (swept s.tables now))
+    some_spared None = tt
+    some_spared (Some hold) =
+        gone_spared s.tables now hold (flat_map (gone_from s.tables now) (owners_of s.tables.items)) (swept_goes s.tables sound.rows now).items

@@ -23,7 +23,7 @@ use Rattle.nf_words.specs.declared.answer.Report.{Report}
 use Rattle.nf_words.specs.declared.answer.Report.TheVariants as report
 use Rattle.nf_words.specs.declared.history.Entry.{Entry}
 use Rattle.nf_words.specs.declared.history.Event.{Event}
-use Rattle.nf_words.specs.declared.history.Event.TheVariants.{Begin, End}
+use Rattle.nf_words.specs.declared.history.Event.TheVariants.{Begin, End, Sweep}
 use Rattle.nf_words.specs.declared.history.Mark.{Mark}
 use Rattle.nf_words.specs.declared.history.Mark.TheVariants as mark
 use Rattle.nf_words.specs.declared.history.Outcome.{Outcome}
@@ -66,6 +66,7 @@ freed s seat = find-filter-not (λ ticket. ticket.seat == seat) s.tickets
 
 pub other_without : (s : State) (seat : ℕ) (event : Event) (other : ℕ) → other ≢ seat → ticket_of (without s seat event) other ≡ ticket_of s other
 other_without s seat (Begin words request) other differ = refl
+other_without s seat Sweep other differ = refl
 other_without s seat (End outcome) other differ =
     find-filter (λ ticket. ticket.seat == other) (λ ticket. not (ticket.seat == seat)) (λ ticket is. grind (arith, common_steps)) s.tickets
 
@@ -197,6 +198,7 @@ pub granted_step : (s : State) (seat now : ℕ) (event : Event) (goal : Goal)
     → IsNone (ticket_of s seat) → answer_to s seat now event ≡ Ok (Granted goal)
     → goal_at (step s seat now event) seat ≡ Some goal
 granted_step s seat now (Begin words request) goal none is = granted_decided s seat now (decision_of s seat now (Begin words request)) goal none is
+granted_step s seat now Sweep goal none is = cc
 granted_step s seat now (End outcome) goal none is =
     absurd (never_granted (end_decision (access_of s) s seat now outcome) goal (end_nothing s seat now outcome) is)
 
@@ -224,11 +226,13 @@ differ_decided s seat now (Err refusal) none h = h
 
 differ_step : (s : State) (seat now : ℕ) (event : Event) → MayAsk s seat event → Differ s → Differ (step s seat now event)
 differ_step s seat now (Begin words request) asked h = differ_decided s seat now (decision_of s seat now (Begin words request)) asked.0 h
+differ_step s seat now Sweep asked h = h
 differ_step s seat now (End outcome) asked h =
     subst (λ (ts : List Ticket). AllPairs OfTwoSeats ts) (sym (end_tickets s seat now outcome)) (differ_without s seat h)
 
 differ_failed : (s : State) (seat now : ℕ) (event : Event) → Differ s → Differ (failed s seat now event)
 differ_failed s seat now (Begin words request) h = h
+differ_failed s seat now Sweep h = h
 differ_failed s seat now (End outcome) h = differ_without s seat h
 
 differ_after : (s : State) (e : Entry) (mark : Mark) → MayAsk s e.seat e.event → Differ s → Differ (after_mark s e mark)

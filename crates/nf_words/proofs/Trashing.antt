@@ -47,10 +47,10 @@ AreTwo a b = a.node ≢ b.node
 turned : (a b : ItemRow) → AreTwo a b → AreTwo b a
 turned a b two = λ same. two (sym same)
 
-heads : {X : Type 0} (R : X → X → Type 0) (x : X) (xs : List X) → AllPairs R (x ∷ xs) → All (R x) xs
+pub heads : {X : Type 0} (R : X → X → Type 0) (x : X) (xs : List X) → AllPairs R (x ∷ xs) → All (R x) xs
 heads R x xs pairs k d within = pairs 0 (suc k) d (omega arith) (omega (arith, within))
 
-tails : {X : Type 0} (R : X → X → Type 0) (x : X) (xs : List X) → AllPairs R (x ∷ xs) → AllPairs R xs
+pub tails : {X : Type 0} (R : X → X → Type 0) (x : X) (xs : List X) → AllPairs R (x ∷ xs) → AllPairs R xs
 tails R x xs pairs i j d before within = pairs (suc i) (suc j) d (omega (arith, before)) (omega (arith, within))
 
 put_two : (item : ItemRow) (items : List ItemRow) → All (AreTwo item) items → AllPairs AreTwo items → AllPairs AreTwo (put_newest item items)
@@ -75,7 +75,7 @@ drop_two (suc n) (item ∷ items) pairs = drop_two n items (tails AreTwo item it
 
 -- ---- what goes
 
-abbrev Distinct : List ℕ → Type 0
+abbrev pub Distinct : List ℕ → Type 0
 Distinct nodes = AllPairs (λ (a b : ℕ). a ≢ b) nodes
 
 nodes_two : (items : List ItemRow) → AllPairs AreTwo items → Distinct (map (λ item. item.node) items)
@@ -126,14 +126,14 @@ module _ (t : Tables) (sound : AreSound t) where
   NodeOf item = item.node
 
   -- an item that is found is of its node
-  item_is : (node : ℕ) (item : ItemRow) → item_row t.items node ≡ Some item → item.node ≡ node
+  pub item_is : (node : ℕ) (item : ItemRow) → item_row t.items node ≡ Some item → item.node ≡ node
   item_is node item found = eqb-true item.node node (found_passes (λ (item : ItemRow). item.node == node) t.items item found)
 
   -- those that go of a user's
   pub user_goes : (now quota user : ℕ) → All (IsItem t) (gone_of t now quota (items_of t user))
   user_goes now quota user = gone_has (IsItem t) t now quota (items_of t user) (of_user user)
 
-  user_once : (now quota user : ℕ) → Distinct (gone_of t now quota (items_of t user))
+  pub user_once : (now quota user : ℕ) → Distinct (gone_of t now quota (items_of t user))
   user_once now quota user = gone_once t now quota (items_of t user) (user_two user)
 
   -- ---- an item that goes or comes back, and of the others those that go

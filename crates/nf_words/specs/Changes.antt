@@ -49,7 +49,7 @@ use Rattle.nf_words.specs.declared.history.Ticket.{Ticket}
 use Rattle.nf_words.specs.Charges.{quota_of}
 use Rattle.nf_words.specs.Deeds.{deeds_done, ended_row, told_deeds}
 use Rattle.nf_words.specs.declared.answer.Deed.{Deed}
-use Rattle.nf_words.specs.Trash.{gone_of, item_for, item_lines, items_but, items_of, own_item}
+use Rattle.nf_words.specs.Trash.{gone_of, item_for, item_lines, items_but, items_of, own_item, owners_of}
 use Rattle.nf_words.specs.Homes.{home_of, name_back}
 use Rattle.nf_base.specs.declared.rows.ItemRow.{ItemRow}
 use Rattle.nf_base.specs.declared.rows.UserRow.{UserRow}
@@ -261,13 +261,13 @@ trash_done call (trash.Empty user) =
     done (purges (map (λ item. item.node) (items_of call.state.tables (asker_of call)))) report.Done
 trash_done call (trash.Restore user item) = option_map_or (item_restored call.state.tables call.now) (own_item call item) nothing_done
 
--- of the trash of a user goes what it doesn't hold any more
-abbrev pub swept_of : Tables → ℕ → UserRow → List Deed
-swept_of t now row = purges (gone_of t now row.quota (items_of t row.id))
+-- what the trash of a user doesn't hold any more
+abbrev pub gone_from : Tables → ℕ → ℕ → List ℕ
+gone_from t now user = gone_of t now (quota_of t user) (items_of t user)
 
--- a sweep: of the trash of each does
+-- a sweep: of the trash of each user that goes
 abbrev pub swept : Tables → ℕ → Allowed
-swept t now = done (flat_map (swept_of t now) t.users) report.Plain
+swept t now = done (purges (flat_map (gone_from t now) (owners_of t.items))) report.Plain
 
 -- ---- people
 
