@@ -28,6 +28,7 @@ pub mod Lines
 pub mod Links
 pub mod Leaning
 pub mod Leaving
+pub mod Left
 pub mod Lists
 pub mod Locking
 pub mod May
