@@ -1,7 +1,7 @@
 -- What tables have in common with those before a node left its place, whether it was put in the trash or went for good.
-use Rattle.std.proofs.Common.{◌≡◌, ◌≢◌, ◌≤◌, ℕ, zero, suc, ◌+◌, ◌-◌, ◌==◌, true, false, not, Bool, List, ◌∷◌, [], Option, None, Some, length, inl, inr, refl, sym, ap, subst, ◌∙◌, arith, le_refl, option_map, ne_eqb}
+use Rattle.std.proofs.Common.{◌≡◌, ◌≢◌, ◌≤◌, ℕ, zero, suc, ◌+◌, ◌-◌, ◌==◌, true, false, not, Bool, List, ◌∷◌, [], Option, None, Some, length, inl, inr, refl, sym, ap, subst, ◌∙◌, arith, le_refl, option_map, ne_eqb, filter, get_or}
 use Rattle.std.specs.Prelude.{is_some, option_and_then}
-use Rattle.std.proofs.lemmas.Bool.{both_ways, cases_Bool, cases_lt, cond_both, eq-eqb, eqb-true, false_from_ne_true}
+use Rattle.std.proofs.lemmas.Bool.{both_ways, cases_Bool, cases_lt, cond_both, eq-eqb, eqb-true, false_from_ne_true, not-false}
 use Rattle.std.proofs.lemmas.Option.{none-some, same_Some}
 use Rattle.nf_base.specs.declared.rows.ItemRow.{ItemRow}
 use Rattle.nf_base.specs.declared.rows.MountRow.{MountRow}
@@ -9,14 +9,16 @@ use Rattle.nf_base.specs.declared.rows.NodeRow.{NodeRow}
 use Rattle.nf_base.specs.declared.rows.Place.TheVariants.{Inside, Trash}
 use Rattle.nf_base.specs.declared.rows.UserRow.{UserRow}
 use Rattle.nf_defs.proofs.Climbs.{climb_under, under_climb}
-use Rattle.nf_defs.specs.Prelude.{child_of, climb, folder_of, is_under, node_row, parent_of, Tables, with_node}
+use Rattle.nf_defs.proofs.Walks.{inside_of}
+use Rattle.nf_defs.specs.Prelude.{child_of, climb, folder_of, is_in, is_under, node_row, parent_of, Tables, with_node}
 use Rattle.nf_defs.specs.Tree.{trashed}
-use Rattle.nf_laws.proofs.Climbs.{climb_on}
+use Rattle.nf_laws.proofs.Climbs.{climb_on, node_row_each, parent_at}
 use Rattle.nf_laws.proofs.Gone.{climb_left, counts_left, free_left, kept_left, left_leads, row_left}
 use Rattle.nf_laws.proofs.Moved.{climb_below, climb_outside}
-use Rattle.nf_laws.proofs.OneRow.{length_with, pieces_with, row_itself, row_other}
+use Rattle.nf_laws.proofs.OneRow.{filter_with, length_with, pieces_with, row_itself, row_other}
 use Rattle.nf_laws.proofs.Others.{item_other}
 use Rattle.nf_laws.proofs.Paths.{child_is, child_there}
+use Rattle.nf_laws.proofs.Sources.{filter_left}
 use Rattle.nf_laws.proofs.Trashed.{discarded_leads, discarded_sound, item_put, purged_sound}
 use Rattle.nf_laws.proofs.Upwards.{climbs_is_under, never_climbs}
 use Rattle.nf_words.proofs.Known.{IsItem, KnownLeaving}
@@ -35,12 +37,28 @@ pub record Left (t u : Tables) (top : ℕ) : Type 0 where
   pub below : (j below node : ℕ) → HasRow u.nodes below → climb u.nodes j below ≡ Some node → is_under t.nodes node top ≡ false
       → is_under t.nodes below top ≡ false
   pub free : (folder : ℕ) (name : List ℕ) → child_of t.nodes folder name ≡ Some top → child_of u.nodes folder name ≡ None
+  -- what is in any folder but its own is as before
+  pub in_folder : (folder : ℕ) → is_under t.nodes folder top ≡ false → parent_of t.nodes top ≢ Some folder
+      → filter (is_in folder) u.nodes ≡ filter (is_in folder) t.nodes
   pub few : length u.nodes ≤ length t.nodes
   pub few_pieces : stored_pieces u ≤ stored_pieces t
   pub meta : u.meta ≡ t.meta
   pub users : u.users ≡ t.users
   pub mounts : u.mounts ≡ t.mounts
   pub items : (node : ℕ) → node ≢ top → IsItem t node → IsItem u node
+
+-- a row in a folder that isn't under the top, and isn't the top's own, isn't under the top
+in_none : (t : Tables) (top folder : ℕ) (row : NodeRow) → AreSound t → node_row t.nodes row.id ≡ Some row → is_under t.nodes folder top ≡ false
+    → parent_of t.nodes top ≢ Some folder → is_under t.nodes row.id top ≡ true → is_in folder row ≡ false
+in_none t top folder row sound there outside other under =
+    false_from_ne_true (is_in folder row) (λ is.
+    let above : parent_of t.nodes row.id ≡ Some folder = parent_at t.nodes row.id folder row there (inside_of folder row.place is) in
+    let c = under_climb t.nodes row.id top under in
+    here c.0 above c.2)
+  where
+    here : (k : ℕ) → parent_of t.nodes row.id ≡ Some folder → climb t.nodes k row.id ≡ Some top → ⊥
+    here zero above climbs = other (ap (parent_of t.nodes) (sym (same_Some row.id top climbs)) ∙ above)
+    here (suc k) above climbs = never_climbs t folder top sound outside k (sym (ap (option_and_then (climb t.nodes k)) above) ∙ climbs)
 
 -- where it goes for good
 pub purged_left : (t : Tables) (row : NodeRow) → AreSound t → KnownLeaving t row → Left t (purged t row.id) row.id
@@ -53,6 +71,11 @@ purged_left t row sound known =
       leads = λ node outside up. left_leads t row.id node sound outside up;
       below = λ j below node there is outside. (kept_left t.nodes row.id below there.0 there.1).0;
       free = λ folder name is. free_left t row.id folder name sound is;
+      in_folder = λ folder outside other.
+          filter_left (is_in folder) (λ one. not (is_under t.nodes one.id row.id)) t.nodes
+          (λ k d within goes.
+          let one = get_or t.nodes k d in
+          in_none t row.id folder one sound (node_row_each t.nodes sound.rising k d within) outside other (not-false (is_under t.nodes one.id row.id) goes));
       few = counts.0;
       few_pieces = omega (arith, counts.1);
       meta = refl;
@@ -127,6 +150,13 @@ module _ (t : Tables) (now : ℕ) (row : NodeRow) (sound : AreSound t) (at : now
         leads = λ node outside up. discarded_leads t (item_for now row) node sound outside up;
         below = λ j below node there is outside. below_so j below node is outside;
         free = free_so;
+        in_folder = λ folder outside other.
+            filter_with (is_in folder) t.nodes row.id trashed
+            (λ one is. (
+              false_from_ne_true (is_in folder one) (λ inside.
+                  other (parent_at t.nodes row.id folder one is (inside_of folder one.place inside))),
+              refl,
+            ));
         few = omega (arith, counts);
         few_pieces = omega (arith, pieces_with t.nodes row.id trashed 0 (λ row is. omega arith));
         meta = refl;

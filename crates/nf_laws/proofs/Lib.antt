@@ -24,6 +24,8 @@ pub mod Given
 pub mod Going
 pub mod Gone
 pub mod Held
+pub mod Into
+pub mod InTurn
 pub mod Lines
 pub mod Links
 pub mod Leaning
