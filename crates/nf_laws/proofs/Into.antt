@@ -51,14 +51,14 @@ module _ (t u : Tables) (top : ℕ) (sound : AreSound t) (left : Left t u top) w
     own = child_parent t.nodes transfer.folder name top sound.rising (known.there ∙ is)
 
     -- neither the source nor the folder is under what left
-    source_out : is_under t.nodes transfer.node top ≡ false
+    pub source_out : is_under t.nodes transfer.node top ≡ false
     source_out = sym (ap (λ (o : Option ℕ). option_map_or (λ node. is_under t.nodes transfer.node node) o false) is) ∙ known.apart
 
-    folder_out : is_under t.nodes transfer.folder top ≡ false
+    pub folder_out : is_under t.nodes transfer.folder top ≡ false
     folder_out = no_rings t top transfer.folder sound own
 
     -- nor is what is under the source
-    below_out : (node : ℕ) → is_under t.nodes node transfer.node ≡ true → is_under t.nodes node top ≡ false
+    pub below_out : (node : ℕ) → is_under t.nodes node transfer.node ≡ true → is_under t.nodes node top ≡ false
     below_out node under = false_from_ne_true (is_under t.nodes node top) (λ also.
         let c = under_climb t.nodes node transfer.node under in
         let d = under_climb t.nodes node top also in

@@ -1,5 +1,5 @@
 -- What a sweep takes: items alone, each once.
-use Rattle.std.proofs.Common.{◌≡◌, ◌≢◌, ℕ, suc, ◌==◌, List, [], ◌∷◌, ◌++◌, filter, get_or, not, true, Option, refl, sym, ap, ◌∙◌, arith, Bool, subst, IfSome}
+use Rattle.std.proofs.Common.{◌≡◌, ◌≢◌, ◌⊎◌, inl, inr, ℕ, suc, ◌==◌, List, [], ◌∷◌, ◌++◌, filter, get_or, not, true, Option, refl, sym, ap, ◌∙◌, arith, Bool, subst, IfSome}
 use Rattle.std.specs.Prelude.{None, Some, is_some}
 use Rattle.std.specs.List.{All, AllPairs, flat_map}
 use Rattle.std.proofs.lemmas.Bool.{both_ways, eq-eqb, eqb-true, not-true}
@@ -12,7 +12,7 @@ use Rattle.nf_defs.specs.Prelude.{item_row, node_row, Tables}
 use Rattle.nf_words.proofs.Found.{found_has}
 use Rattle.nf_words.proofs.Known.{IsItem, KnownGoes}
 use Rattle.nf_words.proofs.Trashing.{Distinct, gone_has, heads, item_is, of_user, tails, user_goes, user_once}
-use Rattle.nf_words.specs.Prelude.{AreSound, gone_from, IsItemSound, items_of, owners_of, quota_of}
+use Rattle.nf_words.specs.Prelude.{AreSound, gone_from, gone_with, item_for, IsItemSound, items_of, owners_of, quota_of}
 
 some_there : {X : Type 0} (o : Option X) → is_some o ≡ true → (x : X) × (o ≡ Some x)
 some_there None is = absurd (cc)
@@ -43,11 +43,11 @@ owners_once (item ∷ items) =
 
 module _ (t : Tables) (sound : AreSound t) where
   -- the node is that of an item of the user's
-  abbrev IsOf : ℕ → ℕ → Type 0
+  abbrev pub IsOf : ℕ → ℕ → Type 0
   IsOf user node = (item : ItemRow) × (item_row t.items node ≡ Some item) × (item.owner ≡ user)
 
   -- each item of a user's is that user's
-  owned : (user : ℕ) → All (λ (item : ItemRow). IsOf user item.node) (items_of t user)
+  pub owned : (user : ℕ) → All (λ (item : ItemRow). IsOf user item.node) (items_of t user)
   owned user k d within =
       let item = get_or (items_of t user) k d in
       let mine = eqb-true item.owner user (filter_passes (λ (item : ItemRow). item.owner == user) t.items k d within) in
@@ -90,3 +90,20 @@ module _ (t : Tables) (sound : AreSound t) where
 
   pub swept_goes : (now : ℕ) → KnownGoes t (flat_map (gone_from t now) (owners_of t.items))
   swept_goes now = record { items = all_items now (owners_of t.items); once = all_once now (owners_of t.items) (owners_once t.items) }
+
+  -- of what goes with a node that leaves its place, all but the node are of its owner's items
+  pub rest_owned : (now : ℕ) (row : NodeRow) → All (IsOf row.owner) (filter (λ node. not (node == row.id)) (gone_with t now row))
+  rest_owned now row k d within =
+      let off : ℕ → Bool = λ node. not (node == row.id) in
+      let node = get_or (filter off (gone_with t now row)) k d in
+      let either =
+      All-filter off (λ (node : ℕ). (node ≡ row.id) ⊎ IsOf row.owner node) (gone_with t now row)
+      (gone_has (λ (node : ℕ). (node ≡ row.id) ⊎ IsOf row.owner node) t now (quota_of t row.owner) (item_for now row ∷ items_of t row.owner)
+      (All-cons (λ (item : ItemRow). (item.node ≡ row.id) ⊎ IsOf row.owner item.node) (item_for now row) (items_of t row.owner) (inl refl)
+      (All-weaker (λ (item : ItemRow). IsOf row.owner item.node) (λ (item : ItemRow). (item.node ≡ row.id) ⊎ IsOf row.owner item.node) (λ item is. inr is)
+      (items_of t row.owner) (owned row.owner))))
+      k d within in
+      elim either [
+        | inl same ↦ absurd (both_ways (node == row.id) (not-true (node == row.id) (filter_passes off (gone_with t now row) k d within)) (eq-eqb node row.id same))
+        | inr is ↦ is
+      ]
