@@ -21,10 +21,10 @@ use Rattle.nf_laws.proofs.Gone.{left_leads, row_left}
 use Rattle.nf_laws.proofs.Left.{discard_left, Left}
 use Rattle.nf_laws.proofs.Mirrored.{mirrored}
 use Rattle.nf_laws.proofs.Moved.{deep_below, Fits, relinked_sound, same_owner}
-use Rattle.nf_laws.proofs.Others.{item_other, items_all}
+use Rattle.nf_laws.proofs.Others.{item_other, items_all, stamp_sound}
 use Rattle.nf_laws.proofs.Peopled.{people_sound}
 use Rattle.nf_laws.proofs.Present.{kept_leads, never_trash}
-use Rattle.nf_laws.proofs.Rows.{kept_joined, row_is}
+use Rattle.nf_laws.proofs.Rows.{kept_joined, row_is, stamp}
 use Rattle.nf_laws.proofs.Trashed.{discarded_sound, Goes, item_put, item_top, purged_sound, restored_fits}
 use Rattle.nf_laws.proofs.Walked.{walks_take}
 use Rattle.nf_laws.proofs.Upwards.{climbs_is_under}
@@ -100,6 +100,12 @@ pub deeds_have : (P : Tables → Type 0) (now : ℕ)
 deeds_have P now keeps t [] sound at turn has = has
 deeds_have P now keeps t (one ∷ deeds) sound at turn has =
     deeds_have P now keeps (deed_done t one) deeds (fit_sound t now one sound at turn.0) (deed_moment t one ∙ at) turn.1 (keeps t one sound at turn.0 has)
+
+-- what each deed keeps of a property of tables, known or not, all of them keep
+pub deeds_keep : (P : Tables → Type 0) → ((u : Tables) (one : Deed) → P u → P (deed_done u one)) → (t : Tables) (deeds : List Deed) → P t
+    → P (deeds_done t deeds)
+deeds_keep P keeps t [] has = has
+deeds_keep P keeps t (one ∷ deeds) has = deeds_keep P keeps (deed_done t one) deeds (keeps t one has)
 
 pub deeds_sound : (t : Tables) (now : ℕ) (deeds : List Deed) → AreSound t → t.meta.last ≡ now → InTurn t now deeds → AreSound (deeds_done t deeds)
 deeds_sound t now deeds sound at turn =
@@ -510,3 +516,82 @@ in_turn t now deeds sound at (by_requoting row gone known goes) =
 in_turn t now deeds sound at (by_moving transfer name known) = moves_turn t now transfer name sound at known
 in_turn t now deeds sound at (by_copying transfer name known) = copies_turn t now transfer name sound at known
 in_turn t now deeds sound at (by_crossing transfer name known) = crosses_turn t now transfer name sound at known
+
+-- ---- at the moment of the step
+
+-- what is known of a step is known whatever moment is stamped
+leaving_stamped : (t : Tables) (moment : ℕ) (row : NodeRow) → KnownLeaving t row → KnownLeaving (stamp t moment) row
+leaving_stamped t moment row k = record {
+  there = k.there;
+  no_root = k.no_root;
+  folder = k.folder;
+  inside = k.inside;
+  present = k.present;
+}
+
+goes_stamped : (t : Tables) (moment : ℕ) (nodes : List ℕ) → KnownGoes t nodes → KnownGoes (stamp t moment) nodes
+goes_stamped t moment nodes k = record { items = k.items; once = k.once }
+
+transfer_stamped : (t : Tables) (moment : ℕ) (transfer : Transfer) (name : List ℕ) → KnownTransfer t transfer name
+    → KnownTransfer (stamp t moment) transfer name
+transfer_stamped t moment transfer name k = record {
+  source = k.source;
+  no_root = k.no_root;
+  present = k.present;
+  in_folder = k.in_folder;
+  folder_present = k.folder_present;
+  there = k.there;
+  unmounted = k.unmounted;
+  differs = k.differs;
+  outside = k.outside;
+  apart = k.apart;
+  deep = k.deep;
+}
+
+copies_stamped : (t : Tables) (moment : ℕ) (transfer : Transfer) (name : List ℕ) → KnownCopies t transfer name → KnownCopies (stamp t moment) transfer name
+copies_stamped t moment transfer name k = record {
+  known = transfer_stamped t moment transfer name k.known;
+  nodes = k.nodes;
+  next_node = k.next_node;
+  pieces = k.pieces;
+  next_blob = k.next_blob;
+}
+
+known_stamped : (t : Tables) (now moment : ℕ) (deeds : List Deed) → KnownDeeds t now deeds → KnownDeeds (stamp t moment) now deeds
+known_stamped t now moment deeds (by_going nodes goes) = by_going nodes (goes_stamped t moment nodes goes)
+known_stamped t now moment deeds (by_leaving row k) = by_leaving row (leaving_stamped t moment row k)
+known_stamped t now moment deeds (by_restoring node folder name gone k goes others) =
+    by_restoring node folder name gone (record { item = k.item; there = k.there; home = k.home; named = k.named; deep = k.deep })
+    (goes_stamped t moment gone goes) others
+known_stamped t now moment deeds (by_requoting row gone k goes) =
+    by_requoting row gone (record { old = k.old; there = k.there; same = k.same; other = k.other }) (goes_stamped t moment gone goes)
+known_stamped t now moment deeds (by_moving transfer name k) =
+    by_moving transfer name (record { known = transfer_stamped t moment transfer name k.known; within = k.within })
+known_stamped t now moment deeds (by_copying transfer name k) = by_copying transfer name (copies_stamped t moment transfer name k)
+known_stamped t now moment deeds (by_crossing transfer name k) =
+    by_crossing transfer name (record { copies = copies_stamped t moment transfer name k.copies; crosses = k.crosses })
+
+-- so a step's deeds are known in turn from the tables with its moment on
+pub step_turn : (t : Tables) (now : ℕ) (deeds : List Deed) → AreSound t → t.meta.last ≤ now → KnownDeeds t now deeds → InTurn (stamp t now) now deeds
+step_turn t now deeds sound later known = in_turn (stamp t now) now deeds (stamp_sound t now sound later) refl (known_stamped t now now deeds known)
+
+-- which may be stamped before or after
+deed_stamped : (t : Tables) (now : ℕ) (one : Deed) → deed_done (stamp t now) one ≡ stamp (deed_done t one) now
+deed_stamped t now (deed.Discard item) = refl
+deed_stamped t now (deed.Purge node) = refl
+deed_stamped t now (deed.Restore node folder name) = refl
+deed_stamped t now (deed.Relink node folder name) = refl
+deed_stamped t now (deed.Join rows) = refl
+deed_stamped t now (deed.Requote row) = refl
+
+pub deeds_stamped : (t : Tables) (now : ℕ) (deeds : List Deed) → deeds_done (stamp t now) deeds ≡ stamp (deeds_done t deeds) now
+deeds_stamped t now [] = refl
+deeds_stamped t now (one ∷ deeds) =
+    ap (λ (u : Tables). deeds_done u deeds) (deed_stamped t now one) ∙ deeds_stamped (deed_done t one) now deeds
+
+-- the tables after a step are sound
+pub step_sound : (t : Tables) (now : ℕ) (deeds : List Deed) → AreSound t → t.meta.last ≤ now → KnownDeeds t now deeds
+    → AreSound (stamp (deeds_done t deeds) now)
+step_sound t now deeds sound later known =
+    subst AreSound (deeds_stamped t now deeds)
+    (deeds_sound (stamp t now) now deeds (stamp_sound t now sound later) refl (step_turn t now deeds sound later known))
