@@ -166,7 +166,7 @@ impl State {
     {
         self.seen = moment;
         match event {
-            Event::Begin { .. } => {}
+            Event::Begin { .. } | Event::Sweep => {}
             Event::End(_) => free(&mut self.tickets, seat),
         }
     }

@@ -7,10 +7,10 @@ ghost use Rattle.nf_base.specs.declared.rows.NodeRow.{NodeRow};
 ghost use Rattle.nf_base.specs.declared.rows.Row.TheVariants as kinds;
 ghost use Rattle.nf_base.specs.declared.rows.MetaRow.{MetaRow};
 ghost use Rattle.nf_defs.specs.Prelude.{drop_row, dropped, item_key, made, node_key, node_row, put, put_all, rows_of};
-ghost use Rattle.nf_words.specs.Prelude.{above, blob_after, changed, cleared, counted, deed_done, discarded, ended_for, goal_of, joined, last_number, purged_all, removed, restored};
+ghost use Rattle.nf_words.specs.Prelude.{above, blob_after, changed, counted, deed_done, discarded, goal_of, joined, last_number, purged, restored};
 ghost use Rattle.nf_words.specs.declared.answer.Report.TheVariants.{Done};
 ghost use Rattle.nf_words.specs.declared.answer.Allowed.TheVariants as allowed;
-ghost use Rattle.nf_decide.specs.Current.{AreBorne, AreGiven, BearsAct, BearsChanges, BearsCopies, BearsDeed, BearsMove, BearsRestore, IsBorne, IsCounted, IsDroppedKey, IsNew, IsRefilled, LeadUpBehind, added_by, added_deed, added_of, does_nothing};
+ghost use Rattle.nf_decide.specs.Current.{AreBorne, AreGiven, BearsAct, BearsChanges, BearsCopies, BearsDeed, BearsDeeds, BearsRestore, IsBorne, IsCounted, IsDroppedKey, IsNew, IsRefilled, LeadUpBehind, added_by, added_deed, added_deeds, added_of};
 ghost use Rattle.nf_rules.specs.Ruled.{AreRuled};
 ghost use Rattle.nf_decide.specs.Counts.{FitsNodes, FitsRows, IsNoSmaller, only_nodes};
 
@@ -27,7 +27,7 @@ use nf_people::{People, PeopleRows};
 use nf_shares::Shares;
 use nf_table::{ItemKey, Table};
 use nf_tree::Tree;
-use nf_words::{Allowed, Deed, Goal, NodeRows, Ticket, Transfer};
+use nf_words::{Allowed, Deed, Deeds, Goal, NodeRows, Ticket};
 use std::alloc::{AllocError, Global};
 use std::marker::Model;
 
@@ -148,24 +148,8 @@ impl Tables {
                 self.change(moment, changes, blob);
                 None
             }
-            Allowed::Trash { deed, gone, .. } => {
-                self.trash(moment, deed, gone.ids());
-                None
-            }
-            Allowed::Move { transfer, name } => {
-                self.transfer(moment, &transfer, name);
-                None
-            }
-            Allowed::Copy { rows, replaced } => {
-                self.join(moment, rows, &replaced);
-                None
-            }
-            Allowed::Cross {
-                rows,
-                replaced,
-                node,
-            } => {
-                self.cross(moment, rows, &replaced, node);
+            Allowed::Deeds { deeds, .. } => {
+                self.perform_all(moment, deeds);
                 None
             }
         }
@@ -244,29 +228,34 @@ impl Tables {
         }
     }
 
-    /// Does a deed, and then takes out what goes for good.
-    fn trash(&mut self, moment: Moment, deed: Deed, gone: &[NodeId])
-        requires room { FitsRows self.old.tables self.old.room (added_deed deed) }
-        requires bears { BearsDeed self.old.tables deed }
-        ensures { self.new.tables ≡ changed self.old.tables moment (allowed.Trash deed gone.now Done) }
+    /// Does some deeds, one after the other. It takes no memory.
+    fn perform_all(&mut self, moment: Moment, deeds: Deeds)
+        requires room { FitsRows self.old.tables self.old.room (added_deeds deeds) }
+        requires bears { BearsDeeds self.old.tables deeds }
+        ensures { self.new.tables ≡ changed self.old.tables moment (allowed.Deeds deeds Done) }
     {
-        if does_nothing(&deed, gone) {
+        let deeds = deeds.into_vec();
+        if deeds.is_empty() {
             return;
         }
-        self.perform(deed);
-        self.purge_all(gone);
+        for deed in deeds {
+            self.perform(deed);
+        }
         self.stamp(moment);
     }
 
     fn perform(&mut self, deed: Deed)
         requires room { FitsRows self.old.tables self.old.room (added_deed deed) }
         requires bears { BearsDeed self.old.tables deed }
-        ensures { self.new.tables ≡ deed_done self.old.tables deed }
+        ensures tables { self.new.tables ≡ deed_done self.old.tables deed }
+        ensures room { IsNoSmaller self.old.room self.new.room }
     {
         match deed {
-            Deed::Nothing => {}
             Deed::Discard(item) => self.discard(item),
+            Deed::Purge(node) => self.purge(node),
             Deed::Restore { node, folder, name } => self.restore(node, folder, name),
+            Deed::Relink { node, folder, name } => self.tree.relink(node, folder, name),
+            Deed::Join(rows) => self.join(rows),
             Deed::Requote(row) => put_user(&mut self.people, row),
         }
     }
@@ -291,14 +280,13 @@ impl Tables {
         self.drop_item(node);
     }
 
-    /// Takes nodes out for good, one after the other, each with all under it and with its item.
-    fn purge_all(&mut self, nodes: &[NodeId])
-        ensures { self.new.tables ≡ purged_all self.old.tables nodes.now }
+    /// Takes out a node and all under it for good, with its item, and ends the shares there.
+    fn purge(&mut self, node: NodeId)
+        ensures { self.new.tables ≡ purged self.old.tables node }
     {
-        for node in nodes {
-            self.purge(*node);
-            self.drop_item(*node);
-        }
+        self.shares.end_under(&self.tree, node);
+        self.tree.purge(node);
+        self.drop_item(node);
     }
 
     /// Drops the item of a node, if there is one.
@@ -309,70 +297,14 @@ impl Tables {
         let _ = self.items.drop(&ItemKey { node });
     }
 
-    /// Puts a node into another folder, under that name. What is to be replaced there goes.
-    fn transfer(&mut self, moment: Moment, transfer: &Transfer, name: Name)
-        requires { BearsMove self.old.tables transfer.now name }
-        ensures { self.new.tables ≡ changed self.old.tables moment (allowed.Move transfer.now name) }
-    {
-        self.clear(&transfer.replaced);
-        self.tree.relink(transfer.node, transfer.folder, name);
-        self.stamp(moment);
-    }
-
-    /// Puts new nodes in, with the next numbers. What is to be replaced goes.
-    fn join(&mut self, moment: Moment, rows: NodeRows, replaced: &Option<NodeId>)
+    /// Puts new nodes in, with the next numbers.
+    fn join(&mut self, rows: NodeRows)
         requires room { FitsNodes self.old.tables self.old.room.nodes (length rows) }
         requires given { AreGiven self.old.tables }
-        requires bears { BearsCopies self.old.tables rows replaced.now }
-        ensures { self.new.tables ≡ changed self.old.tables moment (allowed.Copy rows replaced.now) }
+        requires bears { BearsCopies self.old.tables rows }
+        ensures { self.new.tables ≡ joined self.old.tables rows }
     {
-        if rows.rows().is_empty() && replaced.is_none() {
-            return;
-        }
-        self.enter(rows, replaced);
-        self.stamp(moment);
-    }
-
-    /// Puts new nodes in as a copy does, and takes out the one that they are of.
-    fn cross(&mut self, moment: Moment, rows: NodeRows, replaced: &Option<NodeId>, node: NodeId)
-        requires room { FitsNodes self.old.tables self.old.room.nodes (length rows) }
-        requires given { AreGiven self.old.tables }
-        requires bears { BearsCopies self.old.tables rows replaced.now }
-        ensures { self.new.tables ≡ changed self.old.tables moment (allowed.Cross rows replaced.now node) }
-    {
-        self.enter(rows, replaced);
-        self.purge(node);
-        self.stamp(moment);
-    }
-
-    /// Puts new nodes in; what is to be replaced goes.
-    fn enter(&mut self, rows: NodeRows, replaced: &Option<NodeId>)
-        requires room { FitsNodes self.old.tables self.old.room.nodes (length rows) }
-        requires given { AreGiven self.old.tables }
-        requires bears { BearsCopies self.old.tables rows replaced.now }
-        ensures { self.new.tables ≡ joined self.old.tables rows replaced.now }
-    {
-        self.clear(replaced);
         self.meta.next_node = add_all(&mut self.tree, self.meta.next_node, rows);
-    }
-
-    /// Takes out what has to go.
-    fn clear(&mut self, replaced: &Option<NodeId>)
-        ensures tables { self.new.tables ≡ record self.old.tables { nodes = cleared self.old.tables.nodes replaced.now; shares = ended_for self.old.tables.nodes replaced.now self.old.tables.shares } }
-        ensures room { self.new.room ≡ self.old.room }
-    {
-        if let Some(node) = *replaced {
-            self.purge(node);
-        }
-    }
-
-    /// Takes out a node and all under it, and ends the shares there.
-    fn purge(&mut self, node: NodeId)
-        ensures tables { self.new.tables ≡ removed self.old.tables node }
-        ensures room { self.new.room ≡ self.old.room }
-    {
-        self.shares.end_under(&self.tree, node);
-        self.tree.purge(node);
     }
 
     /// Records when a row was last changed.
@@ -393,16 +325,6 @@ impl Tables {
         push_shares(&mut list, self.shares.rows())?;
         push_mounted(&mut list, self.mounts.rows(), self.items.rows())?;
         Ok(list)
-    }
-}
-
-/// Whether nothing is done, and nothing goes.
-fn does_nothing(deed: &Deed, gone: &[NodeId]) -> bool
-    ensures { result ≡ does_nothing deed.now gone.now }
-{
-    match deed {
-        Deed::Nothing => gone.is_empty(),
-        Deed::Discard(_) | Deed::Restore { .. } | Deed::Requote(_) => false,
     }
 }
 

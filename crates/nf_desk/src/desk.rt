@@ -18,7 +18,7 @@ ghost use Rattle.nf_words.specs.declared.history.Outcome.TheVariants.{Body};
 use crate::first::{Opening, Unopened};
 use crate::loading::site_over;
 use crate::piece::piece_at;
-use crate::stepping::{begin, finish, store};
+use crate::stepping::{begin, finish, store, sweep};
 use nf_base::{Content, Digest, MAX_SEATS, Moment, RowList};
 use nf_keeper::{KeepFault, Keeper};
 use nf_site::Site;
@@ -112,6 +112,18 @@ impl<K: Keeper + Drop> Desk<K> {
             words,
             request,
         );
+        let _ = self.site.history();
+        answer
+    }
+
+    /// Has go what the trashes don't hold any more, at a reading of the clock.
+    pub fn sweep(&mut self, seat: u64, now: Moment) -> Answer
+        requires idle { held (book_at seat (shown K.Keeper self.old)) ≡ None }
+        ensures sweeps { SweepsTrash (book_at seat (shown K.Keeper self.old)) (book_at seat (shown K.Keeper self.new)) now result }
+        ensures turn { TakesTurn K.Keeper seat self.old self.new }
+    {
+        let _ = self.site.history();
+        let answer = sweep(self.alloc, &mut self.site, &mut self.keeper, seat, now);
         let _ = self.site.history();
         answer
     }

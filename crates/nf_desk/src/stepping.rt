@@ -32,16 +32,42 @@ pub(crate) fn begin<K: Keeper>(
     ensures { Asks seat (standing site.old.kept (K.told keeper.old) (K.faults keeper.old))
         (standing site.new.kept (K.told keeper.new) (K.faults keeper.new)) now words request result }
 {
+    start(
+        alloc,
+        site,
+        keeper,
+        seat,
+        now,
+        Event::Begin { words, request },
+    )
+}
+
+/// A sweep. Where the run has no room for it or there is no memory, nothing is done.
+pub(crate) fn sweep<K: Keeper>(
+    alloc: Global,
+    site: &mut Site,
+    keeper: &mut K,
+    seat: u64,
+    now: Moment,
+) -> Answer
+    requires { MayAsk site.old.kept.state seat Sweep }
+{
+    start(alloc, site, keeper, seat, now, Event::Sweep)
+}
+
+/// What a seat begins.
+fn start<K: Keeper>(
+    alloc: Global,
+    site: &mut Site,
+    keeper: &mut K,
+    seat: u64,
+    now: Moment,
+    event: Event,
+) -> Answer
+    requires { MayAsk site.old.kept.state seat event }
+{
     match site.room() {
-        Ok(()) => match step(
-            alloc,
-            site,
-            keeper,
-            seat,
-            now,
-            Event::Begin { words, request },
-            &[],
-        ) {
+        Ok(()) => match step(alloc, site, keeper, seat, now, event, &[]) {
             Ok(answer) => answer,
             Err(AllocError) => Err(Denial::Memory),
         },

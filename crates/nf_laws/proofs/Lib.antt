@@ -24,10 +24,13 @@ pub mod Given
 pub mod Going
 pub mod Gone
 pub mod Held
+pub mod Into
+pub mod InTurn
 pub mod Lines
 pub mod Links
 pub mod Leaning
 pub mod Leaving
+pub mod Left
 pub mod Lists
 pub mod Locking
 pub mod May

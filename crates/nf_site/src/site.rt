@@ -16,7 +16,7 @@ ghost use Rattle.nf_site.specs.declared.site.RoomFault.TheVariants.{Full};
 use crate::Plan;
 use crate::plan::{Deed, parted};
 use nf_base::{Changes, MAX_ENTRIES, Moment, RowList};
-use nf_decide::{Call, State, changes, decide_end};
+use nf_decide::{Call, State, changes, decide_end, swept};
 use nf_opening::{SiteFault, judge};
 use nf_words::{Allowed, Answer, Denial, Entry, Event, Mark, Outcome};
 use std::alloc::{AllocError, Global};
@@ -111,7 +111,7 @@ impl Site {
                 self.current.keeps_room();
                 return Ok(Plan::closing(alloc, seat, moment, event));
             }
-            Event::End(Outcome::Body { .. }) | Event::Begin { .. } => {}
+            Event::End(Outcome::Body { .. }) | Event::Begin { .. } | Event::Sweep => {}
         }
         let plan = self.plan_step(alloc, seat, moment, event)?;
         let added = plan.added(&self.current.view());
@@ -182,6 +182,7 @@ impl Site {
             }
             .decide(alloc),
             Event::End(outcome) => self.decide_end(alloc, seat, moment, outcome),
+            Event::Sweep => Ok(Ok(swept(alloc, &self.current.view(), moment)?)),
         }
     }
 

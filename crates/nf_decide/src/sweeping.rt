@@ -1,0 +1,38 @@
+//! What goes of the trash of all users where nobody asks for anything.
+
+ghost use Rattle.std.specs.Prelude.{◌≡◌, ◌==◌, ◌++◌, ◌∷◌, [], filter, not, IfOk, OnOk};
+ghost use Rattle.std.specs.List.{flat_map};
+ghost use Rattle.nf_words.specs.Prelude.{AreSound, gone_from, owners_of, swept};
+
+use crate::discarding::{done, gone_by, push_purges};
+use crate::quotas::quota_of;
+use crate::view::View;
+use nf_base::{ItemRow, Moment, UserId};
+use nf_words::{Allowed, Report};
+use std::alloc::{AllocError, Global};
+
+/// Of the trash of each user goes what it doesn't hold any more.
+pub fn swept(alloc: Global, view: &View<'_>, moment: Moment) -> Result<Allowed, AllocError>
+    requires { AreSound view.now.tables }
+    ensures { IfOk result (λ allowed. allowed ≡ swept view.now.tables moment) }
+{
+    let mut deeds = Vec::new(alloc);
+    for user in owners_of(alloc, view.items().rows())? {
+        let gone = gone_by(alloc, view, moment, quota_of(view, user), user)?;
+        push_purges(&mut deeds, &gone)?;
+    }
+    Ok(done(deeds, Report::Plain))
+}
+
+/// Whose items there are, each user once.
+fn owners_of(alloc: Global, items: &[ItemRow]) -> Result<Vec<UserId>, AllocError>
+    ensures { IfOk result (λ owners. owners.items ≡ owners_of items.now) }
+{
+    let mut owners: Vec<UserId> = Vec::new(alloc);
+    for item in items {
+        if !owners.contains(&item.owner) {
+            owners.push(item.owner)?;
+        }
+    }
+    Ok(owners)
+}
