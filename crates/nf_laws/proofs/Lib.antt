@@ -43,6 +43,7 @@ pub mod Opening
 pub mod Others
 pub mod Peopled
 pub mod Owned
+pub mod Parts
 pub mod Paths
 pub mod Presence
 pub mod Present

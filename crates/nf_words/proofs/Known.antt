@@ -12,7 +12,7 @@ use Rattle.nf_base.specs.declared.rows.UserRow.{UserRow}
 use Rattle.nf_defs.specs.Prelude.{child_of, content_of, is_folder, is_root, is_under, item_row, node_row, Tables, walk_of}
 use Rattle.nf_words.proofs.Fits.{KnownChange}
 use Rattle.nf_words.proofs.Ways.{HasRow}
-use Rattle.nf_words.specs.Prelude.{beside, besides, copies, crosses, deepest_in, discard, discards, home_of, IsHeld, IsRequoted, IsUnmounted, last_number, LeadsToRoot, MayStoreAt, moves, name_back, node_of_key, pieces_in, purges, stored_pieces}
+use Rattle.nf_words.specs.Prelude.{beside, copies, crosses, crossing, deepest_in, discard, home_of, IsHeld, IsRequoted, IsUnmounted, last_number, LeadsToRoot, MayStoreAt, moves, name_back, node_of_key, pieces_in, purges, stored_pieces}
 use Rattle.nf_words.specs.declared.answer.Allowed.{Allowed}
 use Rattle.nf_words.specs.declared.answer.Allowed.TheVariants as allowed
 use Rattle.nf_words.specs.declared.answer.By.{By}
@@ -108,8 +108,7 @@ pub data KnownDeeds (t : Tables) (now : ℕ) : List Deed → Type 0 where
   -- MOVE, COPY, and MOVE to another owner
   by_moving : (transfer : Transfer) (name : List ℕ) → KnownMove t transfer name → KnownDeeds t now (moves t now name transfer)
   by_copying : (transfer : Transfer) (name : List ℕ) → KnownCopies t transfer name → KnownDeeds t now (copies t now name transfer)
-  by_crossing : (transfer : Transfer) (name : List ℕ) → KnownCross t transfer name
-      → KnownDeeds t now (copies t now name transfer ++ (discards t now (Some transfer.node) ++ besides t now (Some transfer.node)))
+  by_crossing : (transfer : Transfer) (name : List ℕ) → KnownCross t transfer name → KnownDeeds t now (crossing t now name transfer)
 
 abbrev pub Known : Tables → ℕ → Allowed → Type 0
 Known t now (allowed.Get node content) = KnownServed t node content

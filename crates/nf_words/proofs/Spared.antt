@@ -31,7 +31,7 @@ use Rattle.nf_words.proofs.Passing.{place_passes, call_passes, no_key, not_refus
 use Rattle.nf_words.proofs.Starts.{has_asker, IsAsking}
 use Rattle.nf_words.proofs.Steps.{fails_each}
 use Rattle.nf_words.proofs.Transfers.{copies_known, replaced_leaves, row_leaves, transfer_known}
-use Rattle.nf_words.specs.Prelude.{access_of, AreApartHolds, AreKeysApart, AreSound, asked_by, asked_of, asked_of_trash, asker_of, beside, besides, blob_for, blocks, by_of, Call, call_decision, call_of, carry_limit, clashes, content_in, copied, copies, copies_to, copy_limit, crosses, decision_of, deepest_in, deleted, discard, discards, done, end_decision, ended_row, end_refusal, ends_at, ends_goal, found, given, goes_itself, gone_beside, gone_from, gone_of, HoldsFor, home_of, is_exclusive, is_member, IsNodeSound, IsSound, IsTicketSound, item_dropped, item_for, item_restored, items_of, joined_by, key_in_way, last_name, least, left_by, left_row, lesser, limited, listing_of, locked_rule, made_folder, makes, MayAsk, MayWant, membership, mount_left, mount_renamed, mounts_for, mounts_joined, moved, move_limit, moves, name_back, named_row, new_node, new_root, new_share, new_user, node_at, node_of_key, nothing_done, offered, owners_of, own_item, own_mount, people_changed, people_done, perms_after, pieces_in, places_of, purges, put_mounts, quota_of, refilled, requoted, restore_touches, root_of, row_at, row_named, same_end, same_key, served, set_row, shared, share_ended, share_made, share_set, share_shown, share_steered, share_told, source_touches, State, stored, stored_at, swept, target_touches, ticket_of, Touch, touched, touches, touch_key, touch_under, transfer_of, transfer_touches, trash_done, unfit_between, unreached, until_after, way_of, with_mount_row, without, without_ticket}
+use Rattle.nf_words.specs.Prelude.{access_of, AreApartHolds, AreKeysApart, AreSound, asked_by, asked_of, asked_of_trash, asker_of, beside, besides, blob_for, blocks, by_of, Call, call_decision, call_of, carry_limit, clashes, content_in, copied, copies, copies_to, copy_limit, crosses, crossing, decision_of, deepest_in, deleted, discard, discards, done, end_decision, ended_row, end_refusal, ends_at, ends_goal, found, given, goes_itself, gone_beside, gone_from, gone_of, HoldsFor, home_of, is_exclusive, is_member, IsNodeSound, IsSound, IsTicketSound, item_dropped, item_for, item_restored, items_of, joined_by, key_in_way, last_name, least, left_by, left_row, lesser, limited, listing_of, locked_rule, made_folder, makes, MayAsk, MayWant, membership, mount_left, mount_renamed, mounts_for, mounts_joined, moved, move_limit, moves, name_back, named_row, new_node, new_root, new_share, new_user, node_at, node_of_key, nothing_done, offered, owners_of, own_item, own_mount, people_changed, people_done, perms_after, pieces_in, places_of, purges, put_mounts, quota_of, refilled, requoted, restore_touches, root_of, row_at, row_named, same_end, same_key, served, set_row, shared, share_ended, share_made, share_set, share_shown, share_steered, share_told, source_touches, State, stored, stored_at, swept, target_touches, ticket_of, Touch, touched, touches, touch_key, touch_under, transfer_of, transfer_touches, trash_done, unfit_between, unreached, until_after, way_of, with_mount_row, without, without_ticket}
 use Rattle.nf_words.specs.declared.answer.Allowed.{Allowed}
 use Rattle.nf_words.specs.declared.answer.Allowed.TheVariants as allowed
 use Rattle.nf_words.specs.declared.answer.By.{By}
@@ -330,6 +330,9 @@ module _ (call : Call) (hold : Hold) (sound : AreSound call.state.tables) (is : 
       name : List ℕ
       name = last_name to
 
+      IsLeft : Deed → Type 0
+      IsLeft one = SparesDeed t call.now hold.key one
+
       is_known : KnownTransfer t transfer name
       is_known = known transfer refl few
 
@@ -339,17 +342,20 @@ module _ (call : Call) (hold : Hold) (sound : AreSound call.state.tables) (is : 
       target : SparesTarget t hold.key transfer name
       target = transfer_spared t hold Exclusive name transfer clear
 
-      here : (b : Bool) → All (SparesDeed t call.now hold.key) (if b
-          then copies t call.now name transfer ++ (discards t call.now (Some transfer.node) ++ besides t call.now (Some transfer.node))
-          else moves t call.now name transfer)
+      here : (b : Bool) → All (SparesDeed t call.now hold.key) (if b then crossing t call.now name transfer else moves t call.now name transfer)
       here false = replaced_spares transfer name (deed.Relink transfer.node transfer.folder name) is_known target (under, target.slot)
       here true =
-          All-append (SparesDeed t call.now hold.key) (copies t call.now name transfer)
-          (discards t call.now (Some transfer.node) ++ besides t call.now (Some transfer.node)) (copied_spares transfer name is_known target)
-          (All-append (SparesDeed t call.now hold.key) (discards t call.now (Some transfer.node)) (besides t call.now (Some transfer.node))
-          (discards_spare t call.now hold sound (Some transfer.node) under)
+          let joins : Deed = deed.Join (copies_to t call.now transfer name) in
+          let source : List Deed = discards t call.now (Some transfer.node) in
+          let first : List Deed = besides t call.now transfer.replaced in
+          let last : List Deed = besides t call.now (Some transfer.node) in
+          All-append IsLeft (discards t call.now transfer.replaced) (joins ∷ (source ++ (first ++ last)))
+          (discards_spare t call.now hold sound transfer.replaced target.replaced)
+          (All-cons IsLeft joins (source ++ (first ++ last)) (transfer, name, refl, target.slot)
+          (All-append IsLeft source (first ++ last) (discards_spare t call.now hold sound (Some transfer.node) under)
+          (All-append IsLeft first last (besides_spare t call.now hold sound transfer.replaced (replaced_leaves t sound transfer name is_known))
           (besides_spare t call.now hold sound (Some transfer.node)
-          (λ row there. row_leaves t row transfer.node there is_known.no_root is_known.present)))
+          (λ row there. row_leaves t row transfer.node there is_known.no_root is_known.present)))))
 
   move_spares : (from to : Spot) (b : Bool) → (way_of call from).itself ≡ b
       → (b ≡ false → unreached (access_of call.state) call (way_of call from) ≡ None)

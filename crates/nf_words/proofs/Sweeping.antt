@@ -22,7 +22,7 @@ abbrev AreOthers : ℕ → ℕ → Type 0
 AreOthers a b = a ≢ b
 
 -- two lists of different numbers that have none in common
-joined_once : (xs ys : List ℕ) → Distinct xs → Distinct ys → All (λ (x : ℕ). All (AreOthers x) ys) xs → Distinct (xs ++ ys)
+pub joined_once : (xs ys : List ℕ) → Distinct xs → Distinct ys → All (λ (x : ℕ). All (AreOthers x) ys) xs → Distinct (xs ++ ys)
 joined_once [] ys a b apart = b
 joined_once (x ∷ xs) ys a b apart =
     AllPairs-cons AreOthers x (xs ++ ys)

@@ -14,7 +14,7 @@ use Rattle.nf_words.proofs.Known.{Known, KnownCopies, KnownDeeds, KnownLeaving, 
 use Rattle.nf_words.proofs.Known.KnownDeeds.{by_copying, by_crossing, by_moving}
 use Rattle.nf_words.proofs.Starts.{IsAsking}
 use Rattle.nf_words.proofs.Ways.{at_in, folder_present, HasRow, inside_no_root, inside_present, node_present, present_inside, slot_known, slot_present, taken_unmounted, way_there}
-use Rattle.nf_words.specs.Prelude.{access_of, AreSound, besides, Call, carry_limit, copied, copies, copy_limit, crosses, deepest_in, discards, folder_at, folder_seen, found, is_off_mount, is_root_at, is_start, is_there, IsUnmounted, last_name, LeadsToRoot, misplaced, misplaced_by, moved, move_limit, moves, node_found, pieces_in, root_of, row_at, transfer_between, transfer_by, transfer_of, transfer_to, unfit_between, unreached, Way, way_of, Ways}
+use Rattle.nf_words.specs.Prelude.{access_of, AreSound, besides, Call, carry_limit, copied, copies, copy_limit, crosses, crossing, deepest_in, discards, folder_at, folder_seen, found, is_off_mount, is_root_at, is_start, is_there, IsUnmounted, last_name, LeadsToRoot, misplaced, misplaced_by, moved, move_limit, moves, node_found, pieces_in, root_of, row_at, transfer_between, transfer_by, transfer_of, transfer_to, unfit_between, unreached, Way, way_of, Ways}
 use Rattle.nf_words.specs.declared.answer.TargetFault.{TargetFault}
 use Rattle.nf_words.specs.declared.answer.TargetFault.TheVariants as target
 use Rattle.nf_words.specs.declared.request.Places.{Places}
@@ -220,9 +220,7 @@ module _ (call : Call) (source target : Spot) (sound : AreSound call.state.table
     where
       carried : (transfer : Transfer) (b : Bool) → crosses t.nodes transfer ≡ b → transfer_of t.nodes places ≡ Some transfer
           → (if b then copy_limit t transfer else move_limit t transfer) ≡ None
-          → KnownDeeds t call.now (if b
-          then copies t call.now (last_name target) transfer ++ (discards t call.now (Some transfer.node) ++ besides t call.now (Some transfer.node))
-          else moves t call.now (last_name target) transfer)
+          → KnownDeeds t call.now (if b then crossing t call.now (last_name target) transfer else moves t call.now (last_name target) transfer)
       carried transfer true across e some =
           by_crossing transfer (last_name target) (record { copies = copies_known transfer e fits some; crosses = across })
       carried transfer false across e some =

@@ -151,7 +151,8 @@ abbrev pub made_or_done : Option ℕ → Report
 made_or_done replaced = option_map_or (λ node. report.Done) replaced report.Made
 
 -- MOVE puts the node that is there, and COPY copies of it and of all under it, into the target's folder under the target's name. What
--- is replaced is put in the trash. What goes to another owner is copied there, and is then put in the trash of its owner
+-- is replaced is put in the trash. What goes to another owner is copied there, and is then put in the trash of its owner. What goes for
+-- good beside these goes last
 abbrev pub moves : Tables → ℕ → List ℕ → Transfer → List Deed
 moves t now name transfer =
     discards t now transfer.replaced ++ deed.Relink transfer.node transfer.folder name ∷ besides t now transfer.replaced
@@ -160,11 +161,14 @@ abbrev pub copies : Tables → ℕ → List ℕ → Transfer → List Deed
 copies t now name transfer =
     discards t now transfer.replaced ++ deed.Join (copies_to t now transfer name) ∷ besides t now transfer.replaced
 
+abbrev pub crossing : Tables → ℕ → List ℕ → Transfer → List Deed
+crossing t now name transfer =
+    discards t now transfer.replaced
+    ++ deed.Join (copies_to t now transfer name)
+    ∷ (discards t now (Some transfer.node) ++ (besides t now transfer.replaced ++ besides t now (Some transfer.node)))
+
 abbrev pub carries : Tables → ℕ → List ℕ → Transfer → List Deed
-carries t now name transfer =
-    if crosses t.nodes transfer
-    then copies t now name transfer ++ (discards t now (Some transfer.node) ++ besides t now (Some transfer.node))
-    else moves t now name transfer
+carries t now name transfer = if crosses t.nodes transfer then crossing t now name transfer else moves t now name transfer
 
 abbrev pub moved : Tables → ℕ → List ℕ → Option Transfer → Allowed
 moved t now name transfer =

@@ -3,7 +3,7 @@ pub use Rattle.nf_words.specs.Asked.{Asked, asked_about, asked_of, asked_of_tras
 pub use Rattle.nf_words.specs.Callers.{asks_by_link, is_caller, may_ask}
 unfoldable pub use Rattle.nf_words.specs.Callers.{not_you_rule, token_rule}
 pub use Rattle.nf_words.specs.Calls.{Call, Way, Ways, asked_by, asker_of, behind, caller_row, found, is_by_link, is_itself, is_mount_asked, is_one, last_name, link_of, linked_of, mount_for, mount_of, mounted, place_at, places_by, places_of, root_of, seeker_of, user_of, way_by, way_of, ways_for, ways_of}
-pub use Rattle.nf_words.specs.Changes.{above, allowed_of, altered, beside, besides, blob_after, blob_of, by_of, carries, changed, changes_of, copied, copies, counted, deleted, discard, discards, done, given, goal_of, goes_itself, gone_beside, gone_from, gone_with, hold_of, item_dropped, item_restored, left_row, made_folder, made_or_done, makes, meta_after, mount_left, mount_renamed, mounting, moved, moves, named_row, new_node, nothing_done, own_mount, people_done, purges, raised, refilled, reply_to, reported, requoted, row_at, same_end, served, set_row, share_ended, share_made, share_set, share_told, shared, shown, stamped, stored, swept, told, trash_done, with_goal, with_meta, with_mount_row}
+pub use Rattle.nf_words.specs.Changes.{above, allowed_of, altered, beside, besides, blob_after, blob_of, by_of, carries, changed, changes_of, copied, copies, counted, crossing, deleted, discard, discards, done, given, goal_of, goes_itself, gone_beside, gone_from, gone_with, hold_of, item_dropped, item_restored, left_row, made_folder, made_or_done, makes, meta_after, mount_left, mount_renamed, mounting, moved, moves, named_row, new_node, nothing_done, own_mount, people_done, purges, raised, refilled, reply_to, reported, requoted, row_at, same_end, served, set_row, share_ended, share_made, share_set, share_told, shared, shown, stamped, stored, swept, told, trash_done, with_goal, with_meta, with_mount_row}
 pub use Rattle.nf_words.specs.Charges.{carry_excess, copy_excess, counted_for, exceeded, excess, excess_at, is_over, quota_of, restore_excess}
 unfoldable pub use Rattle.nf_words.specs.Charges.{charge_of, quota_rule}
 pub use Rattle.nf_words.specs.Contents.{IsPieceSound, contents_of, row_content, stored_pieces}
