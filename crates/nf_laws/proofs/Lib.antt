@@ -1,3 +1,4 @@
+pub mod Acted
 pub mod Acting
 pub mod Added
 pub mod Affording
@@ -56,6 +57,7 @@ pub mod Reaching
 pub mod Reading
 pub mod Remaining
 pub mod Recharged
+pub mod Regions
 pub mod Replaced
 pub mod Restoring
 pub mod Rows
