@@ -2,7 +2,9 @@
 use Rattle.std.proofs.Common.{◌≡◌, ◌≢◌, ◌<◌, ◌≤◌, ◌⊎◌, ℕ, zero, suc, ◌+◌, ◌==◌, ◌||◌, Bool, true, false, List, [], ◌∷◌, Option, None, Some, get_or, map, option_map, unwrap_or, inl, inr, refl, sym, ap, subst, ◌∙◌, arith}
 use Rattle.std.specs.Prelude.{is_some}
 use Rattle.std.specs.List.{All, Contains}
-use Rattle.std.proofs.lemmas.Bool.{cases_lt, cond_both, false_from_ne_true, ne_eqb, or-true}
+use Rattle.std.proofs.lemmas.Bool.{cases_lt, cond_both, false_from_ne_true, ne_eqb}
+use Rattle.std.proofs.Math.Bool.{or-true}
+use Rattle.std.proofs.lemmas.Option.{option_and_then_some, same_Some}
 use Rattle.std.proofs.lemmas.List.Elements.{All-cons, All-contains, All-contains_itself, All-nil}
 use Rattle.nf_base.specs.declared.rows.ItemRow.{ItemRow}
 use Rattle.nf_base.specs.declared.rows.MetaRow.{MetaRow}
@@ -11,7 +13,7 @@ use Rattle.nf_base.specs.declared.rows.Place.{Place}
 use Rattle.nf_base.specs.declared.rows.Place.TheVariants.{Inside, Trash}
 use Rattle.nf_base.specs.declared.rows.ShareRow.{ShareRow}
 use Rattle.nf_defs.proofs.Climbs.{climb_under, under_climb}
-use Rattle.nf_defs.specs.Prelude.{folder_of, is_under, item_row, node_row, relinked, Tables}
+use Rattle.nf_defs.specs.Prelude.{climb, folder_of, is_under, item_row, node_row, parent_of, relinked, Tables}
 use Rattle.nf_defs.specs.Tree.{trashed}
 use Rattle.nf_laws.proofs.Climbs.{some_there}
 use Rattle.nf_laws.proofs.Ended.{any, are_ended, ended_twice}
@@ -31,7 +33,7 @@ use Rattle.nf_laws.proofs.Upwards.{climbed, derived}
 use Rattle.nf_laws.specs.Acts.{AreEnded, IsGoneWith, IsInTrash, IsUnderOne}
 use Rattle.nf_laws.specs.Tree.{Under}
 use Rattle.nf_words.proofs.Known.{IsItem, KnownLeaving}
-use Rattle.nf_words.proofs.Ways.{HasRow}
+use Rattle.nf_words.proofs.Ways.{HasRow, inside_there}
 use Rattle.nf_words.specs.Prelude.{AreSound, deed_done, discard, goes_itself, item_for, joined, LeadsToRoot}
 use Rattle.nf_words.specs.declared.answer.Deed.{Deed}
 use Rattle.nf_words.specs.declared.answer.Deed.TheVariants as deed
@@ -254,10 +256,21 @@ relink_acted t u now leave node folder name old sound acted fits present apart =
 abbrev pub IsNew : Tables → ℕ → Type 0
 IsNew t node = t.meta.next_node ≤ node
 
+-- what is present has a row
+present_row : (rows : List NodeRow) (node : ℕ) → LeadsToRoot rows node → HasRow rows node
+present_row rows node up = here up.steps up.climbs
+  where
+    here : (k : ℕ) → climb rows k node ≡ Some up.top → HasRow rows node
+    here zero is =
+        let root = root_there rows up.top up.root in
+        (root.0, ap (node_row rows) (same_Some node up.top is) ∙ root.1)
+    here (suc k) is =
+        option_and_then_some {P = HasRow rows node} (climb rows k) (parent_of rows node) up.top is (λ parent above rest. inside_there rows node parent above)
+
 -- what is under a node that is there has a number that was given
 given_below : (t : Tables) (top node : ℕ) → AreSound t → LeadsToRoot t.nodes top → Under t.nodes top node → node < t.meta.next_node
 given_below t top node sound present under =
-    let root = root_there t.nodes top present in
+    let root = present_row t.nodes top present in
     under_given t top node root.0 sound root.1 (under_is t top node sound under)
 
 pub join_acted : (t u : Tables) (now : ℕ) (leave : List ℕ) (rows : List NodeRow) → AreSound t → u.meta ≡ t.meta → u.meta.last ≡ now
