@@ -2,7 +2,7 @@
 use Rattle.std.proofs.Common.{◌≡◌, ◌≢◌, ◌<◌, ◌≤◌, ◌⊎◌, ℕ, zero, suc, ◌+◌, ◌==◌, ◌||◌, Bool, true, false, List, [], ◌∷◌, Option, None, Some, get_or, map, option_map, unwrap_or, inl, inr, refl, sym, ap, subst, ◌∙◌, arith}
 use Rattle.std.specs.Prelude.{is_some}
 use Rattle.std.specs.List.{All, Contains}
-use Rattle.std.proofs.lemmas.Bool.{cases_lt, cond_both, false_from_ne_true, ne_eqb}
+use Rattle.std.proofs.lemmas.Bool.{cases_Bool, cases_lt, cond_both, false_from_ne_true, ne_eqb}
 use Rattle.std.proofs.Math.Bool.{or-true}
 use Rattle.std.proofs.lemmas.Option.{option_and_then_some, same_Some}
 use Rattle.std.proofs.lemmas.List.Elements.{All-cons, All-contains, All-contains_itself, All-nil}
@@ -21,15 +21,16 @@ use Rattle.nf_laws.proofs.Going.{outside_is, present_off, under_is}
 use Rattle.nf_laws.proofs.Gone.{row_gone}
 use Rattle.nf_laws.proofs.InTurn.{fit_sound, item_outside, Joins}
 use Rattle.nf_laws.proofs.Left.{discarded_left, Left, purged_left}
-use Rattle.nf_laws.proofs.Moved.{below_leads, Fits, relinked_sound}
+use Rattle.nf_laws.proofs.Moved.{below_leads, Fits, outside_leads, relinked_sound}
 use Rattle.nf_laws.proofs.OneRow.{row_itself, row_other}
 use Rattle.nf_laws.proofs.Others.{item_other, unless_gone}
-use Rattle.nf_laws.proofs.Present.{root_there, trash_alone}
+use Rattle.nf_laws.proofs.Present.{kept_leads, root_there, trash_alone}
 use Rattle.nf_laws.proofs.Puts.{number_found, other_number, under_there}
 use Rattle.nf_laws.proofs.Regions.{joined_stays, left_stays, old_row, Stays, stays_same, stays_then, with_stays}
+use Rattle.nf_laws.proofs.Rows.{kept_joined}
 use Rattle.nf_laws.proofs.Sources.{under_given}
 use Rattle.nf_laws.proofs.Trashed.{item_top}
-use Rattle.nf_laws.proofs.Upwards.{climbed, derived}
+use Rattle.nf_laws.proofs.Upwards.{climbed, derived, never_climbs}
 use Rattle.nf_laws.specs.Acts.{AreEnded, IsGoneWith, IsInTrash, IsUnderOne}
 use Rattle.nf_laws.specs.Tree.{Under}
 use Rattle.nf_words.proofs.Known.{IsItem, KnownLeaving}
@@ -48,6 +49,7 @@ pub record Acted (t u : Tables) (now : ℕ) (leave : List ℕ) (IsPut : ℕ → 
   pub present : All (LeadsToRoot t.nodes) leave
   pub away : All (IsAway t u now) leave
   pub others : (node : ℕ) → (IsPut node → ⊥) → (IsUnderOne t.nodes leave node → ⊥) → node_row u.nodes node ≡ node_row t.nodes node
+  pub leads : (node : ℕ) → (IsUnderOne t.nodes leave node → ⊥) → LeadsToRoot t.nodes node → LeadsToRoot u.nodes node
   pub items : (node : ℕ) → (Contains leave node → ⊥) → item_row u.items node ≡ item_row t.items node
   -- the shares that are ended, by a test
   pub goes : ℕ → Bool
@@ -72,6 +74,7 @@ none_acted t now sound = record {
   present = All-nil (LeadsToRoot t.nodes);
   away = All-nil (IsAway t t now);
   others = λ node put off. refl;
+  leads = λ node off up. up;
   items = λ node off. refl;
   goes = λ node. false;
   ended = same_shares t.shares;
@@ -201,6 +204,8 @@ module _ (t v : Tables) (now : ℕ) (leave : List ℕ) (IsPut : ℕ → Type 0) 
     away = All-cons (IsAway t w now) row.id leave itself before;
     others = λ node put off.
         left.row node (not_under node (λ under. off (first node under))) ∙ acted.others node put (λ one. off (later node one));
+    leads = λ node off up.
+        left.leads node (not_under node (λ under. off (first node under))) (acted.leads node (λ one. off (later node one)) up);
     items = λ node off.
         item_off node (λ same. off (0, omega arith, sym same))
         ∙ acted.items node (λ among. off (suc among.0, omega (arith, among.1), among.2));
@@ -228,6 +233,7 @@ relink_acted t u now leave node folder name old sound acted fits present apart =
       away_on t u v now (get_or leave k d)
       (λ other under. same other (λ is. apart (subst (IsUnderOne t.nodes leave) is (get_or leave k d, All-contains_itself leave k d within, under)))) refl (acted.away k d within);
   others = λ other put off. same other put ∙ acted.others other (λ none. none) off;
+  leads = λ other off up. stays_up other (acted.leads other off up);
   items = acted.items;
   goes = acted.goes;
   ended = acted.ended;
@@ -246,6 +252,13 @@ relink_acted t u now leave node folder name old sound acted fits present apart =
 
     fine : AreSound v
     fine = relinked_sound u u.items node folder name old acted.sound fits
+
+    stays_up : (other : ℕ) → LeadsToRoot u.nodes other → LeadsToRoot v.nodes other
+    stays_up other up =
+        elim (cases_Bool (is_under u.nodes other node)) [
+          | inl under ↦ below_leads u u.items node folder name old acted.sound fits other under
+          | inr outside ↦ outside_leads u.nodes node (relinked folder name) (λ row. refl) other (never_climbs u other node acted.sound outside) up
+        ]
 
     same : (other : ℕ) → other ≢ node → node_row v.nodes other ≡ node_row u.nodes other
     same other others = row_other u.nodes node (relinked folder name) (λ row. refl) other (ne_eqb other node others)
@@ -282,6 +295,7 @@ join_acted t u now leave rows sound meta at acted joins = record {
       let top = get_or leave k d in
       away_on t u v now top (λ node under. same node (given_below t top node sound (acted.present k d within) under)) refl (acted.away k d within);
   others = λ node new off. same node (old node new) ∙ acted.others node (λ none. none) off;
+  leads = λ node off up. kept_leads u.nodes v.nodes node (kept_joined u.nodes rows) (acted.leads node off up);
   items = acted.items;
   goes = acted.goes;
   ended = acted.ended;
