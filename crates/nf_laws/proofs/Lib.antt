@@ -5,6 +5,7 @@ pub mod Affording
 pub mod Allowing
 pub mod Asking
 pub mod Blobs
+pub mod Carried
 pub mod Chained
 pub mod Charging
 pub mod Children
