@@ -1,26 +1,21 @@
--- No change of rows touches what is in the trash, and no deed that moves or copies what is present: the same rows are there afterwards, and
--- all others are present.
-use Rattle.std.proofs.Common.{ℕ, zero, suc, ◌+◌, ◌==◌, ◌&&◌, ◌≡◌, ◌<◌, ◌≤◌, Bool, true, false, not, List, [], ◌∷◌, ◌++◌, Option, None, Some, Ok, get_or, length, if◌then◌else◌, inl, inr, refl, sym, ap, subst, ◌∙◌, arith}
+-- No act but one with deeds changes what is in the trash: the same rows are there afterwards, and all others are present.
+use Rattle.std.proofs.Common.{ℕ, ◌+◌, ◌==◌, ◌&&◌, ◌≡◌, ◌≤◌, Bool, true, false, not, List, [], ◌∷◌, ◌++◌, Option, None, Some, Ok, get_or, if◌then◌else◌, inl, inr, refl, sym, ap, subst, ◌∙◌, arith}
 use Rattle.std.specs.Prelude.{is_some, sum_by}
 use Rattle.std.specs.List.{All}
 use Rattle.std.specs.Option.{option_and_then}
 use Rattle.std.proofs.lemmas.Bool.{and_cases, and_parts, both_ways, cases_Bool, false_from_ne_true, not-false, not-true, not_from_false}
 use Rattle.std.proofs.lemmas.List.{append-nil}
-use Rattle.std.proofs.lemmas.List.Elements.{All-append, All-cons, All-nil, All-weaker, filter-append}
+use Rattle.std.proofs.lemmas.List.Elements.{All-append, All-cons, All-nil, filter-append}
 use Rattle.std.proofs.lemmas.List.Filters.{sum_by-filter_both}
 use Rattle.nf_base.specs.declared.changes.Change.{Change}
 use Rattle.nf_base.specs.declared.rows.NodeRow.{NodeRow}
 use Rattle.nf_defs.proofs.Climbs.{under_climb}
-use Rattle.nf_defs.specs.Prelude.{filled, folder_of, is_present, is_root_place, is_under, node_row, relinked, Tables, with_node}
+use Rattle.nf_defs.specs.Prelude.{filled, folder_of, is_present, is_root_place, node_row, Tables, with_node}
 use Rattle.nf_laws.proofs.Added.{new_there}
 use Rattle.nf_laws.proofs.Charging.{sums_agree}
 use Rattle.nf_laws.proofs.Climbs.{climb_passes, climb_same, IsClosed, node_row_each, parent_at, row_of_those, some_there, those}
-use Rattle.nf_laws.proofs.Copied.{copies_numbered, copy_at, copy_in, copy_there}
-use Rattle.nf_laws.proofs.Crossed.{none_pass}
 use Rattle.nf_laws.proofs.Entries.{entry_has}
-use Rattle.nf_laws.proofs.InTurn.{Joins}
 use Rattle.nf_laws.proofs.Lists.{nodes_have}
-use Rattle.nf_laws.proofs.Moved.{below_leads, Fits, outside_leads}
 use Rattle.nf_laws.proofs.OneRow.{filter_with, KeepsId, with_each}
 use Rattle.nf_laws.proofs.Presence.{leads_present, present_there}
 use Rattle.nf_laws.proofs.Present.{kept_leads, never_trash, root_leads}
@@ -28,10 +23,8 @@ use Rattle.nf_laws.proofs.Replaced.{kept_replaced}
 use Rattle.nf_laws.proofs.Rows.{AreKept, kept_joined, parent_there, row_id, row_is, stamped_has}
 use Rattle.nf_laws.proofs.Sizes.{weight}
 use Rattle.nf_laws.proofs.Stays.{sound_after}
-use Rattle.nf_laws.proofs.Upwards.{never_climbs}
 use Rattle.nf_laws.proofs.Weighing.{parts_sum}
 use Rattle.nf_laws.specs.Charges.{bytes_trashed, owned_bytes, trashed_bytes}
-use Rattle.nf_laws.specs.Transfers.{IsCopyOf}
 use Rattle.nf_laws.specs.Tree.{IsTrashed}
 use Rattle.nf_words.proofs.Ends.{known_change}
 use Rattle.nf_words.proofs.Fits.{KnownChange}
@@ -120,50 +113,36 @@ module _ (t : Tables) (sound : AreSound t) where
         let top = climb_passes gone t.nodes gone_closed up.0 node trash.top.id up.2 is in
         never_trash up.0 rows node trash.top.id trash.top present (climbs ∙ up.2) (row_same trash.top.id top ∙ trash.there) trash.place)
 
-    -- with more rows, which are present
-    more_kept : (more : List NodeRow) → All (λ (row : NodeRow). t.meta.next_node ≤ row.id) more
-        → All (λ (row : NodeRow). LeadsToRoot (rows ++ more) row.id) more → KeepsTrash t (rows ++ more)
-    more_kept more fresh up = record {
-      same =
-          filter-append (λ (row : NodeRow). gone row.id) rows more
-          ∙ ap (λ (others : List NodeRow). those gone rows ++ others)
-          (none_pass (λ (row : NodeRow). gone row.id) more (λ k d within. fresh_stays (get_or more k d).id (fresh k d within)))
-          ∙ append-nil (those gone rows) ∙ kept.same;
-      present = All-append (λ (row : NodeRow). gone row.id ≡ false → LeadsToRoot (rows ++ more) row.id) rows more
-          (All-weaker (λ (row : NodeRow). gone row.id ≡ false → LeadsToRoot rows row.id) (λ (row : NodeRow). gone row.id ≡ false → LeadsToRoot (rows ++ more) row.id)
-          (λ row present stays. kept_leads rows (rows ++ more) row.id (kept_joined rows more) (present stays)) rows kept.present)
-          (λ k d within stays. up k d within);
-    }
-
+    -- with a new row, which is present
     born_kept : (row : NodeRow) → t.meta.next_node ≤ row.id → LeadsToRoot (rows ++ row ∷ []) row.id → KeepsTrash t (rows ++ row ∷ [])
-    born_kept row fresh up =
-        more_kept (row ∷ [])
-        (All-cons (λ (row : NodeRow). t.meta.next_node ≤ row.id) row [] fresh (All-nil (λ (row : NodeRow). t.meta.next_node ≤ row.id)))
-        (All-cons Leads row [] up (All-nil Leads))
+    born_kept row fresh up = record {
+      same =
+          filter-append (λ (row : NodeRow). gone row.id) rows (row ∷ [])
+          ∙ ap (λ (more : List NodeRow). those gone rows ++ more) (simp (fresh_stays row.id fresh) refl)
+          ∙ append-nil (those gone rows) ∙ kept.same;
+      present = All-append Leads rows (row ∷ [])
+          (λ k d within stays. kept_leads rows (rows ++ row ∷ []) (get_or rows k d).id (kept_joined rows (row ∷ [])) (kept.present k d within stays))
+          (All-cons Leads row [] (λ stays. up) (All-nil Leads));
+    }
       where
         Leads : NodeRow → Type 0
-        Leads new = LeadsToRoot (rows ++ row ∷ []) new.id
+        Leads one = gone one.id ≡ false → LeadsToRoot (rows ++ row ∷ []) one.id
 
-    -- with another row of what is present, where all else that is present stays so
-    with_kept : (node : ℕ) (change : NodeRow → NodeRow) → KeepsId change → LeadsToRoot rows node
-        → All (λ (row : NodeRow). gone row.id ≡ false → LeadsToRoot (with_node rows node change) row.id) rows → KeepsTrash t (with_node rows node change)
-    with_kept node change keeps up present =
-        let made = with_node rows node change in
-        record {
-          same = filter_with (λ (row : NodeRow). gone row.id) rows node change
-              (λ row is.
-              let stays = ap gone (row_id rows node row is) ∙ present_stays node up in
-              (stays, ap gone (keeps row) ∙ stays)) ∙ kept.same;
-          present = with_each (λ (row : NodeRow). gone row.id ≡ false → LeadsToRoot made row.id)
-              (λ (row : NodeRow). gone row.id ≡ false → LeadsToRoot made row.id) rows node change (λ row h. h)
-              (λ row is. subst (λ (n : ℕ). gone n ≡ false → LeadsToRoot made n) (sym (keeps row))) present;
-        }
-
+    -- with another row of what is present, where each node keeps its place
     filled_kept : (node : ℕ) (change : NodeRow → NodeRow) → KeepsId change → LeadsToRoot rows node → AreKept rows (with_node rows node change)
         → KeepsTrash t (with_node rows node change)
-    filled_kept node change keeps up same =
-        with_kept node change keeps up
-        (λ k d within stays. kept_leads rows (with_node rows node change) (get_or rows k d).id same (kept.present k d within stays))
+    filled_kept node change keeps up same = record {
+      same = filter_with (λ (row : NodeRow). gone row.id) rows node change
+          (λ row is.
+          let stays = ap gone (row_id rows node row is) ∙ present_stays node up in
+          (stays, ap gone (keeps row) ∙ stays)) ∙ kept.same;
+      present = with_each Leads Leads rows node change (λ row h. h)
+          (λ row is. subst (λ (n : ℕ). gone n ≡ false → LeadsToRoot (with_node rows node change) n) (sym (keeps row)))
+          (λ k d within stays. kept_leads rows (with_node rows node change) (get_or rows k d).id same (kept.present k d within stays));
+    }
+      where
+        Leads : NodeRow → Type 0
+        Leads row = gone row.id ≡ false → LeadsToRoot (with_node rows node change) row.id
 
   -- just what isn't present in sound tables that keep it is in the trash
   gone_is : (made : Tables) → AreSound made → KeepsTrash t made.nodes
@@ -225,62 +204,8 @@ changes_kept t now changes blob report sound known =
     (rw (new_there u.nodes root it.1.newest_node) (ap is_root_place it.1.place))))
     (all_kept t sound)
 
--- ---- deeds that don't touch the trash
+-- ---- acts without deeds
 
--- what is present is in another folder
-pub relinked_kept : (t : Tables) (node folder : ℕ) (name : List ℕ) (old : NodeRow) → AreSound t → Fits t t.items node folder name old
-    → LeadsToRoot t.nodes node → KeepsTrash t (with_node t.nodes node (relinked folder name))
-relinked_kept t node folder name old sound fits up =
-    with_kept t sound t.nodes kept node (relinked folder name) (λ row. refl) up
-    (λ k d within stays. leads (get_or t.nodes k d).id (kept.present k d within stays))
-  where
-    kept : KeepsTrash t t.nodes
-    kept = all_kept t sound
-
-    leads : (other : ℕ) → LeadsToRoot t.nodes other → LeadsToRoot (with_node t.nodes node (relinked folder name)) other
-    leads other present =
-        elim (cases_Bool (is_under t.nodes other node)) [
-          | inl under ↦ below_leads t t.items node folder name old sound fits other under
-          | inr outside ↦ outside_leads t.nodes node (relinked folder name) (λ row. refl) other (never_climbs t other node sound outside) present
-        ]
-
-module _ (t : Tables) (now : ℕ) (rows : List NodeRow) (sound : AreSound t) (joins : Joins t now rows) where
-  abbrev with_copies : List NodeRow
-  with_copies = t.nodes ++ rows
-
-  abbrev folder : ℕ
-  folder = joins.transfer.folder
-
-  copy : (k : ℕ) (d : NodeRow) → k < length rows → IsCopyOf t now joins.transfer joins.name k (get_or rows k d)
-  copy = copy_at t now joins.transfer joins.name rows joins.mirrors
-
-  there : (d : NodeRow) (k : ℕ) → k < length rows → node_row with_copies (t.meta.next_node + k) ≡ Some (get_or rows k d)
-  there = copy_there t now joins.transfer joins.name rows joins.mirrors sound joins.known joins.alone
-
-  -- each copy is in the folder, or in one before it
-  copy_leads : (d : NodeRow) (m k : ℕ) → k < m → k < length rows → LeadsToRoot with_copies (t.meta.next_node + k)
-  copy_leads d zero k before within = absurd (omega arith)
-  copy_leads d (suc m) zero before within =
-      let node = t.meta.next_node + 0 in
-      inside_present with_copies node folder (parent_at with_copies node folder (get_or rows 0 d) (there d 0 within) (copy 0 d within).placed.0)
-      (kept_leads t.nodes with_copies folder (kept_joined t.nodes rows) joins.known.folder_present)
-  copy_leads d (suc m) (suc k) before within =
-      let c = copy_in t now joins.transfer joins.name rows joins.mirrors sound k d within in
-      let node = t.meta.next_node + suc k in
-      let above = t.meta.next_node + c.at in
-      inside_present with_copies node above (parent_at with_copies node above (get_or rows (suc k) d) (there d (suc k) within) c.place)
-      (copy_leads d m c.at (omega (arith, c.before)) (omega (arith, c.before)))
-
-  -- so with copies it is kept
-  pub joined_kept : KeepsTrash t with_copies
-  joined_kept =
-      more_kept t sound t.nodes (all_kept t sound) rows
-      (λ k d within. (copies_numbered t now joins.transfer joins.name rows joins.mirrors k d within).0)
-      (λ k d within. subst (LeadsToRoot with_copies) (sym (copy k d within).id) (copy_leads d (suc k) k (omega arith) within))
-
--- ---- every act without deeds
-
--- where it is of rows, or of nothing
 abbrev pub IsOther : Allowed → Type 0
 IsOther (allowed.Deeds deeds report) = ⊥
 IsOther act = Unit {0}
