@@ -13,7 +13,7 @@ use Rattle.nf_defs.specs.Prelude.{climb, is_under, node_row, owner_of, parent_of
 use Rattle.nf_laws.proofs.Acted.{Acted, IsNew, join_acted, leave_acted, none_acted, NoNode, relink_acted}
 use Rattle.nf_laws.proofs.Copied.{copies_there}
 use Rattle.nf_laws.proofs.Going.{under_is}
-use Rattle.nf_laws.proofs.InTurn.{joined_here, joined_into, Joins, joins_here, joins_into, move_fits, none_replaced, replaced_is}
+use Rattle.nf_laws.proofs.InTurn.{Fit, joined_here, joined_into, Joins, joins_here, joins_into, leaving_fit, move_fits, none_replaced, replaced_is}
 use Rattle.nf_laws.proofs.Into.{folder_out, into, known_into, source_out}
 use Rattle.nf_laws.proofs.Left.{discard_left, leaving_left, Left}
 use Rattle.nf_laws.proofs.Mirrored.{mirrored}
@@ -43,6 +43,7 @@ pub record Kind (t : Tables) (now : ℕ) (deeds : List Deed) (leave : List ℕ) 
   pub more : List Deed
   pub gone : List ℕ
   pub are : deeds ≡ one ∷ more ++ purges gone
+  pub fit : Fit t now one
   pub acted : Acted t (deeds_done t (one ∷ more)) now leave IsPut
   pub put : Put (deeds_done t (one ∷ more))
   pub goes : KnownGoes t gone
@@ -75,7 +76,7 @@ head node nodes = (0, omega arith, refl)
 none_under : (rows : List NodeRow) (node : ℕ) → IsUnderOne rows [] node → ⊥
 none_under rows node one = absurd (omega (arith, one.1.1))
 
-under_alone : (rows : List NodeRow) (top node : ℕ) → IsUnderOne rows (top ∷ []) node → Under rows top node
+pub under_alone : (rows : List NodeRow) (top node : ℕ) → IsUnderOne rows (top ∷ []) node → Under rows top node
 under_alone rows top node (other, (zero, within, is), under) = subst (λ (n : ℕ). Under rows n node) (sym is) under
 under_alone rows top node (other, (suc k, within, is), under) = absurd (omega (arith, within))
 
@@ -115,6 +116,7 @@ module _ (t : Tables) (now : ℕ) (sound : AreSound t) (at : t.meta.last ≡ now
     more = [];
     gone = rest_of t now row;
     are = refl;
+    fit = leaving_fit t t now row known;
     acted = left_acted row known;
     put = tt;
     goes = rest_goes t sound now row known;
@@ -131,6 +133,32 @@ module _ (t : Tables) (now : ℕ) (sound : AreSound t) (at : t.meta.last ≡ now
 
     replaced_alone : (row : NodeRow) → row_at t transfer.replaced ≡ Some row → replaced_by transfer ≡ row.id ∷ []
     replaced_alone row e = ap (λ (o : Option ℕ). option_map_or (λ node. node ∷ []) o []) (replaced_is t transfer.replaced row e)
+
+    -- what is replaced isn't under the source
+    pub target_apart : (top : ℕ) → transfer.replaced ≡ Some top → is_under t.nodes top transfer.node ≡ false
+    target_apart top is = false_from_ne_true (is_under t.nodes top transfer.node) (λ under.
+        let c = under_climb t.nodes top transfer.node under in
+        up c.0 (child_parent t.nodes transfer.folder name top sound.rising (known.there ∙ is)) c.2)
+      where
+        up : (k : ℕ) → parent_of t.nodes top ≡ Some transfer.folder → climb t.nodes k top ≡ Some transfer.node → ⊥
+        up zero above climbs =
+            both_ways (is_under t.nodes transfer.node top)
+            (sym (ap (λ (o : Option ℕ). option_map_or (λ node. is_under t.nodes transfer.node node) o false) is) ∙ known.apart)
+            (climb_under 0 t.nodes transfer.node top (omega arith) (sym climbs))
+        up (suc k) above climbs =
+            never_climbs t transfer.folder transfer.node sound known.outside k (sym (ap (option_and_then (climb t.nodes k)) above) ∙ climbs)
+
+    -- so nothing that is under the source is under it
+    pub source_apart : (node : ℕ) → Under t.nodes transfer.node node → IsUnderOne t.nodes (replaced_by transfer) node → ⊥
+    source_apart node under one = here transfer.replaced refl one
+      where
+        here : (o : Option ℕ) → transfer.replaced ≡ o → IsUnderOne t.nodes (option_map_or (λ node. node ∷ []) o []) node → ⊥
+        here None e one = none_under t.nodes node one
+        here (Some top) e one =
+            both_ways (is_under t.nodes node top)
+            (none_under_both t transfer.node top node sound
+            (sym (ap (λ (o : Option ℕ). option_map_or (λ node. is_under t.nodes transfer.node node) o false) e) ∙ known.apart) (target_apart top e) under)
+            (under_is t top node sound (under_alone t.nodes top node one))
 
     replaced_none : row_at t transfer.replaced ≡ None → replaced_by transfer ≡ []
     replaced_none e = ap (λ (o : Option ℕ). option_map_or (λ node. node ∷ []) o []) (none_replaced t transfer name sound known e)
@@ -149,15 +177,18 @@ module _ (t : Tables) (now : ℕ) (sound : AreSound t) (at : t.meta.last ≡ now
           → Kind t now (option_map_or (λ row. discard t now row ∷ []) o [] ++ relinks ∷ option_map_or (beside t now) o []) (replaced_by transfer)
           (λ node. node ≡ transfer.node) (IsRelinked t transfer name) t.meta
       here None e =
+          let fits =
+          move_fits t transfer name own.0 sound move.known (none_replaced t transfer name sound move.known e) own.1
+          (same_owner t.nodes transfer own.0 move.within own.1) in
           subst (λ (leave : List ℕ). Kind t now (relinks ∷ []) leave (λ node. node ≡ transfer.node) (IsRelinked t transfer name) t.meta)
           (sym (replaced_none transfer name move.known e)) (record {
             one = relinks;
             more = [];
             gone = [];
             are = refl;
+            fit = (own.0, fits);
             acted = relink_acted t t now [] transfer.node transfer.folder name own.0 sound (none_acted t now sound)
-                (move_fits t transfer name own.0 sound move.known (none_replaced t transfer name sound move.known e) own.1
-                (same_owner t.nodes transfer own.0 move.within own.1)) move.known.present (none_under t.nodes transfer.node);
+                fits move.known.present (none_under t.nodes transfer.node);
             put = relinked_there t t transfer name refl;
             goes = no_goes t;
             beside = All-nil (IsBeside t []);
@@ -177,6 +208,7 @@ module _ (t : Tables) (now : ℕ) (sound : AreSound t) (at : t.meta.last ≡ now
             more = relinks ∷ [];
             gone = rest_of t now row;
             are = refl;
+            fit = leaving_fit t t now row leaves;
             acted = relink_acted t u now (row.id ∷ []) transfer.node transfer.folder name own.0 sound (left_acted row leaves)
                 (move_fits u (into transfer) name own.0 left.sound (known_into t u row.id sound left transfer name move.known is) refl (source ∙ own.1)
                 (ap (λ (o : Option NodeRow). option_map_or (λ row. row.owner) o 0) folder ∙ same_owner t.nodes transfer own.0 move.within own.1))
@@ -204,14 +236,15 @@ module _ (t : Tables) (now : ℕ) (sound : AreSound t) (at : t.meta.last ≡ now
           → Kind t now (option_map_or (λ row. discard t now row ∷ []) o [] ++ deed.Join rows ∷ option_map_or (beside t now) o []) (replaced_by transfer)
           (IsNew t) (AreJoined t rows) (meta_with rows)
       here None e =
+          let joins = joins_here t now transfer name sound (none_replaced t transfer name sound known.known e) known in
           subst (λ (leave : List ℕ). Kind t now (deed.Join rows ∷ []) leave (IsNew t) (AreJoined t rows) (meta_with rows)) (sym (replaced_none transfer name known.known e)) (record {
             one = deed.Join rows;
             more = [];
             gone = [];
             are = refl;
-            acted = join_acted t t now [] rows sound refl at (none_acted t now sound)
-                (joins_here t now transfer name sound (none_replaced t transfer name sound known.known e) known);
-            put = copies_joined t t now rows sound refl (joins_here t now transfer name sound (none_replaced t transfer name sound known.known e) known);
+            fit = joins;
+            acted = join_acted t t now [] rows sound refl at (none_acted t now sound) joins;
+            put = copies_joined t t now rows sound refl joins;
             goes = no_goes t;
             beside = All-nil (IsBeside t []);
             rest = refl;
@@ -227,6 +260,7 @@ module _ (t : Tables) (now : ℕ) (sound : AreSound t) (at : t.meta.last ≡ now
             more = deed.Join rows ∷ [];
             gone = rest_of t now row;
             are = refl;
+            fit = leaving_fit t t now row leaves;
             acted = join_acted t u now (row.id ∷ []) rows sound left.meta (ap (λ (meta : MetaRow). meta.last) left.meta ∙ at) (left_acted row leaves)
                 (joins_into t now transfer name u row.id sound left is known);
             put = copies_joined t u now rows left.sound left.meta (joins_into t now transfer name u row.id sound left is known);
@@ -255,22 +289,6 @@ module _ (t : Tables) (now : ℕ) (sound : AreSound t) (at : t.meta.last ≡ now
 
     folder_apart : is_under t.nodes transfer.folder from.id ≡ false
     folder_apart = ap (is_under t.nodes transfer.folder) same ∙ moves_over.outside
-
-    -- what is replaced isn't under the source
-    replaced_apart : (row : NodeRow) → row_at t transfer.replaced ≡ Some row → is_under t.nodes row.id from.id ≡ false
-    replaced_apart row e =
-        let above : parent_of t.nodes row.id ≡ Some transfer.folder =
-        child_parent t.nodes transfer.folder name row.id sound.rising (moves_over.there ∙ replaced_is t transfer.replaced row e) in
-        false_from_ne_true (is_under t.nodes row.id from.id) (λ under.
-        let c = under_climb t.nodes row.id from.id under in up row e above c.0 c.2)
-      where
-        up : (row : NodeRow) → row_at t transfer.replaced ≡ Some row → parent_of t.nodes row.id ≡ Some transfer.folder → (k : ℕ)
-            → climb t.nodes k row.id ≡ Some from.id → ⊥
-        up row e above zero is =
-            both_ways (is_under t.nodes from.id row.id) (ap (λ (n : ℕ). is_under t.nodes n row.id) same ∙ source_under transfer name moves_over row e)
-            (climb_under 0 t.nodes from.id row.id (omega arith) (sym is))
-        up row e above (suc k) is =
-            never_climbs t transfer.folder from.id sound folder_apart k (sym (ap (option_and_then (climb t.nodes k)) above) ∙ is)
 
     -- the copies aren't under the source
     copies_left : (v : Tables) → AreSound v → KnownLeaving v from → Stays t.nodes v.nodes from.id → AreJoined t rows v → now ≤ v.meta.last
@@ -338,6 +356,7 @@ module _ (t : Tables) (now : ℕ) (sound : AreSound t) (at : t.meta.last ≡ now
               more = discard t now from ∷ [];
               gone = rest_of t now from;
               are = refl;
+              fit = joins_here t now transfer name sound none cross.copies;
               acted = is.0;
               put = is.1;
               goes = rest_goes t sound now from leaving;
@@ -350,7 +369,7 @@ module _ (t : Tables) (now : ℕ) (sound : AreSound t) (at : t.meta.last ≡ now
             let left = discard_left t now row sound (omega (arith, at)) leaves in
             let is = replaced_is t transfer.replaced row e in
             let out : is_under t.nodes from.id row.id ≡ false = ap (λ (n : ℕ). is_under t.nodes n row.id) same ∙ source_out t u row.id sound left transfer name moves_over is in
-            let turned = replaced_apart row e in
+            let turned = ap (is_under t.nodes row.id) same ∙ target_apart transfer name moves_over row.id is in
             let region = left_stays t u row.id from.id sound left (from, leaving.there) out turned in
             let acts =
             crossed u (row.id ∷ []) left.meta (left_acted row leaves) region (leaves_in t u from (left.row from.id out) (left.leads from.id out) leaving)
@@ -367,6 +386,7 @@ module _ (t : Tables) (now : ℕ) (sound : AreSound t) (at : t.meta.last ≡ now
               gone = rest_of t now row ++ rest_of t now from;
               are = ap (λ (gone : List Deed). discard t now row ∷ deed.Join rows ∷ discard t now from ∷ gone)
                   (sym (map-append (λ (node : ℕ). deed.Purge node) (rest_of t now row) (rest_of t now from)));
+              fit = leaving_fit t t now row leaves;
               acted = acts.0;
               put = acts.1;
               goes = both_go t now transfer name sound at cross row e leaves;

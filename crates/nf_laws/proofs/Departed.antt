@@ -1,5 +1,5 @@
 -- What left its place in a step, and what goes for good beside it, row by row.
-use Rattle.std.proofs.Common.{◌≡◌, ◌≢◌, ◌<◌, ℕ, true, List, ◌∷◌, ◌++◌, Option, None, Some, get_or, map, option_map, inl, inr, refl, sym, ap, subst, ◌∙◌, arith}
+use Rattle.std.proofs.Common.{◌≡◌, ◌≢◌, ◌<◌, ◌≤◌, ℕ, length, length-append, true, List, ◌∷◌, ◌++◌, Option, None, Some, get_or, map, option_map, inl, inr, refl, sym, ap, subst, ◌∙◌, arith}
 use Rattle.std.specs.Prelude.{is_some, slice_get}
 use Rattle.std.specs.List.{All, Contains}
 use Rattle.std.proofs.lemmas.List.Elements.{All-contains, All-contains_itself, All-weaker}
@@ -9,19 +9,24 @@ use Rattle.nf_base.specs.declared.rows.ShareRow.{ShareRow}
 use Rattle.nf_defs.specs.Prelude.{item_row, node_row, relinked, Tables}
 use Rattle.nf_laws.proofs.Acted.{Acted, away_on, IsAway, IsNew, item_left, not_leaving}
 use Rattle.nf_laws.proofs.Carried.{AreJoined, IsRelinked, Kind}
+use Rattle.nf_laws.proofs.Discarding.{deed_told}
 use Rattle.nf_laws.proofs.Ended.{are_ended}
 use Rattle.nf_laws.proofs.Going.{ArePurged, items_purged, present_off, purged_rest, shares_purged, under_is}
 use Rattle.nf_laws.proofs.InTurn.{deeds_append}
+use Rattle.nf_laws.proofs.Parts.{deeds_stamped}
 use Rattle.nf_laws.proofs.Present.{below_present}
-use Rattle.nf_laws.proofs.Rows.{stamp}
+use Rattle.nf_laws.proofs.Rows.{stamp, stamped_some}
 use Rattle.nf_laws.proofs.Sources.{under_given}
 use Rattle.nf_laws.proofs.Trashed.{item_top}
 use Rattle.nf_laws.proofs.Upwards.{climbed}
 use Rattle.nf_laws.specs.Acts.{AreEnded, HaveLeft, IsGoneWith, IsInTrash, IsUnderOne}
 use Rattle.nf_laws.specs.Tree.{Under}
 use Rattle.nf_words.proofs.Known.{IsItem}
-use Rattle.nf_words.specs.Prelude.{AreSound, deeds_done, LeadsToRoot, purges}
+use Rattle.nf_words.specs.Prelude.{AreSound, changed, deed_done, deeds_done, LeadsToRoot, purges, told_deed, told_deeds}
+use Rattle.nf_words.specs.declared.answer.Allowed.TheVariants as allowed
 use Rattle.nf_words.specs.declared.answer.Deed.{Deed}
+use Rattle.nf_words.specs.declared.answer.Deed.TheVariants as deed
+use Rattle.nf_words.specs.declared.answer.Report.{Report}
 
 -- nothing that is under what is present is under an item
 pub below_off : (t : Tables) (node mid top : ℕ) → AreSound t → LeadsToRoot t.nodes mid → Under t.nodes mid node → IsItem t top → Under t.nodes top node → ⊥
@@ -96,6 +101,9 @@ module _ (t : Tables) (now : ℕ) (deeds : List Deed) (leave : List ℕ) (IsPut 
   pub present_after : (node : ℕ) → LeadsToRoot t.nodes node → node_row after.nodes node ≡ node_row u.nodes node
   present_after node up = row_then node (λ one. present_off t one.0 node sound (is_item one.0 one.1) up one.2)
 
+  pub below_after : (mid node : ℕ) → LeadsToRoot t.nodes mid → Under t.nodes mid node → node_row after.nodes node ≡ node_row u.nodes node
+  below_after mid node up under = row_then node (λ one. below_off t node mid one.0 sound up under (is_item one.0 one.1) one.2)
+
   -- nor is what is new
   pub new_after : (node : ℕ) → IsNew t node → node_row after.nodes node ≡ node_row u.nodes node
   new_after node new = row_then node (λ one.
@@ -149,3 +157,30 @@ stamped_after t after moment now leave tops h = record {
       below = is.below;
     })
     away top (inr gone) = inr gone
+
+-- the tables after a step with such deeds, whose moment is late enough
+pub kind_changed : (t : Tables) (now : ℕ) (deeds : List Deed) (leave : List ℕ) (IsPut : ℕ → Type 0) (Put : Tables → Type 0) (meta : MetaRow)
+    (report : Report) → AreSound t → t.meta.last ≤ now → (kind : Kind (stamp t now) now deeds leave IsPut Put meta)
+    → changed t now (allowed.Deeds deeds report)
+    ≡ deeds_done (deeds_done (stamp t now) (kind.one ∷ kind.more)) (purges kind.gone)
+kind_changed t now deeds leave IsPut Put meta report sound later kind =
+    stamped_some t (deeds_done t deeds) now (told_deeds t deeds) some ∙ sym (deeds_stamped t now deeds)
+    ∙ ap (deeds_done (stamp t now)) kind.are ∙ deeds_append (stamp t now) (kind.one ∷ kind.more) (purges kind.gone)
+  where
+    -- at whatever moment
+    told_at : (one : Deed) → 1 ≤ length (told_deed (stamp t now) one) → 1 ≤ length (told_deed t one)
+    told_at (deed.Discard item) some = some
+    told_at (deed.Purge node) some = some
+    told_at (deed.Restore node folder name) some = some
+    told_at (deed.Relink node folder name) some = some
+    told_at (deed.Join rows) some = some
+    told_at (deed.Requote row) some = some
+
+    some : 1 ≤ length (told_deeds t deeds)
+    some =
+        subst (λ (deeds : List Deed). 1 ≤ length (told_deeds t deeds)) (sym kind.are)
+        (omega (
+          arith,
+          length-append (told_deed t kind.one) (told_deeds (deed_done t kind.one) (kind.more ++ purges kind.gone)),
+          told_at kind.one (deed_told (stamp t now) now kind.one kind.fit),
+        ))

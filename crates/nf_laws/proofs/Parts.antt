@@ -336,7 +336,7 @@ in_turn t now deeds sound at known =
 -- ---- at the moment of the step
 
 -- what is known of a step is known whatever moment is stamped
-leaving_stamped : (t : Tables) (moment : ℕ) (row : NodeRow) → KnownLeaving t row → KnownLeaving (stamp t moment) row
+pub leaving_stamped : (t : Tables) (moment : ℕ) (row : NodeRow) → KnownLeaving t row → KnownLeaving (stamp t moment) row
 leaving_stamped t moment row k = record {
   there = k.there;
   no_root = k.no_root;
@@ -348,7 +348,7 @@ leaving_stamped t moment row k = record {
 goes_stamped : (t : Tables) (moment : ℕ) (nodes : List ℕ) → KnownGoes t nodes → KnownGoes (stamp t moment) nodes
 goes_stamped t moment nodes k = record { items = k.items; once = k.once }
 
-transfer_stamped : (t : Tables) (moment : ℕ) (transfer : Transfer) (name : List ℕ) → KnownTransfer t transfer name
+pub transfer_stamped : (t : Tables) (moment : ℕ) (transfer : Transfer) (name : List ℕ) → KnownTransfer t transfer name
     → KnownTransfer (stamp t moment) transfer name
 transfer_stamped t moment transfer name k = record {
   source = k.source;
@@ -364,7 +364,7 @@ transfer_stamped t moment transfer name k = record {
   deep = k.deep;
 }
 
-copies_stamped : (t : Tables) (moment : ℕ) (transfer : Transfer) (name : List ℕ) → KnownCopies t transfer name → KnownCopies (stamp t moment) transfer name
+pub copies_stamped : (t : Tables) (moment : ℕ) (transfer : Transfer) (name : List ℕ) → KnownCopies t transfer name → KnownCopies (stamp t moment) transfer name
 copies_stamped t moment transfer name k = record {
   known = transfer_stamped t moment transfer name k.known;
   nodes = k.nodes;

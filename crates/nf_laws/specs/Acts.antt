@@ -1,5 +1,5 @@
 -- What a DELETE, a MKCOL, a PUT, a MOVE of a mount and a sweep change, and what is asked about the trash, and that they change nothing else.
-use Rattle.std.specs.Prelude.{◌≡◌, ◌≢◌, ◌↔◌, ◌⊎◌, ℕ, ◌+◌, Bool, true, false, List, [], ◌∷◌, length, Option, None, Some, Ok, IsOk, IfSome, All, Contains}
+use Rattle.std.specs.Prelude.{◌≡◌, ◌≢◌, ◌↔◌, ◌≤◌, ◌⊎◌, ℕ, ◌+◌, Bool, true, false, List, [], ◌∷◌, length, Option, None, Some, Ok, IsOk, IfSome, All, Contains}
 use Rattle.nf_access.specs.Mounts.{mount_row}
 use Rattle.nf_access.specs.Shares.{share_row}
 use Rattle.nf_base.specs.declared.content.Piece.{Piece}
@@ -109,23 +109,24 @@ pub record IsDeleted (call : Call) (spot : Spot) (after : Tables) : Type 0 where
 -- of a path that isn't a mount's own
 abbrev pub DeletesKeep : Type 0
 DeletesKeep =
-    (s : State) (seat now : ℕ) (words : Words) (request : Request) (spot : Spot) → IsSound s → MayAsk s seat (Begin words request)
+    (s : State) (seat now : ℕ) (words : Words) (request : Request) (spot : Spot) → IsSound s → s.seen ≤ now → MayAsk s seat (Begin words request)
     → request.wanted ≡ Delete spot → (way_of (call_of s seat now words request) spot).itself ≡ false
     → IsOk (answer_to s seat now (Begin words request))
     → IsDeleted (call_of s seat now words request) spot (step s seat now (Begin words request)).tables
 
 -- ---- what is asked about the trash
 
--- those items of the caller's are gone for good, each with all under it, and nothing else is another but the moment, if anything is
-pub record IsEmptied (call : Call) (after : Tables) (tops : List ℕ) : Type 0 where
-  pub emptied : AreEmptied call.state.tables after (asker_of call) tops
-  pub others : (node : ℕ) → (IsUnderOne call.state.tables.nodes tops node → ⊥) → node_row after.nodes node ≡ node_row call.state.tables.nodes node
-  pub items : (node : ℕ) → (Contains tops node → ⊥) → item_row after.items node ≡ item_row call.state.tables.items node
-  pub rest : after ≡ record call.state.tables {
-    meta = record call.state.tables.meta { last = after.meta.last };
-    nodes = after.nodes;
-    items = after.items;
-  }
+-- those are gone for good, each with all under it, and nothing else is another but the moment, if anything is
+pub record AreTaken (before after : Tables) (tops : List ℕ) : Type 0 where
+  pub gone : All (IsGoneWith before.nodes after.nodes) tops
+  pub none : All (λ (top : ℕ). item_row after.items top ≡ None) tops
+  pub others : (node : ℕ) → (IsUnderOne before.nodes tops node → ⊥) → node_row after.nodes node ≡ node_row before.nodes node
+  pub items : (node : ℕ) → (Contains tops node → ⊥) → item_row after.items node ≡ item_row before.items node
+  pub rest : after ≡ record before { meta = record before.meta { last = after.meta.last }; nodes = after.nodes; items = after.items }
+
+-- they are items of the caller's
+abbrev pub IsEmptied : Call → Tables → List ℕ → Type 0
+IsEmptied call after tops = All (IsItemOf call.state.tables (asker_of call)) tops × AreTaken call.state.tables after tops
 
 -- an item of the caller's that is to be dropped is among them
 abbrev pub DropsKeep : Type 0
@@ -211,22 +212,14 @@ MountsAreRenamed =
 
 -- ---- a sweep
 
--- those items are gone for good, each with all under it, and nothing else is another but the moment, if anything is
-pub record IsSwept (before after : Tables) (tops : List ℕ) : Type 0 where
-  pub gone : All (IsGoneWith before.nodes after.nodes) tops
-  pub none : All (λ (top : ℕ). item_row after.items top ≡ None) tops
-  pub others : (node : ℕ) → (IsUnderOne before.nodes tops node → ⊥) → node_row after.nodes node ≡ node_row before.nodes node
-  pub items : (node : ℕ) → (Contains tops node → ⊥) → item_row after.items node ≡ item_row before.items node
-  pub rest : after ≡ record before { meta = record before.meta { last = after.meta.last }; nodes = after.nodes; items = after.items }
-
--- they are just those items that the trash of their owner doesn't hold any more
+-- just those items are taken that the trash of their owner doesn't hold any more
 abbrev pub SweepsTake : Type 0
 SweepsTake =
     (s : State) (seat now : ℕ) → IsSound s
     → (tops : List ℕ)
     × ((node : ℕ) → Contains tops node
     ↔ ((item : ItemRow) × (item_row s.tables.items node ≡ Some item) × Contains (gone_from s.tables now item.owner) node))
-    × IsSwept s.tables (step s seat now Sweep).tables tops
+    × AreTaken s.tables (step s seat now Sweep).tables tops
 
 -- ---- a node more
 

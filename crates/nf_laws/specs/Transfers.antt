@@ -1,5 +1,5 @@
 -- What MOVE and COPY change, and that they change nothing else.
-use Rattle.std.specs.Prelude.{◌≡◌, ◌≢◌, ◌⊎◌, ℕ, zero, suc, ◌+◌, ◌<◌, Bool, false, List, [], ◌∷◌, length, Option, None, Some, IsOk, Contains, option_map, slice_get}
+use Rattle.std.specs.Prelude.{◌≡◌, ◌≢◌, ◌⊎◌, ℕ, zero, suc, ◌+◌, ◌<◌, ◌≤◌, Bool, false, List, [], ◌∷◌, length, Option, None, Some, IsOk, Contains, option_map, slice_get}
 use Rattle.std.specs.Option.{option_map_or}
 use Rattle.nf_base.specs.declared.rows.NodeRow.{NodeRow}
 use Rattle.nf_base.specs.declared.rows.Place.TheVariants.{Inside}
@@ -109,7 +109,7 @@ IsCarried before after now transfer name =
 -- of a path that isn't a mount's own
 abbrev pub MovesKeep : Type 0
 MovesKeep =
-    (s : State) (seat now : ℕ) (words : Words) (request : Request) (source target : Spot) (overwrite : Bool) → IsSound s
+    (s : State) (seat now : ℕ) (words : Words) (request : Request) (source target : Spot) (overwrite : Bool) → IsSound s → s.seen ≤ now
     → MayAsk s seat (Begin words request) → request.wanted ≡ Move source target overwrite
     → (way_of (call_of s seat now words request) source).itself ≡ false → IsOk (answer_to s seat now (Begin words request))
     → (transfer : Transfer) × IsTransferOf (call_of s seat now words request) source target transfer
@@ -118,7 +118,7 @@ MovesKeep =
 -- the source with all under it is as it was
 abbrev pub CopiesMirror : Type 0
 CopiesMirror =
-    (s : State) (seat now : ℕ) (words : Words) (request : Request) (source target : Spot) (overwrite : Bool) → IsSound s
+    (s : State) (seat now : ℕ) (words : Words) (request : Request) (source target : Spot) (overwrite : Bool) → IsSound s → s.seen ≤ now
     → MayAsk s seat (Begin words request) → request.wanted ≡ Copy source target overwrite → IsOk (answer_to s seat now (Begin words request))
     → (transfer : Transfer) × IsTransferOf (call_of s seat now words request) source target transfer
     × AreCopied s.tables (step s seat now (Begin words request)).tables now transfer (last_name target) (replaced_by transfer)

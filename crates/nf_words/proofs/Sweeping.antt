@@ -58,7 +58,7 @@ module _ (t : Tables) (sound : AreSound t) where
       let same : other.of ≡ fine.of = same_Some other.of fine.of (sym other.there ∙ ap (node_row t.nodes) node ∙ fine.there) in
       (found.0, found.1, sym other.owner ∙ ap (λ (row : NodeRow). row.owner) same ∙ fine.owner ∙ mine)
 
-  gone_owned : (now user : ℕ) → All (IsOf user) (gone_from t now user)
+  pub gone_owned : (now user : ℕ) → All (IsOf user) (gone_from t now user)
   gone_owned now user = gone_has (IsOf user) t now (quota_of t user) (items_of t user) (owned user)
 
   -- what is a user's isn't among what goes of others

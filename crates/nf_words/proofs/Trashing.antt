@@ -18,7 +18,7 @@ use Rattle.nf_retention.specs.Trash.{is_newer, newest_first, put_newest}
 use Rattle.nf_words.proofs.Asks.{nothing_known}
 use Rattle.nf_words.proofs.Fits.{within}
 use Rattle.nf_words.proofs.Found.{found_passes}
-use Rattle.nf_words.proofs.Known.{IsItem, Known, KnownDeeds, KnownGoes, KnownLeaving}
+use Rattle.nf_words.proofs.Known.{IsItem, Known, KnownDeeds, KnownGoes, KnownLeaving, KnownRestore}
 use Rattle.nf_words.proofs.Known.KnownDeeds.{by_going, by_requoting, by_restoring}
 use Rattle.nf_words.specs.Prelude.{AreSound, deepest_in, done, gone_beside, gone_of, home_of, IsItemSound, item_dropped, item_for, item_if_of, item_restored, items_but, items_of, LeadsToRoot, name_back, nothing_done, purges, quota_of, requoted, restore_limit}
 use Rattle.nf_words.specs.declared.answer.Allowed.{Allowed}
@@ -177,41 +177,61 @@ module _ (t : Tables) (sound : AreSound t) where
   own_is user node item is =
       let there = own_there user node item is in subst (IsItem t) (sym (item_is node item there)) (ap is_some there)
 
+  -- it goes, and of the others those that do
+  pub dropped_goes : (now : ℕ) (item : ItemRow) → IsItem t item.node → KnownGoes t (item.node ∷ gone_beside t now item)
+  dropped_goes now item is =
+      let gone = gone_beside t now item in
+      record {
+        items = All-cons (IsItem t) item.node gone is (beside_goes now item);
+        once = AllPairs-cons (λ (a b : ℕ). a ≢ b) item.node gone (beside_others now item) (beside_once now item);
+      }
+
   pub dropped_known : (now user node : ℕ) (o : Option ItemRow) → option_and_then (item_if_of user) (item_row t.items node) ≡ o
       → IsKnown now (option_map_or (item_dropped t now) o nothing_done)
   dropped_known now user node None is = nothing_known t now
   dropped_known now user node (Some item) is =
-      let gone = gone_beside t now item in
-      by_going (item.node ∷ gone) (record {
-        items = All-cons (IsItem t) item.node gone (own_is user node item is) (beside_goes now item);
-        once = AllPairs-cons (λ (a b : ℕ). a ≢ b) item.node gone (beside_others now item) (beside_once now item);
-      })
+      by_going (item.node ∷ gone_beside t now item) (dropped_goes now item (own_is user node item is))
 
   pub emptied_items : (user : ℕ) → All (IsItem t) (map (λ item. item.node) (items_of t user))
   emptied_items user = All-map (IsItem t) NodeOf (items_of t user) (of_user user)
 
+  -- all of a user's go
+  pub emptied_goes : (user : ℕ) → KnownGoes t (map (λ item. item.node) (items_of t user))
+  emptied_goes user = record { items = emptied_items user; once = nodes_two (items_of t user) (user_two user) }
+
   pub emptied_known : (now user : ℕ) → KnownDeeds t now (purges (map (λ item. item.node) (items_of t user)))
-  emptied_known now user =
-      by_going (map NodeOf (items_of t user)) (record { items = emptied_items user; once = nodes_two (items_of t user) (user_two user) })
+  emptied_known now user = by_going (map NodeOf (items_of t user)) (emptied_goes user)
+
+  -- it comes back, and of the others some go
+  pub record KnownBack (now : ℕ) (item : ItemRow) : Type 0 where
+    pub restore : KnownRestore t item.node (home_of t item) (name_back t item)
+    pub goes : KnownGoes t (gone_beside t now item)
+    pub others : All (λ (node : ℕ). item.node ≢ node) (gone_beside t now item)
+
+  pub back_known : (now user node : ℕ) (item : ItemRow) → option_and_then (item_if_of user) (item_row t.items node) ≡ Some item
+      → option_and_then (restore_limit t) (item_row t.items node) ≡ None → KnownBack now item
+  back_known now user node item is few =
+      let there = own_there user node item is in
+      let id = item_is node item there in
+      let fits : restore_limit t item ≡ None = sym (ap (option_and_then (restore_limit t)) there) ∙ few in
+      record {
+        restore = record {
+          item = item;
+          there = ap (item_row t.items) id ∙ there;
+          home = refl;
+          named = refl;
+          deep = (within t 0 (deepest_in t.nodes item.node (home_of t item)) 0 0 fits).deep;
+        };
+        goes = record { items = beside_goes now item; once = beside_once now item };
+        others = beside_others now item;
+      }
 
   pub restored_known : (now user node : ℕ) (o : Option ItemRow) → option_and_then (item_if_of user) (item_row t.items node) ≡ o
       → option_and_then (restore_limit t) (item_row t.items node) ≡ None → IsKnown now (option_map_or (item_restored t now) o nothing_done)
   restored_known now user node None is few = nothing_known t now
   restored_known now user node (Some item) is few =
-      let there = own_there user node item is in
-      let id = item_is node item there in
-      let at : item_row t.items item.node ≡ Some item = ap (item_row t.items) id ∙ there in
-      let fits : restore_limit t item ≡ None = sym (ap (option_and_then (restore_limit t)) there) ∙ few in
-      by_restoring item.node (home_of t item) (name_back t item) (gone_beside t now item)
-      (record {
-        item = item;
-        there = at;
-        home = refl;
-        named = refl;
-        deep = (within t 0 (deepest_in t.nodes item.node (home_of t item)) 0 0 fits).deep;
-      })
-      (record { items = beside_goes now item; once = beside_once now item })
-      (beside_others now item)
+      let back = back_known now user node item is few in
+      by_restoring item.node (home_of t item) (name_back t item) (gone_beside t now item) back.restore back.goes back.others
 
   -- ---- another quota
 
