@@ -378,7 +378,7 @@ joined_charge t rows user sound =
 -- ---- another quota
 
 -- each user's root is as it was
-requoted_charge : (t : Tables) (row old : UserRow) (user : ℕ) → user_row t.users row.id ≡ Some old → row.root ≡ old.root
+pub requoted_charge : (t : Tables) (row old : UserRow) (user : ℕ) → user_row t.users row.id ≡ Some old → row.root ≡ old.root
     → charge_of (deed_done t (deed.Requote row)) user ≤ charge_of t user
 unfolding charge_of
 requoted_charge t row old user there root = counts_below t made user was t.nodes
@@ -488,7 +488,7 @@ afforded t made user owner old new none quota = here (owner == user) refl
           | inr within ↦ inr (omega (arith, less, within, quota))
         ]
 
--- ---- what comes back, and another quota
+-- ---- what comes back
 
 pub restored_keeps : (t : Tables) (node folder user : ℕ) (name : List ℕ) (item : ItemRow) → AreSound t → item_row t.items node ≡ Some item
     → restore_excess t item ≡ None → KeepsCharge t user (restored t node folder name)
@@ -505,10 +505,6 @@ restored_keeps t node folder user name item sound there none =
       ap (λ (owner : ℕ). if owner == user then size_of t.nodes node else 0) of.owner,
       ap (λ (n : ℕ). if item.owner == user then size_of t.nodes n else 0) id,
     ))
-
-pub requoted_keeps : (t : Tables) (user : ℕ) (row old : UserRow) → user_row t.users row.id ≡ Some old → row.root ≡ old.root
-    → KeepsCharge t user (deed_done t (deed.Requote row))
-requoted_keeps t user row old there root = inl (requoted_charge t row old user there root)
 
 -- ---- MOVE and COPY
 
