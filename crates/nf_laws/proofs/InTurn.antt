@@ -290,3 +290,15 @@ joins_here t now transfer name sound alone copies = record {
   pieces = copies.pieces;
   next_blob = copies.next_blob;
 }
+
+-- either way they come into the folder of the transfer
+pub joined_here : (t : Tables) (now : ℕ) (transfer : Transfer) (name : List ℕ) (sound : AreSound t) (alone : transfer.replaced ≡ None)
+    (known : KnownCopies t transfer name) → (joins_here t now transfer name sound alone known).transfer.folder ≡ transfer.folder
+unfolding joins_here
+joined_here t now transfer name sound alone known = refl
+
+pub joined_into : (t : Tables) (now : ℕ) (transfer : Transfer) (name : List ℕ) (u : Tables) (top : ℕ) (sound : AreSound t) (left : Left t u top)
+    (is : transfer.replaced ≡ Some top) (known : KnownCopies t transfer name)
+    → (joins_into t now transfer name u top sound left is known).transfer.folder ≡ transfer.folder
+unfolding joins_into
+joined_into t now transfer name u top sound left is known = refl

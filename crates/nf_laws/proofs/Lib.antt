@@ -1,9 +1,11 @@
+pub mod Acted
 pub mod Acting
 pub mod Added
 pub mod Affording
 pub mod Allowing
 pub mod Asking
 pub mod Blobs
+pub mod Carried
 pub mod Chained
 pub mod Charging
 pub mod Children
@@ -56,6 +58,7 @@ pub mod Reaching
 pub mod Reading
 pub mod Remaining
 pub mod Recharged
+pub mod Regions
 pub mod Replaced
 pub mod Restoring
 pub mod Rows

@@ -115,7 +115,7 @@ one_more one deeds nodes off more = All-cons (λ (one : Deed). All (IsOff one) n
 abbrev pub rest_of : Tables → ℕ → NodeRow → List ℕ
 rest_of t now row = filter (λ node. not (node == row.id)) (gone_with t now row)
 
-no_goes : (t : Tables) → KnownGoes t []
+pub no_goes : (t : Tables) → KnownGoes t []
 no_goes t = record { items = All-nil (IsItem t); once = λ i j d before within. absurd (omega (arith, within)) }
 
 leaving_parts : (t : Tables) (now : ℕ) (row : NodeRow) → AreSound t → KnownLeaving t row → Parts t now (discard t now row ∷ beside t now row)
@@ -184,7 +184,7 @@ copying_parts t now transfer name sound at known =
 -- ---- what goes to another owner
 
 -- a node that is present may leave its place in other tables, where its row is the same and it is present
-leaves_in : (u v : Tables) (row : NodeRow) → node_row v.nodes row.id ≡ node_row u.nodes row.id
+pub leaves_in : (u v : Tables) (row : NodeRow) → node_row v.nodes row.id ≡ node_row u.nodes row.id
     → (LeadsToRoot u.nodes row.id → LeadsToRoot v.nodes row.id) → KnownLeaving u row → KnownLeaving v row
 leaves_in u v row same leads known = record {
   there = same ∙ known.there;
@@ -195,7 +195,7 @@ leaves_in u v row same leads known = record {
 }
 
 -- so where copies are joined
-leaves_joined : (u : Tables) (row : NodeRow) (more : List NodeRow) → KnownLeaving u row → KnownLeaving (joined u more) row
+pub leaves_joined : (u : Tables) (row : NodeRow) (more : List NodeRow) → KnownLeaving u row → KnownLeaving (joined u more) row
 leaves_joined u row more known =
     leaves_in u (joined u more) row
     (find-append (λ (one : NodeRow). one.id == row.id) u.nodes more
@@ -254,7 +254,7 @@ module _ (t : Tables) (now : ℕ) (transfer : Transfer) (name : List ℕ) (sound
       differ (sym b.2 ∙ ap (λ (it : ItemRow). it.owner) item ∙ a.2)
 
   -- what goes beside both
-  both_go : (row : NodeRow) → row_at t transfer.replaced ≡ Some row → KnownLeaving t row → KnownGoes t (rest_of t now row ++ rest_of t now from)
+  pub both_go : (row : NodeRow) → row_at t transfer.replaced ≡ Some row → KnownLeaving t row → KnownGoes t (rest_of t now row ++ rest_of t now from)
   both_go row e leaves =
       let one = rest_goes t sound now row leaves in
       let two = rest_goes t sound now from leaving in
