@@ -20,7 +20,7 @@ use Rattle.nf_laws.proofs.Ended.{any, are_ended, ended_twice}
 use Rattle.nf_laws.proofs.Going.{outside_is, present_off, under_is}
 use Rattle.nf_laws.proofs.Gone.{row_gone}
 use Rattle.nf_laws.proofs.InTurn.{fit_sound, item_outside, Joins}
-use Rattle.nf_laws.proofs.Left.{discarded_left, Left, purged_left}
+use Rattle.nf_laws.proofs.Left.{leaving_left, Left}
 use Rattle.nf_laws.proofs.Moved.{below_leads, Fits, outside_leads, relinked_sound}
 use Rattle.nf_laws.proofs.OneRow.{row_itself, row_other}
 use Rattle.nf_laws.proofs.Others.{item_other, unless_gone}
@@ -125,7 +125,7 @@ module _ (t v : Tables) (now : ℕ) (leave : List ℕ) (IsPut : ℕ → Type 0) 
   w = after (discard t now row)
 
   left : Left v w row.id
-  left = either (λ (one : Deed). Left v (after one) row.id) (purged_left v row acted.sound known) (discarded_left v now row acted.sound at known)
+  left = leaving_left v now row acted.sound at known t
 
   item_off : (node : ℕ) → node ≢ row.id → item_row w.items node ≡ item_row v.items node
   item_off node differs =

@@ -1,6 +1,6 @@
 -- Of a DELETE, a MOVE, a COPY and a MOVE to another owner: what acts, and what goes for good beside it.
-use Rattle.std.proofs.Common.{◌≡◌, ◌≢◌, ◌≤◌, ℕ, zero, suc, ◌+◌, ◌==◌, true, false, List, [], ◌∷◌, ◌++◌, Option, None, Some, filter, get_or, length, not, inl, inr, refl, sym, ap, subst, ◌∙◌, arith}
-use Rattle.std.specs.Prelude.{is_some, option_and_then}
+use Rattle.std.proofs.Common.{◌≡◌, ◌≢◌, ◌≤◌, ℕ, zero, suc, ◌+◌, ◌==◌, option_map, true, false, List, [], ◌∷◌, ◌++◌, Option, None, Some, filter, get_or, length, not, inl, inr, refl, sym, ap, subst, ◌∙◌, arith}
+use Rattle.std.specs.Prelude.{option_and_then, slice_get}
 use Rattle.std.specs.List.{All, Contains}
 use Rattle.std.specs.Option.{option_map_or}
 use Rattle.std.proofs.lemmas.Bool.{both_ways, cond_both, eq-eqb, eqb-true, false_from_ne_true, not-true}
@@ -9,18 +9,22 @@ use Rattle.std.proofs.lemmas.List.Elements.{All-append, All-nil, All-weaker}
 use Rattle.nf_base.specs.declared.rows.MetaRow.{MetaRow}
 use Rattle.nf_base.specs.declared.rows.NodeRow.{NodeRow}
 use Rattle.nf_defs.proofs.Climbs.{climb_under, under_climb}
-use Rattle.nf_defs.specs.Prelude.{climb, is_under, node_row, owner_of, parent_of, Tables}
+use Rattle.nf_defs.specs.Prelude.{climb, is_under, node_row, owner_of, parent_of, relinked, Tables}
 use Rattle.nf_laws.proofs.Acted.{Acted, IsNew, join_acted, leave_acted, none_acted, NoNode, relink_acted}
+use Rattle.nf_laws.proofs.Copied.{copies_there}
 use Rattle.nf_laws.proofs.Going.{under_is}
 use Rattle.nf_laws.proofs.InTurn.{joined_here, joined_into, Joins, joins_here, joins_into, move_fits, none_replaced, replaced_is}
 use Rattle.nf_laws.proofs.Into.{folder_out, into, known_into, source_out}
-use Rattle.nf_laws.proofs.Left.{discard_left, Left}
+use Rattle.nf_laws.proofs.Left.{discard_left, leaving_left, Left}
+use Rattle.nf_laws.proofs.Mirrored.{mirrored}
 use Rattle.nf_laws.proofs.Moved.{same_owner}
+use Rattle.nf_laws.proofs.OneRow.{row_itself}
 use Rattle.nf_laws.proofs.Parts.{both_go, leaves_in, leaves_joined, no_goes, rest_of}
-use Rattle.nf_laws.proofs.Regions.{joined_stays, left_stays, none_under_both, Stays, stays_same, stays_then}
+use Rattle.nf_laws.proofs.Regions.{behind, joined_stays, left_stays, none_given, none_under_both, Stays, stays_same, stays_then}
+use Rattle.nf_laws.proofs.Sources.{under_given}
 use Rattle.nf_laws.proofs.Upwards.{derived, never_climbs}
 use Rattle.nf_laws.specs.Acts.{IsBeside, IsUnderOne}
-use Rattle.nf_laws.specs.Transfers.{replaced_by}
+use Rattle.nf_laws.specs.Transfers.{Mirrors, replaced_by}
 use Rattle.nf_laws.specs.Tree.{Under}
 use Rattle.nf_words.proofs.Found.{child_parent, found_passes}
 use Rattle.nf_words.proofs.Known.{KnownCopies, KnownCross, KnownGoes, KnownLeaving, KnownMove, KnownTransfer}
@@ -33,13 +37,14 @@ use Rattle.nf_words.specs.declared.answer.Deed.TheVariants as deed
 use Rattle.nf_words.specs.declared.request.Transfer.{Transfer}
 
 -- the deeds are those that act, by which some nodes leave their places and others are put somewhere, and then items go of the owners of
--- what left
-pub record Kind (t : Tables) (now : ℕ) (deeds : List Deed) (leave : List ℕ) (IsPut : ℕ → Type 0) (meta : MetaRow) : Type 0 where
+-- what left. `Put` says of the tables between what is put where
+pub record Kind (t : Tables) (now : ℕ) (deeds : List Deed) (leave : List ℕ) (IsPut : ℕ → Type 0) (Put : Tables → Type 0) (meta : MetaRow) : Type 0 where
   pub one : Deed
   pub more : List Deed
   pub gone : List ℕ
   pub are : deeds ≡ one ∷ more ++ purges gone
   pub acted : Acted t (deeds_done t (one ∷ more)) now leave IsPut
+  pub put : Put (deeds_done t (one ∷ more))
   pub goes : KnownGoes t gone
   pub beside : All (IsBeside t leave) gone
   pub rest : deeds_done t (one ∷ more) ≡ record t {
@@ -74,6 +79,28 @@ under_alone : (rows : List NodeRow) (top node : ℕ) → IsUnderOne rows (top �
 under_alone rows top node (other, (zero, within, is), under) = subst (λ (n : ℕ). Under rows n node) (sym is) under
 under_alone rows top node (other, (suc k, within, is), under) = absurd (omega (arith, within))
 
+-- the node is in the folder and under the name
+abbrev pub IsRelinked : Tables → Transfer → List ℕ → Tables → Type 0
+IsRelinked t transfer name u =
+    node_row u.nodes transfer.node ≡ option_map (relinked transfer.folder name) (node_row t.nodes transfer.node)
+
+-- the copies are there, and nothing else is new
+pub record AreJoined (t : Tables) (rows : List NodeRow) (u : Tables) : Type 0 where
+  pub there : (k : ℕ) (copy : NodeRow) → slice_get rows k ≡ Some copy → node_row u.nodes copy.id ≡ Some copy
+  pub new : (node : ℕ) (copy : NodeRow) → IsNew t node → node_row u.nodes node ≡ Some copy → (k : ℕ) × (slice_get rows k ≡ Some copy) × (copy.id ≡ node)
+
+relinked_there : (t u : Tables) (transfer : Transfer) (name : List ℕ) → node_row u.nodes transfer.node ≡ node_row t.nodes transfer.node
+    → IsRelinked t transfer name (deed_done u (deed.Relink transfer.node transfer.folder name))
+relinked_there t u transfer name same =
+    row_itself u.nodes transfer.node (relinked transfer.folder name) (λ row. refl) ∙ ap (option_map (relinked transfer.folder name)) same
+
+copies_joined : (t u : Tables) (now : ℕ) (rows : List NodeRow) → AreSound u → u.meta ≡ t.meta → Joins u now rows → AreJoined t rows (joined u rows)
+copies_joined t u now rows sound meta joins = record {
+  there = λ k copy is. copies_there u now joins.transfer joins.name rows joins.mirrors sound joins.known joins.alone k copy is;
+  new = λ node copy new is.
+      behind u.nodes rows node copy (none_given u node sound (omega (arith, new, ap (λ (meta : MetaRow). meta.next_node) meta))) is;
+}
+
 module _ (t : Tables) (now : ℕ) (sound : AreSound t) (at : t.meta.last ≡ now) where
   -- ---- DELETE
 
@@ -82,13 +109,14 @@ module _ (t : Tables) (now : ℕ) (sound : AreSound t) (at : t.meta.last ≡ now
       leave_acted t t now [] NoNode sound (none_acted t now sound) (omega (arith, at)) row known known (stays_same t.nodes row.id)
       (λ node one. absurd (none_under t.nodes node one))
 
-  pub leaving_kind : (row : NodeRow) → KnownLeaving t row → Kind t now (discard t now row ∷ beside t now row) (row.id ∷ []) NoNode t.meta
+  pub leaving_kind : (row : NodeRow) → KnownLeaving t row → Kind t now (discard t now row ∷ beside t now row) (row.id ∷ []) NoNode (λ u. Unit {0}) t.meta
   leaving_kind row known = record {
     one = discard t now row;
     more = [];
     gone = rest_of t now row;
     are = refl;
     acted = left_acted row known;
+    put = tt;
     goes = rest_goes t sound now row known;
     beside = rest_beside t now row (row.id ∷ []) sound known.there (head row.id []);
     rest = discard_rest t t now row;
@@ -108,7 +136,7 @@ module _ (t : Tables) (now : ℕ) (sound : AreSound t) (at : t.meta.last ≡ now
     replaced_none e = ap (λ (o : Option ℕ). option_map_or (λ node. node ∷ []) o []) (none_replaced t transfer name sound known e)
 
   pub moving_kind : (transfer : Transfer) (name : List ℕ) → KnownMove t transfer name
-      → Kind t now (moves t now name transfer) (replaced_by transfer) (λ node. node ≡ transfer.node) t.meta
+      → Kind t now (moves t now name transfer) (replaced_by transfer) (λ node. node ≡ transfer.node) (IsRelinked t transfer name) t.meta
   moving_kind transfer name move = here (row_at t transfer.replaced) refl
     where
       own : (row : NodeRow) × (node_row t.nodes transfer.node ≡ Some row)
@@ -119,9 +147,9 @@ module _ (t : Tables) (now : ℕ) (sound : AreSound t) (at : t.meta.last ≡ now
 
       here : (o : Option NodeRow) → row_at t transfer.replaced ≡ o
           → Kind t now (option_map_or (λ row. discard t now row ∷ []) o [] ++ relinks ∷ option_map_or (beside t now) o []) (replaced_by transfer)
-          (λ node. node ≡ transfer.node) t.meta
+          (λ node. node ≡ transfer.node) (IsRelinked t transfer name) t.meta
       here None e =
-          subst (λ (leave : List ℕ). Kind t now (relinks ∷ []) leave (λ node. node ≡ transfer.node) t.meta)
+          subst (λ (leave : List ℕ). Kind t now (relinks ∷ []) leave (λ node. node ≡ transfer.node) (IsRelinked t transfer name) t.meta)
           (sym (replaced_none transfer name move.known e)) (record {
             one = relinks;
             more = [];
@@ -130,6 +158,7 @@ module _ (t : Tables) (now : ℕ) (sound : AreSound t) (at : t.meta.last ≡ now
             acted = relink_acted t t now [] transfer.node transfer.folder name own.0 sound (none_acted t now sound)
                 (move_fits t transfer name own.0 sound move.known (none_replaced t transfer name sound move.known e) own.1
                 (same_owner t.nodes transfer own.0 move.within own.1)) move.known.present (none_under t.nodes transfer.node);
+            put = relinked_there t t transfer name refl;
             goes = no_goes t;
             beside = All-nil (IsBeside t []);
             rest = refl;
@@ -142,7 +171,7 @@ module _ (t : Tables) (now : ℕ) (sound : AreSound t) (at : t.meta.last ≡ now
           let out = source_out t u row.id sound left transfer name move.known is in
           let source = left.row transfer.node out in
           let folder = left.row transfer.folder (folder_out t u row.id sound left transfer name move.known is) in
-          subst (λ (leave : List ℕ). Kind t now (discard t now row ∷ relinks ∷ beside t now row) leave (λ node. node ≡ transfer.node) t.meta)
+          subst (λ (leave : List ℕ). Kind t now (discard t now row ∷ relinks ∷ beside t now row) leave (λ node. node ≡ transfer.node) (IsRelinked t transfer name) t.meta)
           (sym (replaced_alone transfer name move.known row e)) (record {
             one = discard t now row;
             more = relinks ∷ [];
@@ -153,6 +182,7 @@ module _ (t : Tables) (now : ℕ) (sound : AreSound t) (at : t.meta.last ≡ now
                 (ap (λ (o : Option NodeRow). option_map_or (λ row. row.owner) o 0) folder ∙ same_owner t.nodes transfer own.0 move.within own.1))
                 (left.leads transfer.node out move.known.present)
                 (λ one. both_ways (is_under t.nodes transfer.node row.id) out (under_is t row.id transfer.node sound (under_alone t.nodes row.id transfer.node one)));
+            put = relinked_there t u transfer name source;
             goes = rest_goes t sound now row leaves;
             beside = rest_beside t now row (row.id ∷ []) sound leaves.there (head row.id []);
             rest = ap (λ (v : Tables). deed_done v relinks) (discard_rest t t now row);
@@ -163,7 +193,8 @@ module _ (t : Tables) (now : ℕ) (sound : AreSound t) (at : t.meta.last ≡ now
   meta_with rows = record t.meta { next_node = t.meta.next_node + length rows }
 
   pub copying_kind : (transfer : Transfer) (name : List ℕ) → KnownCopies t transfer name
-      → Kind t now (copies t now name transfer) (replaced_by transfer) (IsNew t) (meta_with (copies_to t now transfer name))
+      → Kind t now (copies t now name transfer) (replaced_by transfer) (IsNew t) (AreJoined t (copies_to t now transfer name))
+      (meta_with (copies_to t now transfer name))
   copying_kind transfer name known = here (row_at t transfer.replaced) refl
     where
       rows : List NodeRow
@@ -171,15 +202,16 @@ module _ (t : Tables) (now : ℕ) (sound : AreSound t) (at : t.meta.last ≡ now
 
       here : (o : Option NodeRow) → row_at t transfer.replaced ≡ o
           → Kind t now (option_map_or (λ row. discard t now row ∷ []) o [] ++ deed.Join rows ∷ option_map_or (beside t now) o []) (replaced_by transfer)
-          (IsNew t) (meta_with rows)
+          (IsNew t) (AreJoined t rows) (meta_with rows)
       here None e =
-          subst (λ (leave : List ℕ). Kind t now (deed.Join rows ∷ []) leave (IsNew t) (meta_with rows)) (sym (replaced_none transfer name known.known e)) (record {
+          subst (λ (leave : List ℕ). Kind t now (deed.Join rows ∷ []) leave (IsNew t) (AreJoined t rows) (meta_with rows)) (sym (replaced_none transfer name known.known e)) (record {
             one = deed.Join rows;
             more = [];
             gone = [];
             are = refl;
             acted = join_acted t t now [] rows sound refl at (none_acted t now sound)
                 (joins_here t now transfer name sound (none_replaced t transfer name sound known.known e) known);
+            put = copies_joined t t now rows sound refl (joins_here t now transfer name sound (none_replaced t transfer name sound known.known e) known);
             goes = no_goes t;
             beside = All-nil (IsBeside t []);
             rest = refl;
@@ -189,7 +221,7 @@ module _ (t : Tables) (now : ℕ) (sound : AreSound t) (at : t.meta.last ≡ now
           let u = deed_done t (discard t now row) in
           let left = discard_left t now row sound (omega (arith, at)) leaves in
           let is = replaced_is t transfer.replaced row e in
-          subst (λ (leave : List ℕ). Kind t now (discard t now row ∷ deed.Join rows ∷ beside t now row) leave (IsNew t) (meta_with rows))
+          subst (λ (leave : List ℕ). Kind t now (discard t now row ∷ deed.Join rows ∷ beside t now row) leave (IsNew t) (AreJoined t rows) (meta_with rows))
           (sym (replaced_alone transfer name known.known row e)) (record {
             one = discard t now row;
             more = deed.Join rows ∷ [];
@@ -197,6 +229,7 @@ module _ (t : Tables) (now : ℕ) (sound : AreSound t) (at : t.meta.last ≡ now
             are = refl;
             acted = join_acted t u now (row.id ∷ []) rows sound left.meta (ap (λ (meta : MetaRow). meta.last) left.meta ∙ at) (left_acted row leaves)
                 (joins_into t now transfer name u row.id sound left is known);
+            put = copies_joined t u now rows left.sound left.meta (joins_into t now transfer name u row.id sound left is known);
             goes = rest_goes t sound now row leaves;
             beside = rest_beside t now row (row.id ∷ []) sound leaves.there (head row.id []);
             rest = ap (λ (v : Tables). joined v rows) (discard_rest t t now row);
@@ -239,47 +272,74 @@ module _ (t : Tables) (now : ℕ) (sound : AreSound t) (at : t.meta.last ≡ now
         up row e above (suc k) is =
             never_climbs t transfer.folder from.id sound folder_apart k (sym (ap (option_and_then (climb t.nodes k)) above) ∙ is)
 
+    -- the copies aren't under the source
+    copies_left : (v : Tables) → AreSound v → KnownLeaving v from → Stays t.nodes v.nodes from.id → AreJoined t rows v → now ≤ v.meta.last
+        → AreJoined t rows (deed_done v (discard t now from))
+    copies_left v fine known region joined later = record {
+      there = λ k copy is. left.row copy.id (out copy.id (omega (arith, (mirrors.each k copy is).id))) ∙ joined.there k copy is;
+      new = λ node copy new is. joined.new node copy new (sym (left.row node (out node new)) ∙ is);
+    }
+      where
+        mirrors : Mirrors t now transfer name rows
+        mirrors = mirrored t now transfer name sound moves_over.source
+
+        left : Left v (deed_done v (discard t now from)) from.id
+        left = leaving_left v now from fine later known t
+
+        out : (node : ℕ) → IsNew t node → is_under v.nodes node from.id ≡ false
+        out node new = false_from_ne_true (is_under v.nodes node from.id) (λ under.
+            let c = under_climb v.nodes node from.id under in
+            let given = under_given t from.id node from sound leaving.there (under_is t from.id node sound (region.back node (derived c.0 v.nodes from.id node c.2))) in
+            absurd (omega (arith, given, new)))
+
     -- the source leaves its place in tables with the copies, where its own region is as before
     crossed : (u : Tables) (leave : List ℕ) → u.meta ≡ t.meta → Acted t u now leave NoNode → Stays t.nodes u.nodes from.id
         → KnownLeaving u from → is_under u.nodes transfer.folder from.id ≡ false → ((node : ℕ) → IsUnderOne t.nodes leave node → is_under t.nodes node from.id ≡ false)
         → (joins : Joins u now rows) → joins.transfer.folder ≡ transfer.folder
         → Acted t (deed_done (joined u rows) (discard t now from)) now (from.id ∷ leave) (IsNew t)
+        × AreJoined t rows (deed_done (joined u rows) (discard t now from))
     crossed u leave meta acted stays known out apart joins is =
         let v = joined u rows in
         let later : u.meta.last ≡ now = ap (λ (meta : MetaRow). meta.last) meta ∙ at in
         let joins_acted = join_acted t u now leave rows sound meta later acted joins in
         let region = stays_then t.nodes u.nodes v.nodes from.id stays
         (joined_stays u now rows acted.sound joins from.id (from, known.there) (ap (λ (n : ℕ). is_under u.nodes n from.id) is ∙ out)) in
-        leave_acted t v now leave (IsNew t) sound joins_acted (omega (arith, later)) from (leaves_joined u from rows known) leaving region
-        (λ node one.
-        false_from_ne_true (is_under v.nodes node from.id) (λ under.
-        let c = under_climb v.nodes node from.id under in
-        both_ways (is_under t.nodes node from.id) (apart node one) (under_is t from.id node sound (region.back node (derived c.0 v.nodes from.id node c.2)))))
+        let leaves = leaves_joined u from rows known in (
+          leave_acted t v now leave (IsNew t) sound joins_acted (omega (arith, later)) from leaves leaving region
+              (λ node one.
+              false_from_ne_true (is_under v.nodes node from.id) (λ under.
+              let c = under_climb v.nodes node from.id under in
+              both_ways (is_under t.nodes node from.id) (apart node one)
+              (under_is t from.id node sound (region.back node (derived c.0 v.nodes from.id node c.2))))),
+          copies_left v joins_acted.sound leaves region (copies_joined t u now rows acted.sound meta joins) (omega (arith, later)),
+        )
 
     abbrev deeds_at : Option NodeRow → Option NodeRow → List Deed
     deeds_at o p =
         option_map_or (λ row. discard t now row ∷ []) o []
         ++ deed.Join rows ∷ (option_map_or (λ row. discard t now row ∷ []) p [] ++ (option_map_or (beside t now) o [] ++ option_map_or (beside t now) p []))
 
-    pub crossing_kind : Kind t now (crossing t now name transfer) (transfer.node ∷ replaced_by transfer) (IsNew t) (meta_with rows)
+    pub crossing_kind : Kind t now (crossing t now name transfer) (transfer.node ∷ replaced_by transfer) (IsNew t) (AreJoined t rows) (meta_with rows)
     crossing_kind =
-        subst (λ (n : ℕ). Kind t now (crossing t now name transfer) (n ∷ replaced_by transfer) (IsNew t) (meta_with rows)) same
-        (subst (λ (p : Option NodeRow). Kind t now (deeds_at (row_at t transfer.replaced) p) (from.id ∷ replaced_by transfer) (IsNew t) (meta_with rows))
+        subst (λ (n : ℕ). Kind t now (crossing t now name transfer) (n ∷ replaced_by transfer) (IsNew t) (AreJoined t rows) (meta_with rows)) same
+        (subst (λ (p : Option NodeRow). Kind t now (deeds_at (row_at t transfer.replaced) p) (from.id ∷ replaced_by transfer) (IsNew t) (AreJoined t rows) (meta_with rows))
         (sym moves_over.source.1) (here (row_at t transfer.replaced) refl))
       where
         here : (o : Option NodeRow) → row_at t transfer.replaced ≡ o
-            → Kind t now (deeds_at o (Some from)) (from.id ∷ replaced_by transfer) (IsNew t) (meta_with rows)
+            → Kind t now (deeds_at o (Some from)) (from.id ∷ replaced_by transfer) (IsNew t) (AreJoined t rows) (meta_with rows)
         here None e =
-            let joins = joins_here t now transfer name sound (none_replaced t transfer name sound moves_over e) cross.copies in
-            subst (λ (leave : List ℕ). Kind t now (deeds_at None (Some from)) (from.id ∷ leave) (IsNew t) (meta_with rows))
-            (sym (replaced_none transfer name moves_over e)) (record {
+            let none = none_replaced t transfer name sound moves_over e in
+            let is =
+            crossed t [] refl (none_acted t now sound) (stays_same t.nodes from.id) leaving folder_apart (λ node one. absurd (none_under t.nodes node one))
+            (joins_here t now transfer name sound none cross.copies) (joined_here t now transfer name sound none cross.copies) in
+            subst (λ (leave : List ℕ). Kind t now (deeds_at None (Some from)) (from.id ∷ leave) (IsNew t) (AreJoined t rows) (meta_with rows))
+            (sym (ap (λ (o : Option ℕ). option_map_or (λ node. node ∷ []) o []) none)) (record {
               one = deed.Join rows;
               more = discard t now from ∷ [];
               gone = rest_of t now from;
               are = refl;
-              acted = crossed t [] refl (none_acted t now sound) (stays_same t.nodes from.id) leaving folder_apart
-                  (λ node one. absurd (none_under t.nodes node one)) joins
-                  (joined_here t now transfer name sound (none_replaced t transfer name sound moves_over e) cross.copies);
+              acted = is.0;
+              put = is.1;
               goes = rest_goes t sound now from leaving;
               beside = rest_beside t now from (from.id ∷ []) sound leaving.there (head from.id []);
               rest = discard_rest t (joined t rows) now from;
@@ -292,22 +352,23 @@ module _ (t : Tables) (now : ℕ) (sound : AreSound t) (at : t.meta.last ≡ now
             let out : is_under t.nodes from.id row.id ≡ false = ap (λ (n : ℕ). is_under t.nodes n row.id) same ∙ source_out t u row.id sound left transfer name moves_over is in
             let turned = replaced_apart row e in
             let region = left_stays t u row.id from.id sound left (from, leaving.there) out turned in
-            let joins = joins_into t now transfer name u row.id sound left is cross.copies in
-            subst (λ (leave : List ℕ). Kind t now (deeds_at (Some row) (Some from)) (from.id ∷ leave) (IsNew t) (meta_with rows))
+            let acts =
+            crossed u (row.id ∷ []) left.meta (left_acted row leaves) region (leaves_in t u from (left.row from.id out) (left.leads from.id out) leaving)
+            (false_from_ne_true (is_under u.nodes transfer.folder from.id) (λ under.
+            let c = under_climb u.nodes transfer.folder from.id under in
+            both_ways (is_under t.nodes transfer.folder from.id) folder_apart
+            (under_is t from.id transfer.folder sound (region.back transfer.folder (derived c.0 u.nodes from.id transfer.folder c.2)))))
+            (λ node one. none_under_both t row.id from.id node sound turned out (under_alone t.nodes row.id node one))
+            (joins_into t now transfer name u row.id sound left is cross.copies) (joined_into t now transfer name u row.id sound left is cross.copies) in
+            subst (λ (leave : List ℕ). Kind t now (deeds_at (Some row) (Some from)) (from.id ∷ leave) (IsNew t) (AreJoined t rows) (meta_with rows))
             (sym (replaced_alone transfer name moves_over row e)) (record {
               one = discard t now row;
               more = deed.Join rows ∷ discard t now from ∷ [];
               gone = rest_of t now row ++ rest_of t now from;
               are = ap (λ (gone : List Deed). discard t now row ∷ deed.Join rows ∷ discard t now from ∷ gone)
                   (sym (map-append (λ (node : ℕ). deed.Purge node) (rest_of t now row) (rest_of t now from)));
-              acted = crossed u (row.id ∷ []) left.meta (left_acted row leaves) region
-                  (leaves_in t u from (left.row from.id out) (left.leads from.id out) leaving)
-                  (false_from_ne_true (is_under u.nodes transfer.folder from.id) (λ under.
-                  let c = under_climb u.nodes transfer.folder from.id under in
-                  both_ways (is_under t.nodes transfer.folder from.id) folder_apart
-                  (under_is t from.id transfer.folder sound (region.back transfer.folder (derived c.0 u.nodes from.id transfer.folder c.2)))))
-                  (λ node one. none_under_both t row.id from.id node sound turned out (under_alone t.nodes row.id node one)) joins
-                  (joined_into t now transfer name u row.id sound left is cross.copies);
+              acted = acts.0;
+              put = acts.1;
               goes = both_go t now transfer name sound at cross row e leaves;
               beside = All-append (IsBeside t (from.id ∷ row.id ∷ [])) (rest_of t now row) (rest_of t now from)
                   (rest_beside t now row (from.id ∷ row.id ∷ []) sound leaves.there (1, omega arith, refl))

@@ -165,8 +165,11 @@ module _ (t : Tables) (now : ℕ) (row : NodeRow) (sound : AreSound t) (at : now
         items = λ node differs is. item_put (item_for now row) t.items node is;
       }
 
-  -- whichever
-  pub discard_left : Left t (deed_done t (discard t now row)) row.id
-  discard_left =
-      cond_both (goes_itself t now row) (deed.Purge row.id) (deed.Discard (item_for now row)) (λ (one : Deed). Left t (deed_done t one) row.id)
+  -- whichever, in whatever tables that was decided
+  pub leaving_left : (s : Tables) → Left t (deed_done t (discard s now row)) row.id
+  leaving_left s =
+      cond_both (goes_itself s now row) (deed.Purge row.id) (deed.Discard (item_for now row)) (λ (one : Deed). Left t (deed_done t one) row.id)
       (λ e. purged_left t row sound known) (λ e. discarded_left)
+
+  pub discard_left : Left t (deed_done t (discard t now row)) row.id
+  discard_left = leaving_left t
