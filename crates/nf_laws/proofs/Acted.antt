@@ -84,7 +84,7 @@ none_acted t now sound = record {
 }
 
 -- an item isn't among what leaves
-not_leaving : (t u : Tables) (now : ℕ) (leave : List ℕ) (IsPut : ℕ → Type 0) (node : ℕ) → AreSound t → Acted t u now leave IsPut → IsItem t node
+pub not_leaving : (t u : Tables) (now : ℕ) (leave : List ℕ) (IsPut : ℕ → Type 0) (node : ℕ) → AreSound t → Acted t u now leave IsPut → IsItem t node
     → Contains leave node → ⊥
 not_leaving t u now leave IsPut node sound acted is among =
     present_off t node node sound is (All-contains (LeadsToRoot t.nodes) leave node acted.present among) (derived 0 t.nodes node node refl)
@@ -97,7 +97,7 @@ item_left t u now leave IsPut node sound acted is =
 -- ---- what is away stays away
 
 -- where the rows under it, and its item, stay
-away_on : (t u v : Tables) (now top : ℕ) → ((node : ℕ) → Under t.nodes top node → node_row v.nodes node ≡ node_row u.nodes node)
+pub away_on : (t u v : Tables) (now top : ℕ) → ((node : ℕ) → Under t.nodes top node → node_row v.nodes node ≡ node_row u.nodes node)
     → item_row v.items top ≡ item_row u.items top → IsAway t u now top → IsAway t v now top
 away_on t u v now top same item (inl is) = inl (record {
   row = is.row;

@@ -112,6 +112,10 @@ deeds_sound t now deeds sound at turn =
     deeds_have AreSound now (λ u one fine is fit has. fit_sound u now one fine is fit) t deeds sound at turn sound
 
 -- deeds behind others
+pub deeds_append : (t : Tables) (xs ys : List Deed) → deeds_done t (xs ++ ys) ≡ deeds_done (deeds_done t xs) ys
+deeds_append t [] ys = refl
+deeds_append t (x ∷ xs) ys = deeds_append (deed_done t x) xs ys
+
 pub turn_append : (t : Tables) (now : ℕ) (xs ys : List Deed) → InTurn t now xs → InTurn (deeds_done t xs) now ys → InTurn t now (xs ++ ys)
 turn_append t now [] ys first second = second
 turn_append t now (x ∷ xs) ys first second = (first.0, turn_append (deed_done t x) now xs ys first.1 second)

@@ -15,6 +15,7 @@ pub mod Copied
 pub mod Counters
 pub mod Crossed
 pub mod Crossing
+pub mod Departed
 pub mod Discarding
 pub mod Ended
 pub mod Entries
