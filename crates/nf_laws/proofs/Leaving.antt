@@ -3,7 +3,7 @@ use Rattle.std.proofs.Common.{ℕ, zero, suc, ◌==◌, ◌≡◌, ◌≢◌, �
 use Rattle.std.specs.Prelude.{is_some}
 use Rattle.std.specs.declared.cmp.Ordering.TheVariants.{Less}
 use Rattle.std.specs.List.{All, Contains}
-use Rattle.std.specs.Option.{option_and_then}
+use Rattle.std.specs.Option.{option_and_then, option_map_or}
 use Rattle.std.proofs.lemmas.Bool.{both_ways, cases_Bool, eq-eqb, eqb-true, false≢true, ne_eqb}
 use Rattle.std.proofs.lemmas.Cmp.{tied_itself}
 use Rattle.std.proofs.lemmas.List.Elements.{All-contains, All-contains_itself}
@@ -13,19 +13,21 @@ use Rattle.nf_base.specs.declared.rows.ItemRow.{ItemRow}
 use Rattle.nf_base.specs.declared.rows.NodeRow.{NodeRow}
 use Rattle.nf_defs.proofs.Climbs.{under_climb}
 use Rattle.nf_defs.proofs.Puts.{key_total}
-use Rattle.nf_defs.specs.Prelude.{climb, folder_of, is_under, IsRising, item_key, item_row, key_cmp, node_row, parent_of, Tables}
+use Rattle.nf_defs.specs.Prelude.{climb, folder_of, is_under, IsRising, item_key, item_row, key_cmp, node_row, owner_of, parent_of, Tables}
 use Rattle.nf_defs.specs.Tree.{trashed}
 use Rattle.nf_laws.proofs.Acted.{Acted, IsAway}
 use Rattle.nf_laws.proofs.Following.{AllFollow}
 use Rattle.nf_laws.proofs.Going.{present_off, under_is}
+use Rattle.nf_laws.proofs.Parts.{rest_of}
 use Rattle.nf_laws.proofs.Presence.{climbs_there}
 use Rattle.nf_laws.proofs.Present.{never_trash}
 use Rattle.nf_laws.proofs.Remaining.{shares_present, still_there}
 use Rattle.nf_laws.proofs.Rows.{found_is}
 use Rattle.nf_laws.proofs.Upwards.{climbed, derived}
 use Rattle.nf_laws.specs.Access.{Follows, IsNeeded, is_gone, is_trashed, ItemsFollow, shares_without}
-use Rattle.nf_laws.specs.Acts.{IsInTrash, IsUnderOne}
+use Rattle.nf_laws.specs.Acts.{IsInTrash, IsItemOf, IsUnderOne}
 use Rattle.nf_laws.specs.Tree.{Under}
+use Rattle.nf_words.proofs.Sweeping.{rest_owned}
 use Rattle.nf_words.specs.Others.{IsItemSound}
 use Rattle.nf_words.specs.Prelude.{AreSound, LeadsToRoot, Need}
 
@@ -192,3 +194,19 @@ module _ (t u : Tables) (now : ℕ) (leave : List ℕ) (IsPut : ℕ → Type 0) 
         item_among u.items item.node item
         (acted.items item.node (no_item item is) ∙ items_found t.items sound.others.items_rise item is),
   )
+
+-- ---- what goes beside it
+
+-- an item of the owner of what is deleted
+abbrev pub IsBesideOne : Tables → List Need → ℕ → Type 0
+IsBesideOne t needs node = (top : ℕ) × IsNeeded needs Delete top × IsItemOf t (owner_of t.nodes top) node
+
+-- of what goes with a node that is deleted all but the node are such
+pub rest_beside : (t : Tables) (now : ℕ) (row : NodeRow) (needs : List Need) → AreSound t → node_row t.nodes row.id ≡ Some row
+    → IsNeeded needs Delete row.id → All (IsBesideOne t needs) (rest_of t now row)
+rest_beside t now row needs sound there needed k d within = (
+  row.id,
+  needed,
+  subst (λ (user : ℕ). IsItemOf t user (get_or (rest_of t now row) k d))
+      (sym (ap (λ (o : Option NodeRow). option_map_or (λ row. row.owner) o 0) there)) (rest_owned t sound now row k d within),
+)
