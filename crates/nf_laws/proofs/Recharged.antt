@@ -18,7 +18,7 @@ use Rattle.nf_defs.specs.Tree.{trashed}
 use Rattle.nf_laws.proofs.Charging.{alike, sums_agree, sums_below, sums_join}
 use Rattle.nf_laws.proofs.Climbs.{node_row_each}
 use Rattle.nf_laws.proofs.Gone.{left_leads}
-use Rattle.nf_laws.proofs.InTurn.{deed_moment, fit_sound, InTurn, none_replaced, replaced_is}
+use Rattle.nf_laws.proofs.InTurn.{deed_moment, deeds_append, fit_sound, InTurn, none_replaced, replaced_is}
 use Rattle.nf_laws.proofs.Moved.{climb_below}
 use Rattle.nf_laws.proofs.OneRow.{row_itself, row_other}
 use Rattle.nf_laws.proofs.Others.{stamp_sound, those_were}
@@ -405,15 +405,11 @@ IsLower deeds t user = (charge_of (deeds_done t deeds) user ≤ charge_of t user
 abbrev pub Lower : List Deed → Type 0
 Lower deeds = (t : Tables) (user : ℕ) → IsLower deeds t user
 
-done_append : (t : Tables) (xs ys : List Deed) → deeds_done t (xs ++ ys) ≡ deeds_done (deeds_done t xs) ys
-done_append t [] ys = refl
-done_append t (x ∷ xs) ys = done_append (deed_done t x) xs ys
-
 pub lower_append : (xs ys : List Deed) → Lower xs → Lower ys → Lower (xs ++ ys)
 lower_append xs ys first second t user =
     let a = first t user in
     let b = second (deeds_done t xs) user in
-    subst (λ (u : Tables). (charge_of u user ≤ charge_of t user) × (quota_of u user ≡ quota_of t user)) (sym (done_append t xs ys))
+    subst (λ (u : Tables). (charge_of u user ≤ charge_of t user) × (quota_of u user ≡ quota_of t user)) (sym (deeds_append t xs ys))
     (omega (arith, a.0, b.0), b.1 ∙ a.1)
 
 pub purges_lower : (nodes : List ℕ) → Lower (purges nodes)
@@ -456,7 +452,7 @@ then_keeps t u user deeds lower keeps =
 around_keeps : (t : Tables) (user : ℕ) (first rest : List Deed) (one : Deed) → Lower rest → KeepsCharge t user (deed_done (deeds_done t first) one)
     → KeepsCharge t user (deeds_done t (first ++ one ∷ rest))
 around_keeps t user first rest one lower keeps =
-    subst (KeepsCharge t user) (sym (done_append t first (one ∷ rest))) (then_keeps t (deed_done (deeds_done t first) one) user rest lower keeps)
+    subst (KeepsCharge t user) (sym (deeds_append t first (one ∷ rest))) (then_keeps t (deed_done (deeds_done t first) one) user rest lower keeps)
 
 pub lower_keeps : (t : Tables) (user : ℕ) (deeds : List Deed) → Lower deeds → KeepsCharge t user (deeds_done t deeds)
 lower_keeps t user deeds lower = inl (lower t user).0
