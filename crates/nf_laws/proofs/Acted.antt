@@ -281,7 +281,7 @@ present_row rows node up = here up.steps up.climbs
         option_and_then_some {P = HasRow rows node} (climb rows k) (parent_of rows node) up.top is (λ parent above rest. inside_there rows node parent above)
 
 -- what is under a node that is there has a number that was given
-given_below : (t : Tables) (top node : ℕ) → AreSound t → LeadsToRoot t.nodes top → Under t.nodes top node → node < t.meta.next_node
+pub given_below : (t : Tables) (top node : ℕ) → AreSound t → LeadsToRoot t.nodes top → Under t.nodes top node → node < t.meta.next_node
 given_below t top node sound present under =
     let root = present_row t.nodes top present in
     under_given t top node root.0 sound root.1 (under_is t top node sound under)

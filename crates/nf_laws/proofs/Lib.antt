@@ -13,8 +13,6 @@ pub mod Climbs
 pub mod Contents
 pub mod Copied
 pub mod Counters
-pub mod Crossed
-pub mod Crossing
 pub mod Departed
 pub mod Discarding
 pub mod Ended

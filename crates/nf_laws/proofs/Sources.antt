@@ -15,7 +15,6 @@ use Rattle.nf_laws.proofs.Puts.{under_there}
 use Rattle.nf_laws.proofs.Rows.{row_is}
 use Rattle.nf_laws.proofs.Upwards.{climbs_is_under, never_climbs}
 use Rattle.nf_laws.proofs.Walked.{no_ring}
-use Rattle.nf_laws.specs.Transfers.{is_replaced}
 use Rattle.nf_words.proofs.Found.{child_parent}
 use Rattle.nf_words.proofs.Known.{KnownTransfer}
 use Rattle.nf_words.specs.Prelude.{AreSound}

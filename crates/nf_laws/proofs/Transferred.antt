@@ -1,24 +1,25 @@
 -- What a MOVE and a COPY change, and that they change nothing else.
 use Rattle.std.proofs.Common.{◌≡◌, ◌≢◌, ◌≤◌, ℕ, ◌+◌, ◌==◌, Bool, true, false, List, [], ◌∷◌, Option, Some, None, Ok, if◌then◌else◌, length, option_map, inl, inr, refl, sym, ap, subst, ◌∙◌, arith}
-use Rattle.std.specs.Prelude.{IsOk, slice_get}
+use Rattle.std.specs.Prelude.{is_some, IsOk, slice_get}
+use Rattle.std.proofs.lemmas.List.Elements.{All-contains}
 use Rattle.std.specs.Option.{option_and_then, option_map_or}
-use Rattle.std.proofs.lemmas.Bool.{both_ways, cases_Bool, eq-eqb, eqb-true, not-true}
+use Rattle.std.proofs.lemmas.Bool.{both_ways, cases_Bool, eq-eqb, eqb-true, not-false, not-true}
 use Rattle.std.proofs.lemmas.Option.{none-some, same_Some}
 use Rattle.nf_base.specs.declared.limits.TheConstants.{MAX_DEPTH}
 use Rattle.nf_base.specs.declared.rows.NodeRow.{NodeRow}
 use Rattle.nf_defs.specs.Prelude.{is_under, node_row, owner_of, parent_of, Tables, walk_of}
 use Rattle.nf_defs.specs.declared.Found.{Found}
 use Rattle.nf_defs.specs.declared.Found.TheVariants.{At, Free, Missing}
-use Rattle.nf_laws.proofs.Acted.{IsNew}
+use Rattle.nf_laws.proofs.Acted.{given_below, IsNew}
 use Rattle.nf_laws.proofs.Acting.{accepted, frees_by, given_for, leads_by, there_at}
 use Rattle.nf_laws.proofs.Carried.{AreJoined, copying_kind, crossing_kind, IsRelinked, Kind, meta_with, moving_kind, source_apart}
-use Rattle.nf_laws.proofs.Departed.{below_after, have_left, kind_changed, new_after, others_after, present_after, rest_after, unstamped}
+use Rattle.nf_laws.proofs.Departed.{below_after, below_off, have_left, kind_changed, new_after, others_after, present_after, rest_after, unstamped}
 use Rattle.nf_laws.proofs.Entries.{step_changed}
 use Rattle.nf_laws.proofs.Mirrored.{mirrored}
 use Rattle.nf_laws.proofs.Others.{stamp_sound}
 use Rattle.nf_laws.proofs.Parts.{copies_stamped, transfer_stamped}
 use Rattle.nf_laws.proofs.Rows.{stamp}
-use Rattle.nf_laws.specs.Acts.{HaveLeft, IsUnderOne}
+use Rattle.nf_laws.specs.Acts.{HaveLeft, IsBeside, IsUnderOne}
 use Rattle.nf_laws.specs.Transfers.{AreCopied, CopiesMirror, IsCarried, IsMoved, IsTransferOf, LeadsToTarget, Mirrors, MovesKeep, replaced_by}
 use Rattle.nf_laws.specs.Access.{LeadsBy}
 use Rattle.nf_laws.specs.Tree.{Under}
@@ -27,11 +28,12 @@ use Rattle.nf_words.proofs.Fits.{within}
 use Rattle.nf_words.proofs.Known.{KnownCopies, KnownCross, KnownMove, KnownTransfer}
 use Rattle.nf_words.proofs.Starts.{has_asker, IsAsking}
 use Rattle.nf_words.proofs.Transfers.{copies_known, fit_parts, no_mount, same_transfer, transfer_known, transfer_parts}
-use Rattle.nf_words.specs.Prelude.{access_of, allowed_of, AreSound, Call, call_of, carries, changed, copied, copies, copies_to, copy_limit, crosses, crossing, decision_of, deeds_done, deepest_in, done, folder_at, found, is_off_mount, is_root_at, last_name, made_or_done, mount_renamed, mount_of, moved, move_limit, moves, node_found, pieces_in, purges, root_of, transfer_between, transfer_by, transfer_of, transfer_to, unfit_between, unreached, way_of, Ways}
+use Rattle.nf_words.specs.Prelude.{access_of, allowed_of, AreSound, Call, call_of, carries, carry_limit, changed, copied, copies, copies_to, copy_limit, crosses, crossing, decision_of, deeds_done, deepest_in, done, folder_at, found, is_off_mount, is_root_at, last_name, LeadsToRoot, limited, made_or_done, mount_renamed, mount_of, moved, move_limit, moves, node_found, pieces_in, purges, root_of, transfer_between, transfer_by, transfer_of, transfer_to, unfit_between, unreached, way_of, Ways}
 use Rattle.nf_words.specs.declared.answer.Deed.{Deed}
 use Rattle.nf_words.specs.declared.answer.Report.{Report}
 use Rattle.nf_words.specs.declared.history.Event.TheVariants.{Begin}
 use Rattle.nf_words.specs.declared.answer.Allowed.{Allowed}
+use Rattle.nf_words.specs.declared.request.Making.TheVariants as making
 use Rattle.nf_words.specs.declared.request.Places.{Places}
 use Rattle.nf_words.specs.declared.request.Spot.{Spot}
 use Rattle.nf_words.specs.declared.request.Transfer.{Transfer}
@@ -105,7 +107,28 @@ copied_rows t now transfer name deeds leave report sound later known kind =
     made : Tables
     made = deeds_done (deeds_done all (kind.one ∷ kind.more)) (purges kind.gone)
 
+-- nothing that is under what is present is under what goes beside what left
+tops_apart : (t after : Tables) (now : ℕ) (leave tops : List ℕ) (mid node : ℕ) → AreSound t → HaveLeft t after now leave tops → LeadsToRoot t.nodes mid
+    → Under t.nodes mid node → IsUnderOne t.nodes tops node → ⊥
+tops_apart t after now leave tops mid node sound h present under one =
+    let of = All-contains (IsBeside t leave) tops one.0 h.beside one.1 in
+    below_off t node mid one.0 sound present under (ap is_some of.2.1) one.2
+
+-- what is known of what is moved, by whether it goes to another owner
+abbrev KnownCarried : Tables → Transfer → List ℕ → Bool → Type 0
+KnownCarried t transfer name true = KnownCross t transfer name
+KnownCarried t transfer name false = KnownMove t transfer name
+
 -- ---- the request
+
+abbrev nowhere : Places
+nowhere = record { source = None; target = None }
+
+abbrev both_at : Call → Spot → Spot → Places
+both_at call source target = record { source = Some (found call source); target = Some (found call target) }
+
+abbrev ways_at : Call → Spot → Spot → Ways
+ways_at call source target = record { source = Some (way_of call source); target = Some (way_of call target) }
 
 -- what a request to MOVE or COPY that no rule refuses transfers
 module _ (call : Call) (source target : Spot) (sound : AreSound call.state.tables) (is : IsAsking call)
@@ -153,3 +176,104 @@ module _ (call : Call) (source target : Spot) (sound : AreSound call.state.table
           subst (LeadsToTarget call target transfer.folder) replaced
           (subst (λ (n : ℕ). LeadsToTarget call target n None) (same_Some folder transfer.folder above) (frees_by call target sound folder e).0)
       here (Missing depth) e replaced above = absurd (none-some transfer.folder above)
+
+  -- which is known of it, as it stays its owner's or not
+  known_carried : (transfer : Transfer) → transfer_of t.nodes places ≡ Some transfer → (b : Bool) → crosses t.nodes transfer ≡ b
+      → (if b then copy_limit t transfer else move_limit t transfer) ≡ None
+      → KnownCarried t transfer (last_name target) b
+  unfolding copies_known
+  known_carried transfer e true across some =
+      record { copies = copies_known call source target sound is from_reached to_reached transfer e fits some; crosses = across }
+  known_carried transfer e false inside some =
+      record {
+        known = transfer_known call source target sound is from_reached to_reached transfer e fits
+            (within t 0 (deepest_in t.nodes transfer.node transfer.folder) 0 0 some).deep;
+        within = inside;
+      }
+
+-- where it stays its owner's, or not
+carried_rows : (t : Tables) (now : ℕ) (transfer : Transfer) (name : List ℕ) (report : Report) → AreSound t → t.meta.last ≤ now → (b : Bool)
+    → crosses t.nodes transfer ≡ b → KnownCarried t transfer name b
+    → IsCarried t (changed t now (done (if b then crossing t now name transfer else moves t now name transfer) report)) now transfer name
+carried_rows t now transfer name report sound later true across known =
+    inr (
+      λ same.
+          both_ways (owner_of t.nodes transfer.node == owner_of t.nodes transfer.folder)
+          (not-true (owner_of t.nodes transfer.node == owner_of t.nodes transfer.folder) across)
+          (eq-eqb (owner_of t.nodes transfer.node) (owner_of t.nodes transfer.folder) same),
+      copied_rows t now transfer name (crossing t now name transfer) (transfer.node ∷ replaced_by transfer) report sound later known.copies.known
+          (crossing_kind (stamp t now) now (stamp_sound t now sound later) refl transfer name
+          (record { copies = copies_stamped t now transfer name known.copies; crosses = known.crosses })),
+    )
+carried_rows t now transfer name report sound later false within known =
+    inl (
+      eqb-true (owner_of t.nodes transfer.node) (owner_of t.nodes transfer.folder) (not-false (owner_of t.nodes transfer.node == owner_of t.nodes transfer.folder) within),
+      moved_rows t now transfer name report sound later known,
+    )
+
+pub moves_keep : MovesKeep
+unfolding copies_known
+moves_keep s seat now words request source target overwrite sound seen may asked other ok =
+    let call = call_of s seat now words request in
+    let t = s.tables in
+    let want = wanted.Move source target overwrite in
+    let is = accepted call ok in
+    let p = subst (WantedPasses call) asked (wanted_passes call may.1 is.1) in
+    let asker = has_asker call is.1.token p.place.linked in
+    let from_reached = p.place.source other in
+    let fits = subst (λ (b : Bool). unfit_between t.nodes (root_of call) b (ways_at call source target) ≡ None) other p.fits in
+    let at = there_at (found call source) p.place.there in
+    let to = transferred call source target sound.rows asker from_reached p.place.target fits at.0 at.1 in
+    let transfer = to.0 in
+    let few : option_and_then (carry_limit t) (transfer_of t.nodes (both_at call source target)) ≡ None =
+    subst (λ (b : Bool). limited t (if b then nowhere else both_at call source target) making.Moved ≡ None) other p.few in
+    let some : (if crosses t.nodes transfer then copy_limit t transfer else move_limit t transfer) ≡ None =
+    sym (ap (option_and_then (carry_limit t)) to.1) ∙ few in
+    let act = done (carries t now (last_name target) transfer) (made_or_done transfer.replaced) in
+    let gives : allowed_of (access_of s) call ≡ act =
+    given_for call want asked
+    ∙ ap (λ (b : Bool). if b then mount_renamed call (way_of call source) (last_name target)
+    else moved t now (last_name target) (transfer_of t.nodes (if b then nowhere else both_at call source target))) other
+    ∙ ap (moved t now (last_name target)) to.1 in
+    let decides : decision_of s seat now (Begin words request) ≡ Ok act = is.0 ∙ ap (λ (a : Allowed). Ok a) gives in (
+      transfer,
+      led call source target sound.rows asker from_reached p.place.target fits at.0 at.1,
+      subst (λ (made : Tables). IsCarried t made now transfer (last_name target)) (sym (step_changed s seat now (Begin words request) act decides))
+          (carried_rows t now transfer (last_name target) (made_or_done transfer.replaced) sound.rows (omega (arith, sound.seen, seen))
+          (crosses t.nodes transfer) refl
+          (known_carried call source target sound.rows asker from_reached p.place.target fits at.0 at.1 transfer to.1 (crosses t.nodes transfer) refl some)),
+    )
+
+pub copies_mirror : CopiesMirror
+unfolding copies_known
+copies_mirror s seat now words request source target overwrite sound seen may asked ok =
+    let call = call_of s seat now words request in
+    let t = s.tables in
+    let is = accepted call ok in
+    let p = subst (WantedPasses call) asked (wanted_passes call may.1 is.1) in
+    let asker = has_asker call is.1.token p.place.linked in
+    let from_reached = p.place.source refl in
+    let at = there_at (found call source) p.place.there in
+    let to = transferred call source target sound.rows asker from_reached p.place.target p.fits at.0 at.1 in
+    let transfer = to.0 in
+    let name = last_name target in
+    let some : copy_limit t transfer ≡ None = sym (ap (option_and_then (copy_limit t)) to.1) ∙ p.few in
+    let known = copies_known call source target sound.rows asker from_reached p.place.target transfer to.1 p.fits some in
+    let later : t.meta.last ≤ now = omega (arith, sound.seen, seen) in
+    let act = done (copies t now name transfer) (made_or_done transfer.replaced) in
+    let gives : allowed_of (access_of s) call ≡ act =
+    given_for call (wanted.Copy source target overwrite) asked ∙ ap (copied t now name) to.1 in
+    let decides : decision_of s seat now (Begin words request) ≡ Ok act = is.0 ∙ ap (λ (a : Allowed). Ok a) gives in
+    let made = copied_rows t now transfer name (copies t now name transfer) (replaced_by transfer) (made_or_done transfer.replaced) sound.rows later known.known
+    (copying_kind (stamp t now) now (stamp_sound t now sound.rows later) refl transfer name (copies_stamped t now transfer name known)) in
+    let becomes = step_changed s seat now (Begin words request) act decides in
+    let made_after = changed t now act in (
+      transfer,
+      led call source target sound.rows asker from_reached p.place.target p.fits at.0 at.1,
+      subst (λ (after : Tables). AreCopied t after now transfer name (replaced_by transfer)) (sym becomes) made,
+      λ node under.
+          subst (λ (after : Tables). node_row after.nodes node ≡ node_row t.nodes node) (sym becomes)
+          (made.others node (given_below t transfer.node node sound.rows known.known.present under)
+          (source_apart (stamp t now) now (stamp_sound t now sound.rows later) refl transfer name (transfer_stamped t now transfer name known.known) node under)
+          (tops_apart t made_after now (replaced_by transfer) made.tops transfer.node node sound.rows made.left known.known.present under)),
+    )
