@@ -1,14 +1,12 @@
 -- The deeds of a step told as a list: the tables after them are those with the changes put into them, and each change is one.
-use Rattle.std.proofs.Common.{inl, inr, ◌⊎◌, ℕ, zero, suc, ◌+◌, ◌==◌, ◌≡◌, ◌≢◌, ◌<◌, ◌≤◌, Bool, true, false, not, List, [], ◌∷◌, ◌++◌, Option, None, Some, map, option_map, filter, length, get_or, if◌then◌else◌, refl, sym, ap, subst, ◌∙◌, arith, append_assoc, bytes_eq, length-append}
+use Rattle.std.proofs.Common.{inl, inr, ◌⊎◌, ℕ, zero, suc, ◌==◌, ◌≡◌, ◌≢◌, ◌<◌, ◌≤◌, Bool, true, false, not, List, [], ◌∷◌, ◌++◌, Option, None, Some, map, option_map, filter, length, get_or, if◌then◌else◌, refl, sym, ap, subst, ◌∙◌, arith, append_assoc, bytes_eq, length-append}
 use Rattle.std.specs.Prelude.{is_some}
 use Rattle.std.specs.List.{All, AllPairs}
-use Rattle.std.specs.Option.{option_and_then, option_map_or, option_or}
-use Rattle.std.proofs.lemmas.Bool.{and_parts, both_ways, cond_both, eq-eqb, eqb-true, false_from_ne_true, ne_eqb, not-true}
-use Rattle.std.proofs.lemmas.List.{get_or-append-add, map-append}
+use Rattle.std.specs.Option.{option_and_then}
+use Rattle.std.proofs.lemmas.Bool.{and_parts, both_ways, cond_both, eq-eqb, not-true}
 use Rattle.std.proofs.lemmas.List.Elements.{All-append, All-cons, All-filter, All-head, All-map, All-nil, All-tail, All-weaker, filter_passes}
-use Rattle.std.proofs.lemmas.List.Folds.{find-append}
 use Rattle.std.proofs.lemmas.List.Kept.{AllPairs-filter}
-use Rattle.std.proofs.lemmas.Option.{none-some, option_and_then_some, same_Some, slice_get-get_or}
+use Rattle.std.proofs.lemmas.Option.{none-some, option_and_then_some, same_Some}
 use Rattle.nf_access.proofs.Kept.{share_row_each}
 use Rattle.nf_access.specs.Shares.{share_row}
 use Rattle.nf_base.specs.declared.changes.Change.{Change}
@@ -22,37 +20,25 @@ use Rattle.nf_base.specs.declared.rows.Row.TheVariants as rows
 use Rattle.nf_base.specs.declared.rows.ShareRow.{ShareRow}
 use Rattle.nf_base.specs.declared.rows.UserRow.{UserRow}
 use Rattle.nf_defs.proofs.Climbs.{climb_under, under_climb}
-use Rattle.nf_defs.specs.Prelude.{child_of, climb, dropped, folder_of, is_root, is_under, IsRising, item_key, item_row, made, node_row, parent_of, put, put_all, relinked, share_key, Tables, user_row, walk_of, with_node, without_under}
+use Rattle.nf_defs.specs.Prelude.{climb, dropped, folder_of, is_under, IsDroppable, IsRising, item_key, item_row, made, node_row, parent_of, put, put_all, relinked, share_key, Tables, user_row, walk_of, with_node}
 use Rattle.nf_defs.specs.Tree.{trashed}
-use Rattle.nf_laws.proofs.Climbs.{map_some, node_row_each, parent_at, row_there, some_there}
-use Rattle.nf_laws.proofs.Copied.{walk_first}
-use Rattle.nf_laws.proofs.Gone.{climb_left, kept_left, left_leads, row_gone, row_left}
-use Rattle.nf_laws.proofs.InTurn.{none_replaced, replaced_is}
-use Rattle.nf_laws.proofs.Mirrored.{mirrored}
-use Rattle.nf_laws.proofs.Moved.{climb_outside}
-use Rattle.nf_laws.proofs.OneRow.{KeepsId, rising_with, row_itself, row_other, row_with}
-use Rattle.nf_laws.proofs.Others.{ended_rising, item_gone, item_other, row_ended, unless_gone}
+use Rattle.nf_laws.proofs.Climbs.{map_some, some_there}
+use Rattle.nf_laws.proofs.Gone.{kept_left, row_gone}
+use Rattle.nf_laws.proofs.OneRow.{KeepsId, rising_with, row_itself, row_with}
+use Rattle.nf_laws.proofs.Others.{ended_rising, item_gone, row_ended, unless_gone}
 use Rattle.nf_laws.proofs.Parts.{rest_of}
-use Rattle.nf_laws.proofs.Paths.{child_there}
-use Rattle.nf_laws.proofs.Present.{never_trash, root_ends, root_so}
+use Rattle.nf_laws.proofs.Present.{never_trash}
 use Rattle.nf_laws.proofs.Purged.{purged_keeps}
-use Rattle.nf_laws.proofs.Puts.{AreNumbered, another, closes, fewer, goes_put, number_found, other_number, put_changed, put_new, puts_new, under_there, walk_under}
-use Rattle.nf_laws.proofs.Rows.{found_is, kept_joined, row_id, stamp}
-use Rattle.nf_laws.proofs.Sources.{was_given}
-use Rattle.nf_laws.proofs.Trashed.{discarded_leads, item_top}
-use Rattle.nf_laws.proofs.Upwards.{never_climbs, no_rings}
+use Rattle.nf_laws.proofs.Puts.{AreNumbered, another, closes, fewer, goes_put, number_found, put_changed, put_new, puts_new, under_there, walk_under}
+use Rattle.nf_laws.proofs.Rows.{stamp}
+use Rattle.nf_laws.proofs.Trashed.{item_top}
 use Rattle.nf_laws.proofs.Walked.{AllPairs-append}
-use Rattle.nf_laws.specs.Transfers.{IsCopyOf, Mirrors}
-use Rattle.nf_words.proofs.Found.{child_parent, found_passes, put_is_found}
-use Rattle.nf_words.proofs.Known.{IsItem, KnownCopies, KnownCross, KnownDeeds, KnownGoes, KnownLeaving, KnownMove, KnownRestore, KnownTransfer}
-use Rattle.nf_words.proofs.Known.KnownDeeds.{by_copying, by_crossing, by_going, by_leaving, by_moving, by_requoting, by_restoring}
-use Rattle.nf_words.proofs.Transfers.{replaced_leaves, row_leaves}
+use Rattle.nf_words.proofs.Known.{IsItem, KnownLeaving}
 use Rattle.nf_words.proofs.Trashing.{rest_goes}
 use Rattle.nf_words.proofs.Ways.{HasRow, inside_there}
-use Rattle.nf_words.specs.Prelude.{AreSound, beside, besides, closed_under, copies, copies_to, crossing, deed_done, deeds_done, discard, discarded, discards, dropped_under, ended_row, goes_itself, gone_under, is_closing, IsRequoted, item_for, joined, LeadsToRoot, moves, purged, purges, row_at, told_deed, told_deeds, told_item, told_node}
+use Rattle.nf_words.specs.Prelude.{AreSound, beside, closed_under, deed_done, deeds_done, discard, discarded, dropped_under, ended_row, goes_itself, gone_under, is_closing, IsRequoted, item_for, LeadsToRoot, purged, purges, told_deed, told_deeds, told_item, told_node}
 use Rattle.nf_words.specs.declared.answer.Deed.{Deed}
 use Rattle.nf_words.specs.declared.answer.Deed.TheVariants as deed
-use Rattle.nf_words.specs.declared.request.Transfer.{Transfer}
 
 -- a change that makes other tables
 abbrev pub Differs : Tables → Change → Type 0
@@ -61,18 +47,18 @@ Differs t change = made t change ≢ t
 -- ---- what is known of each deed of a step, for what it is told as
 
 -- the row of a node, still as it was before the step, becomes another
-record Turns (t u : Tables) (node : ℕ) (change : NodeRow → NodeRow) : Type 0 where
-  row : NodeRow
-  there : node_row u.nodes node ≡ Some row
-  was : node_row t.nodes node ≡ Some row
-  other : change row ≢ row
+pub record Turns (t u : Tables) (node : ℕ) (change : NodeRow → NodeRow) : Type 0 where
+  pub row : NodeRow
+  pub there : node_row u.nodes node ≡ Some row
+  pub was : node_row t.nodes node ≡ Some row
+  pub other : change row ≢ row
 
 -- all that is under a node was there before the step
-abbrev IsOld : Tables → Tables → ℕ → Type 0
+abbrev pub IsOld : Tables → Tables → ℕ → Type 0
 IsOld t u top = (node : ℕ) → is_under u.nodes node top ≡ true → HasRow t.nodes node
 
 -- a deed that is done in some tables of a step which began in others
-abbrev IsTold : Tables → Tables → Deed → Type 0
+abbrev pub IsTold : Tables → Tables → Deed → Type 0
 IsTold t u (deed.Discard item) = Turns t u item.node trashed × (IsItem t item.node → ⊥)
 IsTold t u (deed.Purge node) = IsOld t u node × (IsItem u node → IsItem t node)
 IsTold t u (deed.Restore node folder name) = Turns t u node (relinked folder name) × IsItem t node
@@ -80,18 +66,18 @@ IsTold t u (deed.Relink node folder name) = Turns t u node (relinked folder name
 IsTold t u (deed.Join rows) = All (λ (row : NodeRow). row.id < t.meta.next_node) u.nodes × AreNumbered t.meta.next_node rows
 IsTold t u (deed.Requote row) = IsRequoted t row
 
-abbrev AreTold : Tables → Tables → List Deed → Type 0
+abbrev pub AreTold : Tables → Tables → List Deed → Type 0
 AreTold t u [] = Unit {0}
 AreTold t u (one ∷ deeds) = IsTold t u one × AreTold t (deed_done u one) deeds
 
 -- ---- what the tables of a step keep
 
 -- nodes and shares rise
-record Rise (u : Tables) : Type 0 where
-  nodes : AllPairs (λ (a b : NodeRow). a.id < b.id) u.nodes
-  shares : IsRising share_key u.shares
+pub record Rise (u : Tables) : Type 0 where
+  pub nodes : AllPairs (λ (a b : NodeRow). a.id < b.id) u.nodes
+  pub shares : IsRising share_key u.shares
 
-sound_rise : (t : Tables) → AreSound t → Rise t
+pub sound_rise : (t : Tables) → AreSound t → Rise t
 sound_rise t sound = record { nodes = sound.rising; shares = sound.others.shares_rise }
 
 -- rows with new numbers rise behind those that were there
@@ -102,7 +88,7 @@ joined_rise first old new rising below numbered =
     (λ i j d before within. omega (arith, numbered i d (omega (arith, before, within)), numbered j d within))
     (λ i d within k e also. omega (arith, below i d within, numbered k e also))
 
-done_rise : (t u : Tables) (one : Deed) → IsTold t u one → Rise u → Rise (deed_done u one)
+pub done_rise : (t u : Tables) (one : Deed) → IsTold t u one → Rise u → Rise (deed_done u one)
 done_rise t u (deed.Discard item) told rise = record {
   nodes = rising_with u.nodes item.node trashed (λ row. refl) rise.nodes;
   shares = ended_rising u (λ node. is_under u.nodes node item.node) rise.shares;
@@ -120,7 +106,7 @@ done_rise t u (deed.Join rows) (below, numbered) rise =
 done_rise t u (deed.Requote row) told rise = record { nodes = rise.nodes; shares = rise.shares }
 
 -- a share that isn't ended is as it was
-abbrev Unended : Tables → Tables → Type 0
+abbrev pub Unended : Tables → Tables → Type 0
 Unended t u = (id : ℕ) (share : ShareRow) → share_row u.shares id ≡ Some share → share.ended ≡ false → share_row t.shares id ≡ Some share
 
 unended_was : (gone : ℕ → Bool) (shares : List ShareRow) (id : ℕ) (share : ShareRow) → share_row (map (unless_gone gone) shares) id ≡ Some share
@@ -175,7 +161,7 @@ deed_put t u meta (deed.Relink node folder name) rest turns rise =
 deed_put t u meta (deed.Join rows) rest (below, numbered) rise = puts_new (at_meta meta u) u.nodes rows rest t.meta.next_node below numbered
 deed_put t u meta (deed.Requote row) rest told rise = refl
 
-deeds_put : (t u : Tables) (meta : MetaRow) (deeds : List Deed) (rest : List Change) → AreTold t u deeds → Rise u
+pub deeds_put : (t u : Tables) (meta : MetaRow) (deeds : List Deed) (rest : List Change) → AreTold t u deeds → Rise u
     → put_all (at_meta meta u) (told_deeds u deeds ++ rest) ≡ put_all (at_meta meta (deeds_done u deeds)) rest
 deeds_put t u meta [] rest told rise = refl
 deeds_put t u meta (one ∷ deeds) rest told rise =
@@ -253,7 +239,7 @@ item_put_differs t item none = λ same.
     none (sym (ap (λ (u : Tables). is_some (item_row u.items item.node)) same) ∙ ap is_some (number_found (λ (i : ItemRow). i.node) item t.items))
 
 -- a user's row with another quota is another
-user_differs : (t : Tables) (row : UserRow) → IsRequoted t row → Differs t (Put (rows.User row))
+pub user_differs : (t : Tables) (row : UserRow) → IsRequoted t row → Differs t (Put (rows.User row))
 user_differs t row is = λ same.
     is.other (same_Some row is.old
     (sym (number_found (λ (r : UserRow). r.id) row t.users) ∙ ap (λ (u : Tables). user_row u.users row.id) same ∙ is.there))
@@ -280,7 +266,7 @@ deed_differs t u (deed.Join copies) sound (below, numbered) rise was =
 deed_differs t u (deed.Requote row) sound is rise was =
     All-cons (Differs t) (Put (rows.User row)) [] (user_differs t row is) (All-nil (Differs t))
 
-deeds_differ : (t u : Tables) (deeds : List Deed) → AreSound t → AreTold t u deeds → Rise u → Unended t u → All (Differs t) (told_deeds u deeds)
+pub deeds_differ : (t u : Tables) (deeds : List Deed) → AreSound t → AreTold t u deeds → Rise u → Unended t u → All (Differs t) (told_deeds u deeds)
 deeds_differ t u [] sound told rise was = All-nil (Differs t)
 deeds_differ t u (one ∷ deeds) sound told rise was =
     All-append (Differs t) (told_deed u one) (told_deeds (deed_done u one) deeds) (deed_differs t u one sound told.0 rise was)
@@ -289,17 +275,17 @@ deeds_differ t u (one ∷ deeds) sound told rise was =
 -- ---- tables that are others
 
 -- a node's row is another or none, or there is another user or another counter of nodes
-record Lost (t u : Tables) : Type 0 where
-  node : ℕ
-  row : NodeRow
-  was : node_row t.nodes node ≡ Some row
-  lost : node_row u.nodes node ≢ Some row
+pub record Lost (t u : Tables) : Type 0 where
+  pub node : ℕ
+  pub row : NodeRow
+  pub was : node_row t.nodes node ≡ Some row
+  pub lost : node_row u.nodes node ≢ Some row
 
-abbrev AreOther : Tables → Tables → Type 0
+abbrev pub AreOther : Tables → Tables → Type 0
 AreOther t u = Lost t u ⊎ ((u.users ≢ t.users) ⊎ (u.meta.next_node ≢ t.meta.next_node))
 
 -- they are so at whatever moment
-never_same : (t u : Tables) (now : ℕ) → AreOther t u → stamp u now ≢ t
+pub never_same : (t u : Tables) (now : ℕ) → AreOther t u → stamp u now ≢ t
 never_same t u now (inl lost) = λ same. lost.lost (ap (λ (v : Tables). node_row v.nodes lost.node) same ∙ lost.was)
 never_same t u now (inr (inl other)) = λ same. other (ap (λ (v : Tables). v.users) same)
 never_same t u now (inr (inr other)) = λ same. other (ap (λ (v : Tables). v.meta.next_node) same)
@@ -314,11 +300,11 @@ purged_other t u top (inl lost) = inl (record {
 })
 purged_other t u top (inr other) = inr other
 
-purges_other : (t u : Tables) (gone : List ℕ) → AreOther t u → AreOther t (deeds_done u (purges gone))
+pub purges_other : (t u : Tables) (gone : List ℕ) → AreOther t u → AreOther t (deeds_done u (purges gone))
 purges_other t = purged_keeps (AreOther t) (purged_other t)
 
 -- a node's row is another, where it was turned into one
-turned_lost : (t u : Tables) (node : ℕ) (change : NodeRow → NodeRow) (items : List ItemRow) → KeepsId change → Turns t u node change
+pub turned_lost : (t u : Tables) (node : ℕ) (change : NodeRow → NodeRow) (items : List ItemRow) → KeepsId change → Turns t u node change
     → Lost t (record u { nodes = with_node u.nodes node change; items = items })
 turned_lost t u node change items keeps turns = record {
   node = node;
@@ -330,7 +316,7 @@ turned_lost t u node change items keeps turns = record {
 }
 
 -- and it is none, where that goes
-purged_lost : (t : Tables) (node : ℕ) (row : NodeRow) → node_row t.nodes node ≡ Some row → Lost t (purged t node)
+pub purged_lost : (t : Tables) (node : ℕ) (row : NodeRow) → node_row t.nodes node ≡ Some row → Lost t (purged t node)
 purged_lost t node row was = record {
   node = node;
   row = row;
@@ -341,9 +327,9 @@ purged_lost t node row was = record {
 -- ---- no more than was there
 
 -- each node was there, and in the folder that it is in
-record Fewer (u w : Tables) : Type 0 where
-  there : (node : ℕ) → HasRow w.nodes node → HasRow u.nodes node
-  up : (node parent : ℕ) → parent_of w.nodes node ≡ Some parent → parent_of u.nodes node ≡ Some parent
+pub record Fewer (u w : Tables) : Type 0 where
+  pub there : (node : ℕ) → HasRow w.nodes node → HasRow u.nodes node
+  pub up : (node parent : ℕ) → parent_of w.nodes node ≡ Some parent → parent_of u.nodes node ≡ Some parent
 
 -- so it climbed to what it climbs to
 climb_fewer : (u w : Tables) → Fewer u w → (j node top : ℕ) → climb w.nodes j node ≡ Some top → climb u.nodes j node ≡ Some top
@@ -352,7 +338,7 @@ climb_fewer u w fewer (suc j) node top is =
     option_and_then_some (climb w.nodes j) (parent_of w.nodes node) top is (λ parent above rest.
     ap (option_and_then (climb u.nodes j)) (fewer.up node parent above) ∙ climb_fewer u w fewer j parent top rest)
 
-purged_fewer : (u : Tables) (top : ℕ) → Fewer u (purged u top)
+pub purged_fewer : (u : Tables) (top : ℕ) → Fewer u (purged u top)
 purged_fewer u top = record {
   there = λ node h. (h.0, (kept_left u.nodes top node h.0 h.1).1);
   up = λ node parent is.
@@ -361,7 +347,7 @@ purged_fewer u top = record {
 }
 
 -- a node whose row is another was there
-turned_there : (u : Tables) (node : ℕ) (change : NodeRow → NodeRow) → KeepsId change → (other : ℕ) → HasRow (with_node u.nodes node change) other
+pub turned_there : (u : Tables) (node : ℕ) (change : NodeRow → NodeRow) → KeepsId change → (other : ℕ) → HasRow (with_node u.nodes node change) other
     → HasRow u.nodes other
 turned_there u node change keeps other (row, there) = here (other == node) (node_row u.nodes other) refl (sym (row_with u.nodes node change keeps other) ∙ there)
   where
@@ -370,7 +356,7 @@ turned_there u node change keeps other (row, there) = here (other == node) (node
     here true None e is = absurd (none-some row is)
     here false None e is = absurd (none-some row is)
 
-discarded_fewer : (u : Tables) (item : ItemRow) → Fewer u (discarded u item)
+pub discarded_fewer : (u : Tables) (item : ItemRow) → Fewer u (discarded u item)
 discarded_fewer u item = record {
   there = turned_there u item.node trashed (λ row. refl);
   up = λ node parent is.
@@ -385,13 +371,13 @@ discarded_fewer u item = record {
     here true (Some row) parent is = absurd (none-some parent is)
     here false o parent is = is
 
-discard_fewer : (t u : Tables) (now : ℕ) (row : NodeRow) → Fewer u (deed_done u (discard t now row))
+pub discard_fewer : (t u : Tables) (now : ℕ) (row : NodeRow) → Fewer u (deed_done u (discard t now row))
 discard_fewer t u now row =
     cond_both (goes_itself t now row) (deed.Purge row.id) (deed.Discard (item_for now row)) (λ (one : Deed). Fewer u (deed_done u one))
     (λ e. purged_fewer u row.id) (λ e. discarded_fewer u (item_for now row))
 
 -- nor is another number given
-discard_next : (t u : Tables) (now : ℕ) (row : NodeRow) → (deed_done u (discard t now row)).meta.next_node ≡ u.meta.next_node
+pub discard_next : (t u : Tables) (now : ℕ) (row : NodeRow) → (deed_done u (discard t now row)).meta.next_node ≡ u.meta.next_node
 discard_next t u now row =
     cond_both (goes_itself t now row) (deed.Purge row.id) (deed.Discard (item_for now row))
     (λ (one : Deed). (deed_done u one).meta.next_node ≡ u.meta.next_node) (λ e. refl) (λ e. refl)
@@ -399,10 +385,10 @@ discard_next t u now row =
 -- ---- what is new is under none of these
 
 -- a node that wasn't there before the step climbs to none of some others
-abbrev NewApart : Tables → (ℕ → Type 0) → Tables → Type 0
+abbrev pub NewApart : Tables → (ℕ → Type 0) → Tables → Type 0
 NewApart t Tops u = (node : ℕ) → HasRow u.nodes node → HasRow t.nodes node ⊎ ((j top : ℕ) → Tops top → climb u.nodes j node ≢ Some top)
 
-apart_fewer : (t : Tables) (Tops : ℕ → Type 0) (u w : Tables) → Fewer u w → NewApart t Tops u → NewApart t Tops w
+pub apart_fewer : (t : Tables) (Tops : ℕ → Type 0) (u w : Tables) → Fewer u w → NewApart t Tops u → NewApart t Tops w
 apart_fewer t Tops u w fewer apart node there =
     elim (apart node (fewer.there node there)) [
       | inl was ↦ inl was
@@ -410,7 +396,7 @@ apart_fewer t Tops u w fewer apart node there =
     ]
 
 -- so all that is under one of them was there
-apart_old : (t : Tables) (Tops : ℕ → Type 0) (u : Tables) (top : ℕ) → NewApart t Tops u → Tops top → HasRow t.nodes top → IsOld t u top
+pub apart_old : (t : Tables) (Tops : ℕ → Type 0) (u : Tables) (top : ℕ) → NewApart t Tops u → Tops top → HasRow t.nodes top → IsOld t u top
 apart_old t Tops u top apart tops there node under = let c = under_climb u.nodes node top under in here c.0 c.2
   where
     here : (j : ℕ) → climb u.nodes j node ≡ Some top → HasRow t.nodes node
@@ -422,10 +408,10 @@ apart_old t Tops u top apart tops there node under = let c = under_climb u.nodes
 -- ---- items that go
 
 -- the last deeds of a step that makes other tables
-abbrev Tells : Tables → Tables → List Deed → Type 0
+abbrev pub Tells : Tables → Tables → List Deed → Type 0
 Tells t u deeds = AreTold t u deeds × AreOther t (deeds_done u deeds)
 
-items_told : (t : Tables) (Tops : ℕ → Type 0) (u : Tables) (gone : List ℕ) → AreSound t → ((node : ℕ) → IsItem t node → Tops node)
+pub items_told : (t : Tables) (Tops : ℕ → Type 0) (u : Tables) (gone : List ℕ) → AreSound t → ((node : ℕ) → IsItem t node → Tops node)
     → All (IsItem t) gone → NewApart t Tops u → AreTold t u (purges gone)
 items_told t Tops u [] sound tops items apart = tt
 items_told t Tops u (node ∷ gone) sound tops items apart =
@@ -437,7 +423,7 @@ items_told t Tops u (node ∷ gone) sound tops items apart =
     )
 
 -- where no node is new
-items_tell : (t u : Tables) (gone : List ℕ) → AreSound t → All (IsItem t) gone → ((node : ℕ) → HasRow u.nodes node → HasRow t.nodes node)
+pub items_tell : (t u : Tables) (gone : List ℕ) → AreSound t → All (IsItem t) gone → ((node : ℕ) → HasRow u.nodes node → HasRow t.nodes node)
     → AreOther t u → Tells t u (purges gone)
 items_tell t u gone sound items there other =
     (items_told t (IsItem t) u gone sound (λ node is. is) items (λ node has. inl (there node has)), purges_other t u gone other)
@@ -448,7 +434,7 @@ items_tell t u gone sound items there other =
 trashed_other : (row : NodeRow) (folder : ℕ) → row.place ≡ Inside folder → trashed row ≢ row
 trashed_other row folder inside = λ same. let is : Trash ≡ Inside folder = ap (λ (r : NodeRow). r.place) same ∙ inside in cc
 
-back_other : (row : NodeRow) (folder : ℕ) (name : List ℕ) → row.place ≡ Trash → relinked folder name row ≢ row
+pub back_other : (row : NodeRow) (folder : ℕ) (name : List ℕ) → row.place ≡ Trash → relinked folder name row ≢ row
 back_other row folder name trash = λ same. let is : Inside folder ≡ Trash = ap (λ (r : NodeRow). r.place) same ∙ trash in cc
 
 -- what is present is no item
@@ -456,7 +442,7 @@ present_none : (t : Tables) (node : ℕ) → AreSound t → LeadsToRoot t.nodes 
 present_none t node sound present is =
     let top = item_top t node sound is in never_trash 0 t.nodes node node top.0 present refl top.1 top.2
 
-leaving_told : (t u : Tables) (now : ℕ) (row : NodeRow) → AreSound t → KnownLeaving t row → node_row u.nodes row.id ≡ Some row → IsOld t u row.id
+pub leaving_told : (t u : Tables) (now : ℕ) (row : NodeRow) → AreSound t → KnownLeaving t row → node_row u.nodes row.id ≡ Some row → IsOld t u row.id
     → (IsItem u row.id → IsItem t row.id) → IsTold t u (discard t now row)
 leaving_told t u now row sound known there old item =
     cond_both (goes_itself t now row) (deed.Purge row.id) (deed.Discard (item_for now row)) (λ (one : Deed). IsTold t u one) (λ e. (old, item))
@@ -465,7 +451,7 @@ leaving_told t u now row sound known there old item =
       present_none t row.id sound known.present,
     ))
 
-leaving_here : (t : Tables) (now : ℕ) (row : NodeRow) → AreSound t → KnownLeaving t row → IsTold t t (discard t now row)
+pub leaving_here : (t : Tables) (now : ℕ) (row : NodeRow) → AreSound t → KnownLeaving t row → IsTold t t (discard t now row)
 leaving_here t now row sound known =
     leaving_told t t now row sound known known.there
     (λ node under. some_there (node_row t.nodes node) (under_there t.nodes node row.id (ap is_some known.there) under)) (λ is. is)
@@ -483,328 +469,41 @@ leaving_other t now row sound known =
           (same_Some (trashed row) row (sym (row_itself t.nodes row.id trashed (λ row. refl) ∙ ap (option_map trashed) known.there) ∙ is));
     }))
 
-leaving_tells : (t : Tables) (now : ℕ) (row : NodeRow) → AreSound t → KnownLeaving t row → Tells t t (discard t now row ∷ beside t now row)
+pub leaving_tells : (t : Tables) (now : ℕ) (row : NodeRow) → AreSound t → KnownLeaving t row → Tells t t (discard t now row ∷ beside t now row)
 leaving_tells t now row sound known =
     let more = items_tell t (deed_done t (discard t now row)) (rest_of t now row) sound (rest_goes t sound now row known).items
     (discard_fewer t t now row).there (leaving_other t now row sound known) in
     ((leaving_here t now row sound known, more.0), more.1)
 
--- ---- what comes back, and another quota
+-- ---- the meta row is never dropped
 
-restoring_tells : (t : Tables) (node folder : ℕ) (name : List ℕ) (gone : List ℕ) → AreSound t → KnownRestore t node folder name → KnownGoes t gone
-    → Tells t t (deed.Restore node folder name ∷ purges gone)
-restoring_tells t node folder name gone sound known goes =
-    let is : IsItem t node = ap is_some known.there in
-    let top = item_top t node sound is in
-    let turns : Turns t t node (relinked folder name) =
-    record { row = top.0; there = top.1; was = top.1; other = back_other top.0 folder name top.2 } in
-    let more = items_tell t (deed_done t (deed.Restore node folder name)) gone sound goes.items (turned_there t node (relinked folder name) (λ row. refl))
-    (inl (turned_lost t t node (relinked folder name) (dropped item_key (node ∷ []) t.items) (λ row. refl) turns)) in
-    (((turns, is), more.0), more.1)
+row_droppable : (o : Option NodeRow) (change : NodeRow → NodeRow) → All IsDroppable (told_node o change)
+row_droppable None change = All-nil IsDroppable
+row_droppable (Some row) change = All-cons IsDroppable (Put (rows.Node (change row))) [] tt (All-nil IsDroppable)
 
-requoting_tells : (t : Tables) (row : UserRow) (gone : List ℕ) → AreSound t → IsRequoted t row → KnownGoes t gone
-    → Tells t t (deed.Requote row ∷ purges gone)
-requoting_tells t row gone sound known goes =
-    let more = items_tell t (deed_done t (deed.Requote row)) gone sound goes.items (λ node has. has)
-    (inr (inl (λ same. user_differs t row known (ap (λ (users : List UserRow). record t { users = users }) same)))) in
-    ((known, more.0), more.1)
+closed_droppable : (nodes : List NodeRow) (shares : List ShareRow) (top : ℕ) → All IsDroppable (closed_under nodes shares top)
+closed_droppable nodes shares top =
+    All-map IsDroppable (λ share. Put (rows.Share (ended_row share))) (filter (is_closing nodes top) shares) (λ k d within. tt)
 
--- ---- what is transferred
+deed_droppable : (t : Tables) (one : Deed) → All IsDroppable (told_deed t one)
+deed_droppable t (deed.Discard item) =
+    All-append IsDroppable (told_node (node_row t.nodes item.node) trashed) (Put (rows.Item item) ∷ closed_under t.nodes t.shares item.node)
+    (row_droppable (node_row t.nodes item.node) trashed)
+    (All-cons IsDroppable (Put (rows.Item item)) (closed_under t.nodes t.shares item.node) tt (closed_droppable t.nodes t.shares item.node))
+deed_droppable t (deed.Purge node) =
+    All-append IsDroppable (gone_under t.nodes t.shares node) (told_item t node)
+    (All-append IsDroppable (dropped_under t.nodes node) (closed_under t.nodes t.shares node)
+    (All-map IsDroppable (λ node. Drop (keys.Node node)) (walk_of t.nodes node) (λ k d within is. cc)) (closed_droppable t.nodes t.shares node))
+    (cond_both (is_some (item_row t.items node)) (Drop (keys.Item node) ∷ []) [] (All IsDroppable)
+    (λ e. All-cons IsDroppable (Drop (keys.Item node)) [] (λ is. cc) (All-nil IsDroppable)) (λ e. All-nil IsDroppable))
+deed_droppable t (deed.Restore node folder name) =
+    All-cons IsDroppable (Drop (keys.Item node)) (told_node (node_row t.nodes node) (relinked folder name)) (λ is. cc)
+    (row_droppable (node_row t.nodes node) (relinked folder name))
+deed_droppable t (deed.Relink node folder name) = row_droppable (node_row t.nodes node) (relinked folder name)
+deed_droppable t (deed.Join copies) = All-map IsDroppable (λ row. Put (rows.Node row)) copies (λ k d within. tt)
+deed_droppable t (deed.Requote row) = All-cons IsDroppable (Put (rows.User row)) [] tt (All-nil IsDroppable)
 
--- the tables into which it is, whether or not something left its place there
-record Ready (t u : Tables) (transfer : Transfer) : Type 0 where
-  there : (node : ℕ) → HasRow u.nodes node → HasRow t.nodes node
-  source : node_row u.nodes transfer.node ≡ node_row t.nodes transfer.node
-  leads : LeadsToRoot u.nodes transfer.folder
-  climbs : (j : ℕ) → climb u.nodes j transfer.folder ≡ climb t.nodes j transfer.folder
-  item : IsItem u transfer.node → IsItem t transfer.node
-  rise : Rise u
-  next : u.meta.next_node ≡ t.meta.next_node
-
-ready_here : (t : Tables) (transfer : Transfer) (name : List ℕ) → AreSound t → KnownTransfer t transfer name → Ready t t transfer
-ready_here t transfer name sound known = record {
-  there = λ node has. has;
-  source = refl;
-  leads = known.folder_present;
-  climbs = λ j. refl;
-  item = λ is. is;
-  rise = sound_rise t sound;
-  next = refl;
-}
-
-module _ (t : Tables) (now : ℕ) (transfer : Transfer) (name : List ℕ) (row : NodeRow) (sound : AreSound t) (known : KnownTransfer t transfer name)
-    (leaves : KnownLeaving t row) (is : transfer.replaced ≡ Some row.id) where
-  folder_out : is_under t.nodes transfer.folder row.id ≡ false
-  folder_out = no_rings t row.id transfer.folder sound (child_parent t.nodes transfer.folder name row.id sound.rising (known.there ∙ is))
-
-  source_out : is_under t.nodes transfer.node row.id ≡ false
-  source_out = sym (ap (λ (o : Option ℕ). option_map_or (λ node. is_under t.nodes transfer.node node) o false) is) ∙ known.apart
-
-  differs : transfer.node ≢ row.id
-  differs same = both_ways (is_under t.nodes transfer.node row.id) source_out (climb_under 0 t.nodes transfer.node row.id (omega arith) (ap Some same))
-
-  ready_left : Ready t (deed_done t (discard t now row)) transfer
-  ready_left =
-      let item = item_for now row in
-      cond_both (goes_itself t now row) (deed.Purge row.id) (deed.Discard item)
-      (λ (one : Deed). IsTold t t one → Ready t (deed_done t one) transfer)
-      (λ e told. record {
-        there = (purged_fewer t row.id).there;
-        source = row_left t.nodes row.id transfer.node source_out;
-        leads = left_leads t row.id transfer.folder sound folder_out known.folder_present;
-        climbs = λ j. climb_left t row.id j transfer.folder sound folder_out;
-        item = λ still. sym (ap is_some (item_other row.id transfer.node t.items differs)) ∙ still;
-        rise = done_rise t t (deed.Purge row.id) told (sound_rise t sound);
-        next = refl;
-      })
-      (λ e told. record {
-        there = (discarded_fewer t item).there;
-        source = row_other t.nodes row.id trashed (λ row. refl) transfer.node (ne_eqb transfer.node row.id differs);
-        leads = discarded_leads t item transfer.folder sound folder_out known.folder_present;
-        climbs = λ j.
-            climb_outside t.nodes row.id trashed (λ row. refl) j transfer.folder (never_climbs t transfer.folder row.id sound folder_out);
-        item = λ still. sym (ap is_some (other_number (λ (i : ItemRow). i.node) item t.items transfer.node differs)) ∙ still;
-        rise = done_rise t t (deed.Discard item) told (sound_rise t sound);
-        next = refl;
-      })
-      (leaving_here t now row sound leaves)
-
--- where a step's first deeds are such, and what goes beside is of the trash
-replacing_tells : (t : Tables) (now : ℕ) (transfer : Transfer) (name : List ℕ) (deeds : List Deed → List Deed) → AreSound t → KnownTransfer t transfer name
-    → ((u : Tables) (gone : List ℕ) → Ready t u transfer → All (IsItem t) gone → Tells t u (deeds (purges gone)))
-    → Tells t t (discards t now transfer.replaced ++ deeds (besides t now transfer.replaced))
-replacing_tells t now transfer name deeds sound known tells = here (row_at t transfer.replaced) refl
-  where
-    here : (o : Option NodeRow) → row_at t transfer.replaced ≡ o
-        → Tells t t (option_map_or (λ row. discard t now row ∷ []) o [] ++ deeds (option_map_or (beside t now) o []))
-    here None e = tells t [] (ready_here t transfer name sound known) (All-nil (IsItem t))
-    here (Some row) e =
-        let leaves = replaced_leaves t sound transfer name known row e in
-        let more = tells (deed_done t (discard t now row)) (rest_of t now row)
-        (ready_left t now transfer name row sound known leaves (replaced_is t transfer.replaced row e)) (rest_goes t sound now row leaves).items in
-        ((leaving_here t now row sound leaves, more.0), more.1)
-
--- ---- what is moved
-
--- it wasn't in the folder under that name
-relinked_other : (t : Tables) (transfer : Transfer) (name : List ℕ) (row : NodeRow) → AreSound t
-    → KnownTransfer t transfer name → node_row t.nodes transfer.node ≡ Some row → relinked transfer.folder name row ≢ row
-relinked_other t transfer name row sound known there = λ same.
-    let id = row_id t.nodes transfer.node row there in
-    let place : row.place ≡ Inside transfer.folder = sym (ap (λ (r : NodeRow). r.place) same) in
-    let named : row.name ≡ name = sym (ap (λ (r : NodeRow). r.name) same) in
-    let child : child_of t.nodes transfer.folder row.name ≡ Some row.id =
-    child_there t.nodes transfer.folder row sound.names (ap (node_row t.nodes) id ∙ there) place in
-    let is : transfer.replaced ≡ Some transfer.node =
-    sym known.there ∙ ap (child_of t.nodes transfer.folder) (sym named) ∙ child ∙ ap Some id in
-    both_ways (transfer.node == transfer.node)
-    (sym (ap (λ (o : Option ℕ). option_map_or (λ node. node == transfer.node) o false) is) ∙ known.differs)
-    (eq-eqb transfer.node transfer.node refl)
-
-moving_tells : (t : Tables) (now : ℕ) (transfer : Transfer) (name : List ℕ) → AreSound t → KnownTransfer t transfer name
-    → Tells t t (moves t now name transfer)
-moving_tells t now transfer name sound known =
-    let relink = deed.Relink transfer.node transfer.folder name in
-    let change = relinked transfer.folder name in
-    replacing_tells t now transfer name (λ (rest : List Deed). relink ∷ rest) sound known (λ u gone ready items.
-    let row = known.source in
-    let turns : Turns t u transfer.node change =
-    record { row = row.0; there = ready.source ∙ row.1; was = row.1; other = relinked_other t transfer name row.0 sound known row.1 } in
-    let more = items_tell t (deed_done u relink) gone sound items
-    (λ node has. ready.there node (turned_there u transfer.node change (λ row. refl) node has))
-    (inl (turned_lost t u transfer.node change u.items (λ row. refl) turns)) in
-    ((turns, more.0), more.1))
-
--- ---- what is copied
-
--- with more rows a row is found as before
-row_before : (old more : List NodeRow) (node : ℕ) (row : NodeRow) → node_row old node ≡ Some row → node_row (old ++ more) node ≡ Some row
-row_before old more node row there =
-    find-append (λ (one : NodeRow). one.id == node) old more ∙ ap (λ (o : Option NodeRow). option_or o (node_row more node)) there
-
--- and a node that leads to a root climbs as before
-climb_back : (steps j : ℕ) (old more : List NodeRow) (node root top : ℕ) → climb old steps node ≡ Some root → is_root old root ≡ true
-    → climb (old ++ more) j node ≡ Some top → climb old j node ≡ Some top
-climb_back steps zero old more node root top whole ends is = is
-climb_back zero (suc j) old more node root top whole ends is =
-    let alone : parent_of (old ++ more) root ≡ None = root_ends (old ++ more) root (root_so old (old ++ more) root ends (kept_joined old more root)) in
-    absurd (none-some top
-    (sym (ap (option_and_then (climb (old ++ more) j)) (ap (parent_of (old ++ more)) (same_Some node root whole) ∙ alone)) ∙ is))
-climb_back (suc steps) (suc j) old more node root top whole ends is =
-    option_and_then_some (climb old steps) (parent_of old node) root whole (λ parent above rest.
-    option_and_then_some (λ row. folder_of row.place) (node_row old node) parent above (λ row there place.
-    let still : parent_of (old ++ more) node ≡ Some parent =
-    ap (option_and_then (λ row. folder_of row.place)) (row_before old more node row there) ∙ place in
-    ap (option_and_then (climb old j)) above
-    ∙ climb_back steps j old more parent root top rest ends (sym (ap (option_and_then (climb (old ++ more) j)) still) ∙ is)))
-
-module _ (t u : Tables) (now : ℕ) (transfer : Transfer) (name : List ℕ) (sound : AreSound t) (known : KnownTransfer t transfer name)
-    (ready : Ready t u transfer) where
-  abbrev rows_more : List NodeRow
-  rows_more = copies_to t now transfer name
-
-  abbrev with_copies : Tables
-  with_copies = joined u rows_more
-
-  mirrors : Mirrors t now transfer name rows_more
-  mirrors = mirrored t now transfer name sound known.source
-
-  copy_at : (k : ℕ) (d : NodeRow) → k < length rows_more → IsCopyOf t now transfer name k (get_or rows_more k d)
-  copy_at k d within = mirrors.each k (get_or rows_more k d) (slice_get-get_or rows_more k d within)
-
-  join_told : IsTold t u (deed.Join rows_more)
-  join_told = (
-    All-weaker (λ (row : NodeRow). is_some (node_row u.nodes row.id) ≡ true) (λ (row : NodeRow). row.id < t.meta.next_node)
-        (λ row is.
-        let was = ready.there row.id (some_there (node_row u.nodes row.id) is) in was_given t row.id was.0 sound was.1) u.nodes (row_there u.nodes),
-    λ k d within. (copy_at k d within).id,
-  )
-
-  copies_rise : Rise with_copies
-  copies_rise = done_rise t u (deed.Join rows_more) join_told ready.rise
-
-  copy_row : (k : ℕ) (d : NodeRow) → k < length rows_more → node_row with_copies.nodes (t.meta.next_node + k) ≡ Some (get_or rows_more k d)
-  copy_row k d within =
-      let there = node_row_each with_copies.nodes copies_rise.nodes (length u.nodes + k) d (omega (arith, within, length-append u.nodes rows_more)) in
-      ap (node_row with_copies.nodes) (sym (copy_at k d within).id)
-      ∙ subst (λ (row : NodeRow). node_row with_copies.nodes row.id ≡ Some row) (get_or-append-add u.nodes rows_more k d) there
-
-  -- a node that was there and isn't above the folder
-  abbrev IsAside : ℕ → Type 0
-  IsAside top = HasRow t.nodes top × ((j : ℕ) → climb t.nodes j transfer.folder ≢ Some top)
-
-  folder_aside : (j top : ℕ) → IsAside top → climb with_copies.nodes j transfer.folder ≢ Some top
-  folder_aside j top aside is =
-      aside.1 j (sym (ready.climbs j)
-      ∙ climb_back ready.leads.steps j u.nodes rows_more transfer.folder ready.leads.top top ready.leads.climbs ready.leads.root is)
-
-  -- no copy is under one
-  copies_aside : (m k : ℕ) (d : NodeRow) → k < m → k < length rows_more → (j top : ℕ) → IsAside top
-      → climb with_copies.nodes j (t.meta.next_node + k) ≢ Some top
-  copies_aside zero k d before within j top aside is = absurd (omega (arith, before))
-  copies_aside (suc m) k d before within zero top aside is =
-      absurd (omega (arith, same_Some (t.meta.next_node + k) top is, was_given t top aside.0.0 sound aside.0.1))
-  copies_aside (suc m) zero d before within (suc j) top aside is =
-      let up = parent_at with_copies.nodes (t.meta.next_node + 0) transfer.folder (get_or rows_more 0 d) (copy_row 0 d within) (copy_at 0 d within).placed.0 in
-      folder_aside j top aside (sym (ap (option_and_then (climb with_copies.nodes j)) up) ∙ is)
-  copies_aside (suc m) (suc k) d before within (suc j) top aside is =
-      let p = (copy_at (suc k) d within).placed.1 in
-      let up = parent_at with_copies.nodes (t.meta.next_node + suc k) (t.meta.next_node + p.1) (get_or rows_more (suc k) d) (copy_row (suc k) d within) p.5 in
-      copies_aside m p.1 d (omega (arith, before, p.4)) (omega (arith, within, p.4)) j top aside
-      (sym (ap (option_and_then (climb with_copies.nodes j)) up) ∙ is)
-
-  copies_apart : NewApart t IsAside with_copies
-  copies_apart node (row, there) = here (node_row u.nodes node) refl
-    where
-      Avoids : NodeRow → Type 0
-      Avoids copy = (j top : ℕ) → IsAside top → climb with_copies.nodes j copy.id ≢ Some top
-
-      all : All Avoids rows_more
-      all k d within j top aside is =
-          copies_aside (suc k) k d (omega arith) within j top aside (ap (climb with_copies.nodes j) (sym (copy_at k d within).id) ∙ is)
-
-      here : (o : Option NodeRow) → node_row u.nodes node ≡ o
-          → HasRow t.nodes node ⊎ ((j top : ℕ) → IsAside top → climb with_copies.nodes j node ≢ Some top)
-      here (Some old) e = inl (ready.there node (old, e))
-      here None e =
-          let found = sym (find-append (λ (one : NodeRow). one.id == node) u.nodes rows_more
-          ∙ ap (λ (o : Option NodeRow). option_or o (node_row rows_more node)) e) ∙ there in
-          let h = found_is Avoids (λ (one : NodeRow). one.id == node) rows_more row all found in
-          inr (subst (λ (n : ℕ). (j top : ℕ) → IsAside top → climb with_copies.nodes j n ≢ Some top) (eqb-true row.id node h.0) h.1)
-
-  -- no item is above the folder
-  item_aside : (node : ℕ) → IsItem t node → IsAside node
-  item_aside node is =
-      let top = item_top t node sound is in
-      ((top.0, top.1), λ j climbs. never_trash j t.nodes transfer.folder node top.0 known.folder_present climbs top.1 top.2)
-
-  more_nodes : with_copies.meta.next_node ≢ t.meta.next_node
-  more_nodes same = absurd (omega (arith, same, ready.next, mirrors.all, (walk_first t.nodes transfer.node).1))
-
-  copy_tells : (gone : List ℕ) → All (IsItem t) gone → Tells t u (deed.Join rows_more ∷ purges gone)
-  copy_tells gone items = (
-    (join_told, items_told t IsAside with_copies gone sound item_aside items copies_apart),
-    purges_other t with_copies gone (inr (inr more_nodes)),
-  )
-
-  -- the source leaves its place beside its copies
-  cross_tells : (from : NodeRow) (gone : List ℕ) → KnownLeaving t from → from.id ≡ transfer.node → All (IsItem t) gone
-      → Tells t u (deed.Join rows_more ∷ discard t now from ∷ purges gone)
-  cross_tells from gone leaves same items =
-      let w = deed_done with_copies (discard t now from) in
-      let there : node_row with_copies.nodes from.id ≡ Some from =
-      row_before u.nodes rows_more from.id from
-      (ap (node_row u.nodes) same ∙ ready.source ∙ ap (node_row t.nodes) (sym same) ∙ leaves.there) in
-      let aside : IsAside from.id = (
-        (from, leaves.there),
-        never_climbs t transfer.folder from.id sound (ap (is_under t.nodes transfer.folder) same ∙ known.outside),
-      ) in
-      let told = leaving_told t with_copies now from sound leaves there
-      (apart_old t IsAside with_copies from.id copies_apart aside (from, leaves.there))
-      (λ is. subst (IsItem t) (sym same) (ready.item (subst (IsItem u) same is))) in
-      let last = items_told t IsAside w gone sound item_aside items
-      (apart_fewer t IsAside with_copies w (discard_fewer t with_copies now from) copies_apart) in (
-        (join_told, (told, last)),
-        purges_other t w gone (inr (inr (λ equal. more_nodes (sym (discard_next t with_copies now from) ∙ equal)))),
-      )
-
-copying_tells : (t : Tables) (now : ℕ) (transfer : Transfer) (name : List ℕ) → AreSound t → KnownTransfer t transfer name
-    → Tells t t (copies t now name transfer)
-copying_tells t now transfer name sound known =
-    replacing_tells t now transfer name (λ (rest : List Deed). deed.Join (copies_to t now transfer name) ∷ rest) sound known
-    (λ u gone ready items. copy_tells t u now transfer name sound known ready gone items)
-
-crossing_tells : (t : Tables) (now : ℕ) (transfer : Transfer) (name : List ℕ) → AreSound t → KnownTransfer t transfer name
-    → Tells t t (crossing t now name transfer)
-crossing_tells t now transfer name sound known =
-    let from = known.source.0 in
-    let join = deed.Join (copies_to t now transfer name) in
-    let leaves = row_leaves t from transfer.node known.source.1 known.no_root known.present in
-    let beside_from = rest_of t now from in
-    subst (λ (o : Option NodeRow). Tells t t (discards t now transfer.replaced
-    ++ join ∷ (option_map_or (λ row. discard t now row ∷ []) o [] ++ (besides t now transfer.replaced ++ option_map_or (beside t now) o []))))
-    (sym known.source.1)
-    (replacing_tells t now transfer name (λ (rest : List Deed). join ∷ discard t now from ∷ (rest ++ purges beside_from)) sound known
-    (λ u gone ready items.
-    subst (λ (last : List Deed). Tells t u (join ∷ discard t now from ∷ last)) (map-append (λ (node : ℕ). deed.Purge node) gone beside_from)
-    (cross_tells t u now transfer name sound known ready from (gone ++ beside_from) leaves (row_id t.nodes transfer.node from known.source.1)
-    (All-append (IsItem t) gone beside_from items (rest_goes t sound now from leaves).items))))
-
--- ---- the deeds of a step
-
-going_tells : (t : Tables) (node : ℕ) (gone : List ℕ) → AreSound t → All (IsItem t) (node ∷ gone) → Tells t t (purges (node ∷ gone))
-going_tells t node gone sound items =
-    let top = item_top t node sound (All-head (IsItem t) node gone items) in (
-      items_told t (IsItem t) t (node ∷ gone) sound (λ node is. is) items (λ node has. inl has),
-      purges_other t (purged t node) gone (inl (purged_lost t node top.0 top.1)),
-    )
-
--- none, or some that make other tables
-known_tells : (t : Tables) (now : ℕ) (deeds : List Deed) → AreSound t → KnownDeeds t now deeds → (deeds ≡ []) ⊎ Tells t t deeds
-known_tells t now deeds sound (by_going [] goes) = inl refl
-known_tells t now deeds sound (by_going (node ∷ gone) goes) = inr (going_tells t node gone sound goes.items)
-known_tells t now deeds sound (by_leaving row known) = inr (leaving_tells t now row sound known)
-known_tells t now deeds sound (by_restoring node folder name gone known goes others) = inr (restoring_tells t node folder name gone sound known goes)
-known_tells t now deeds sound (by_requoting row gone known goes) = inr (requoting_tells t row gone sound known goes)
-known_tells t now deeds sound (by_moving transfer name known) = inr (moving_tells t now transfer name sound known.known)
-known_tells t now deeds sound (by_copying transfer name known) = inr (copying_tells t now transfer name sound known.known)
-known_tells t now deeds sound (by_crossing transfer name known) = inr (crossing_tells t now transfer name sound known.copies.known)
-
-pub record DeedsTell (t : Tables) (now : ℕ) (deeds : List Deed) : Type 0 where
-  pub put : (rest : List Change) → put_all t (told_deeds t deeds ++ rest) ≡ put_all (record (deeds_done t deeds) { meta = t.meta }) rest
-  pub differ : All (Differs t) (told_deeds t deeds)
-  pub moves : told_deeds t deeds ≢ [] → stamp (deeds_done t deeds) now ≢ t
-
-pub deeds_tell : (t : Tables) (now : ℕ) (deeds : List Deed) → AreSound t → KnownDeeds t now deeds → DeedsTell t now deeds
-deeds_tell t now deeds sound known =
-    elim (known_tells t now deeds sound known) [
-      | inl none ↦
-          subst (DeedsTell t now) (sym none)
-          (record { put = λ rest. refl; differ = All-nil (Differs t); moves = λ some. absurd (some refl) })
-      | inr tells ↦
-          record {
-            put = λ rest. deeds_put t t t.meta deeds rest tells.0 (sound_rise t sound);
-            differ = deeds_differ t t deeds sound tells.0 (sound_rise t sound) (λ id share is unended. is);
-            moves = λ some. never_same t (deeds_done t deeds) now tells.1;
-          }
-    ]
+pub deeds_droppable : (t : Tables) (deeds : List Deed) → All IsDroppable (told_deeds t deeds)
+deeds_droppable t [] = All-nil IsDroppable
+deeds_droppable t (one ∷ deeds) =
+    All-append IsDroppable (told_deed t one) (told_deeds (deed_done t one) deeds) (deed_droppable t one) (deeds_droppable (deed_done t one) deeds)
