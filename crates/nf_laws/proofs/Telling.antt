@@ -7,7 +7,7 @@ use Rattle.std.proofs.lemmas.Bool.{and_parts, both_ways, cond_both, eq-eqb, eqb-
 use Rattle.std.proofs.lemmas.List.{get_or-append-add, map-append}
 use Rattle.std.proofs.lemmas.List.Elements.{All-append, All-cons, All-head, All-nil, All-weaker}
 use Rattle.std.proofs.lemmas.List.Folds.{find-append}
-use Rattle.std.proofs.lemmas.Option.{none-some, option_and_then_some, same_Some, slice_get-get_or}
+use Rattle.std.proofs.lemmas.Option.{none-some, option_and_then_some, same_Some}
 use Rattle.nf_base.specs.declared.changes.Change.{Change}
 use Rattle.nf_base.specs.declared.changes.Change.TheVariants.{Put}
 use Rattle.nf_base.specs.declared.rows.ItemRow.{ItemRow}
@@ -21,7 +21,7 @@ use Rattle.nf_defs.specs.Prelude.{Access, child_of, climb, content_of, dropped, 
 use Rattle.nf_defs.specs.Tree.{trashed}
 use Rattle.nf_laws.proofs.Blobs.{Alters, given_alters, of_nodes, refilled_of}
 use Rattle.nf_laws.proofs.Climbs.{node_row_each, parent_at, row_there, some_there}
-use Rattle.nf_laws.proofs.Copied.{walk_first}
+use Rattle.nf_laws.proofs.Copied.{copy_at, walk_first}
 use Rattle.nf_laws.proofs.Entries.{step_has}
 use Rattle.nf_laws.proofs.Gone.{climb_left, left_leads, row_left}
 use Rattle.nf_laws.proofs.InTurn.{replaced_is}
@@ -71,6 +71,7 @@ use Rattle.nf_words.specs.Prelude.{access_of, allowed_of, AreSound, beside, besi
 
 -- ---- what comes back, and another quota
 
+-- an item that comes back, where others go
 restoring_tells : (t : Tables) (node folder : ℕ) (name : List ℕ) (gone : List ℕ) → AreSound t → KnownRestore t node folder name → KnownGoes t gone
     → Tells t t (deed.Restore node folder name ∷ purges gone)
 restoring_tells t node folder name gone sound known goes =
@@ -82,6 +83,7 @@ restoring_tells t node folder name gone sound known goes =
     (inl (turned_lost t t node (relinked folder name) (dropped item_key (node ∷ []) t.items) (λ row. refl) turns)) in
     (((turns, is), more.0), more.1)
 
+-- another quota, where items go
 requoting_tells : (t : Tables) (row : UserRow) (gone : List ℕ) → AreSound t → IsRequoted t row → KnownGoes t gone
     → Tells t t (deed.Requote row ∷ purges gone)
 requoting_tells t row gone sound known goes =
@@ -101,6 +103,7 @@ record Ready (t u : Tables) (transfer : Transfer) : Type 0 where
   rise : Rise u
   next : u.meta.next_node ≡ t.meta.next_node
 
+-- where nothing did
 ready_here : (t : Tables) (transfer : Transfer) (name : List ℕ) → AreSound t → KnownTransfer t transfer name → Ready t t transfer
 ready_here t transfer name sound known = record {
   there = λ node has. has;
@@ -114,6 +117,7 @@ ready_here t transfer name sound known = record {
 
 module _ (t : Tables) (now : ℕ) (transfer : Transfer) (name : List ℕ) (row : NodeRow) (sound : AreSound t) (known : KnownTransfer t transfer name)
     (leaves : KnownLeaving t row) (is : transfer.replaced ≡ Some row.id) where
+  -- neither the folder nor the source is under it
   folder_out : is_under t.nodes transfer.folder row.id ≡ false
   folder_out = no_rings t row.id transfer.folder sound (child_parent t.nodes transfer.folder name row.id sound.rising (known.there ∙ is))
 
@@ -123,6 +127,7 @@ module _ (t : Tables) (now : ℕ) (transfer : Transfer) (name : List ℕ) (row :
   differs : transfer.node ≢ row.id
   differs same = both_ways (is_under t.nodes transfer.node row.id) source_out (climb_under 0 t.nodes transfer.node row.id (omega arith) (ap Some same))
 
+  -- where it did
   ready_left : Ready t (deed_done t (discard t now row)) transfer
   ready_left =
       let item = item_for now row in
@@ -181,6 +186,7 @@ relinked_other t transfer name row sound known there = λ same.
     (sym (ap (λ (o : Option ℕ). option_map_or (λ node. node == transfer.node) o false) is) ∙ known.differs)
     (eq-eqb transfer.node transfer.node refl)
 
+-- so it is told with its other row
 moving_tells : (t : Tables) (now : ℕ) (transfer : Transfer) (name : List ℕ) → AreSound t → KnownTransfer t transfer name
     → Tells t t (moves t now name transfer)
 moving_tells t now transfer name sound known =
@@ -229,30 +235,33 @@ module _ (t u : Tables) (now : ℕ) (transfer : Transfer) (name : List ℕ) (sou
   mirrors : Mirrors t now transfer name rows_more
   mirrors = mirrored t now transfer name sound known.source
 
-  copy_at : (k : ℕ) (d : NodeRow) → k < length rows_more → IsCopyOf t now transfer name k (get_or rows_more k d)
-  copy_at k d within = mirrors.each k (get_or rows_more k d) (slice_get-get_or rows_more k d within)
+  copy : (k : ℕ) (d : NodeRow) → k < length rows_more → IsCopyOf t now transfer name k (get_or rows_more k d)
+  copy = copy_at t now transfer name rows_more mirrors
 
+  -- they have the next numbers
   join_told : IsTold t u (deed.Join rows_more)
   join_told = (
     All-weaker (λ (row : NodeRow). is_some (node_row u.nodes row.id) ≡ true) (λ (row : NodeRow). row.id < t.meta.next_node)
         (λ row is.
         let was = ready.there row.id (some_there (node_row u.nodes row.id) is) in was_given t row.id was.0 sound was.1) u.nodes (row_there u.nodes),
-    λ k d within. (copy_at k d within).id,
+    λ k d within. (copy k d within).id,
   )
 
   copies_rise : Rise with_copies
   copies_rise = done_rise t u (deed.Join rows_more) join_told ready.rise
 
+  -- so each is found
   copy_row : (k : ℕ) (d : NodeRow) → k < length rows_more → node_row with_copies.nodes (t.meta.next_node + k) ≡ Some (get_or rows_more k d)
   copy_row k d within =
       let there = node_row_each with_copies.nodes copies_rise.nodes (length u.nodes + k) d (omega (arith, within, length-append u.nodes rows_more)) in
-      ap (node_row with_copies.nodes) (sym (copy_at k d within).id)
+      ap (node_row with_copies.nodes) (sym (copy k d within).id)
       ∙ subst (λ (row : NodeRow). node_row with_copies.nodes row.id ≡ Some row) (get_or-append-add u.nodes rows_more k d) there
 
   -- a node that was there and isn't above the folder
   abbrev IsAside : ℕ → Type 0
   IsAside top = HasRow t.nodes top × ((j : ℕ) → climb t.nodes j transfer.folder ≢ Some top)
 
+  -- no more is above the folder beside the copies
   folder_aside : (j top : ℕ) → IsAside top → climb with_copies.nodes j transfer.folder ≢ Some top
   folder_aside j top aside is =
       aside.1 j (sym (ready.climbs j)
@@ -265,14 +274,15 @@ module _ (t u : Tables) (now : ℕ) (transfer : Transfer) (name : List ℕ) (sou
   copies_aside (suc m) k d before within zero top aside is =
       absurd (omega (arith, same_Some (t.meta.next_node + k) top is, was_given t top aside.0.0 sound aside.0.1))
   copies_aside (suc m) zero d before within (suc j) top aside is =
-      let up = parent_at with_copies.nodes (t.meta.next_node + 0) transfer.folder (get_or rows_more 0 d) (copy_row 0 d within) (copy_at 0 d within).placed.0 in
+      let up = parent_at with_copies.nodes (t.meta.next_node + 0) transfer.folder (get_or rows_more 0 d) (copy_row 0 d within) (copy 0 d within).placed.0 in
       folder_aside j top aside (sym (ap (option_and_then (climb with_copies.nodes j)) up) ∙ is)
   copies_aside (suc m) (suc k) d before within (suc j) top aside is =
-      let p = (copy_at (suc k) d within).placed.1 in
+      let p = (copy (suc k) d within).placed.1 in
       let up = parent_at with_copies.nodes (t.meta.next_node + suc k) (t.meta.next_node + p.1) (get_or rows_more (suc k) d) (copy_row (suc k) d within) p.5 in
       copies_aside m p.1 d (omega (arith, before, p.4)) (omega (arith, within, p.4)) j top aside
       (sym (ap (option_and_then (climb with_copies.nodes j)) up) ∙ is)
 
+  -- so what is new is under none
   copies_apart : NewApart t IsAside with_copies
   copies_apart node (row, there) = here (node_row u.nodes node) refl
     where
@@ -281,7 +291,7 @@ module _ (t u : Tables) (now : ℕ) (transfer : Transfer) (name : List ℕ) (sou
 
       all : All Avoids rows_more
       all k d within j top aside is =
-          copies_aside (suc k) k d (omega arith) within j top aside (ap (climb with_copies.nodes j) (sym (copy_at k d within).id) ∙ is)
+          copies_aside (suc k) k d (omega arith) within j top aside (ap (climb with_copies.nodes j) (sym (copy k d within).id) ∙ is)
 
       here : (o : Option NodeRow) → node_row u.nodes node ≡ o
           → HasRow t.nodes node ⊎ ((j top : ℕ) → IsAside top → climb with_copies.nodes j node ≢ Some top)
@@ -298,9 +308,11 @@ module _ (t u : Tables) (now : ℕ) (transfer : Transfer) (name : List ℕ) (sou
       let top = item_top t node sound is in
       ((top.0, top.1), λ j climbs. never_trash j t.nodes transfer.folder node top.0 known.folder_present climbs top.1 top.2)
 
+  -- more numbers are given
   more_nodes : with_copies.meta.next_node ≢ t.meta.next_node
   more_nodes same = absurd (omega (arith, same, ready.next, mirrors.all, (walk_first t.nodes transfer.node).1))
 
+  -- so copies are told, and items that go then
   copy_tells : (gone : List ℕ) → All (IsItem t) gone → Tells t u (deed.Join rows_more ∷ purges gone)
   copy_tells gone items = (
     (join_told, items_told t IsAside with_copies gone sound item_aside items copies_apart),
@@ -352,6 +364,7 @@ crossing_tells t now transfer name sound known =
 
 -- ---- the deeds of a step
 
+-- some items that go
 going_tells : (t : Tables) (node : ℕ) (gone : List ℕ) → AreSound t → All (IsItem t) (node ∷ gone) → Tells t t (purges (node ∷ gone))
 going_tells t node gone sound items =
     let top = item_top t node sound (All-head (IsItem t) node gone items) in (
@@ -370,6 +383,7 @@ known_tells t now deeds sound (by_moving transfer name known) = inr (moving_tell
 known_tells t now deeds sound (by_copying transfer name known) = inr (copying_tells t now transfer name sound known.known)
 known_tells t now deeds sound (by_crossing transfer name known) = inr (crossing_tells t now transfer name sound known.copies.known)
 
+-- what is told of them makes the tables after them, each change is one, and where there is one the tables are others
 record DeedsTell (t : Tables) (now : ℕ) (deeds : List Deed) : Type 0 where
   put : (rest : List Change) → put_all t (told_deeds t deeds ++ rest) ≡ put_all (record (deeds_done t deeds) { meta = t.meta }) rest
   differ : All (Differs t) (told_deeds t deeds)

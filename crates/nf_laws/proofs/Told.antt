@@ -66,6 +66,7 @@ IsTold t u (deed.Relink node folder name) = Turns t u node (relinked folder name
 IsTold t u (deed.Join rows) = All (λ (row : NodeRow). row.id < t.meta.next_node) u.nodes × AreNumbered t.meta.next_node rows
 IsTold t u (deed.Requote row) = IsRequoted t row
 
+-- each in the tables after those before it
 abbrev pub AreTold : Tables → Tables → List Deed → Type 0
 AreTold t u [] = Unit {0}
 AreTold t u (one ∷ deeds) = IsTold t u one × AreTold t (deed_done u one) deeds
@@ -88,6 +89,7 @@ joined_rise first old new rising below numbered =
     (λ i j d before within. omega (arith, numbered i d (omega (arith, before, within)), numbered j d within))
     (λ i d within k e also. omega (arith, below i d within, numbered k e also))
 
+-- so they do after a deed
 pub done_rise : (t u : Tables) (one : Deed) → IsTold t u one → Rise u → Rise (deed_done u one)
 done_rise t u (deed.Discard item) told rise = record {
   nodes = rising_with u.nodes item.node trashed (λ row. refl) rise.nodes;
@@ -109,6 +111,7 @@ done_rise t u (deed.Requote row) told rise = record { nodes = rise.nodes; shares
 abbrev pub Unended : Tables → Tables → Type 0
 Unended t u = (id : ℕ) (share : ShareRow) → share_row u.shares id ≡ Some share → share.ended ≡ false → share_row t.shares id ≡ Some share
 
+-- where shares are ended, one that isn't is as it was
 unended_was : (gone : ℕ → Bool) (shares : List ShareRow) (id : ℕ) (share : ShareRow) → share_row (map (unless_gone gone) shares) id ≡ Some share
     → share.ended ≡ false → share_row shares id ≡ Some share
 unended_was gone shares id share is unended =
@@ -119,6 +122,7 @@ unended_was gone shares id share is unended =
     here old true same = absurd (both_ways share.ended unended (sym (ap (λ (row : ShareRow). row.ended) same)))
     here old false same = same
 
+-- no deed changes it but by ending it
 done_unended : (t u : Tables) (one : Deed) → Unended t u → Unended t (deed_done u one)
 done_unended t u (deed.Discard item) was = λ id share is unended.
     was id share (unended_was (λ node. is_under u.nodes node item.node) u.shares id share is unended) unended
@@ -143,6 +147,7 @@ node_put u node change row rest keeps rising there =
     ap (λ (o : Option NodeRow). put_all u (told_node o change ++ rest)) there
     ∙ ap (λ (all : List NodeRow). put_all (record u { nodes = all }) rest) (put_changed u.nodes node change row (keeps row) rising there)
 
+-- so for each deed
 deed_put : (t u : Tables) (meta : MetaRow) (one : Deed) (rest : List Change) → IsTold t u one → Rise u
     → put_all (at_meta meta u) (told_deed u one ++ rest) ≡ put_all (at_meta meta (deed_done u one)) rest
 deed_put t u meta (deed.Discard item) rest (turns, none) rise =
@@ -161,6 +166,7 @@ deed_put t u meta (deed.Relink node folder name) rest turns rise =
 deed_put t u meta (deed.Join rows) rest (below, numbered) rise = puts_new (at_meta meta u) u.nodes rows rest t.meta.next_node below numbered
 deed_put t u meta (deed.Requote row) rest told rise = refl
 
+-- and one after the other
 pub deeds_put : (t u : Tables) (meta : MetaRow) (deeds : List Deed) (rest : List Change) → AreTold t u deeds → Rise u
     → put_all (at_meta meta u) (told_deeds u deeds ++ rest) ≡ put_all (at_meta meta (deeds_done u deeds)) rest
 deeds_put t u meta [] rest told rise = refl
@@ -172,6 +178,7 @@ deeds_put t u meta (one ∷ deeds) rest told rise =
 
 -- ---- changes that are one
 
+-- the numbers of nodes were given
 all_given : (t : Tables) → AreSound t → All (λ (row : NodeRow). row.id < t.meta.next_node) t.nodes
 all_given t sound k d within = (sound.nodes k d within).given
 
@@ -190,6 +197,7 @@ turned_differs t u node change keeps sound turns = λ same.
     (row_itself t.nodes node change keeps ∙ ap (option_map change) turns.was) turns.other
     (sym (put_changed t.nodes node change turns.row (keeps turns.row) sound.rising turns.was) ∙ ap (λ (u : Tables). u.nodes) same)
 
+-- so is what a node's row is told as
 node_differs : (t u : Tables) (node : ℕ) (change : NodeRow → NodeRow) → KeepsId change → AreSound t → Turns t u node change
     → All (Differs t) (told_node (node_row u.nodes node) change)
 node_differs t u node change keeps sound turns =
@@ -202,6 +210,7 @@ dropped_differs t node (row, there) = λ same.
     fewer (λ other. not (bytes_eq (node ∷ []) (other ∷ []))) t.nodes node (ap is_some there) (rw (eq-eqb node node refl))
     (ap (λ (u : Tables). u.nodes) same)
 
+-- so all that are under a top
 under_differ : (t u : Tables) (top : ℕ) → Rise u → IsOld t u top → All (Differs t) (dropped_under u.nodes top)
 under_differ t u top rise old =
     All-map (Differs t) (λ node. Drop (keys.Node node)) (walk_of u.nodes top)
@@ -217,6 +226,7 @@ ended_differs t share there unended = λ same.
     (sym (number_found (λ (row : ShareRow). row.id) (ended_row share) t.shares) ∙ ap (λ (u : Tables). share_row u.shares share.id) same ∙ there) in
     both_ways share.ended unended (sym (ap (λ (row : ShareRow). row.ended) it))
 
+-- and so are those that end with what goes
 closed_differ : (t u : Tables) (top : ℕ) → Rise u → Unended t u → All (Differs t) (closed_under u.nodes u.shares top)
 closed_differ t u top rise was =
     All-map (Differs t) (λ share. Put (rows.Share (ended_row share))) (filter (is_closing u.nodes top) u.shares)
@@ -244,6 +254,7 @@ user_differs t row is = λ same.
     is.other (same_Some row is.old
     (sym (number_found (λ (r : UserRow). r.id) row t.users) ∙ ap (λ (u : Tables). user_row u.users row.id) same ∙ is.there))
 
+-- each change of a deed is one, also of the tables before the step
 deed_differs : (t u : Tables) (one : Deed) → AreSound t → IsTold t u one → Rise u → Unended t u → All (Differs t) (told_deed u one)
 deed_differs t u (deed.Discard item) sound (turns, none) rise was =
     All-append (Differs t) (told_node (node_row u.nodes item.node) trashed) (Put (rows.Item item) ∷ closed_under u.nodes u.shares item.node)
@@ -266,6 +277,7 @@ deed_differs t u (deed.Join copies) sound (below, numbered) rise was =
 deed_differs t u (deed.Requote row) sound is rise was =
     All-cons (Differs t) (Put (rows.User row)) [] (user_differs t row is) (All-nil (Differs t))
 
+-- and so is each of the deeds in turn
 pub deeds_differ : (t u : Tables) (deeds : List Deed) → AreSound t → AreTold t u deeds → Rise u → Unended t u → All (Differs t) (told_deeds u deeds)
 deeds_differ t u [] sound told rise was = All-nil (Differs t)
 deeds_differ t u (one ∷ deeds) sound told rise was =
@@ -300,6 +312,7 @@ purged_other t u top (inl lost) = inl (record {
 })
 purged_other t u top (inr other) = inr other
 
+-- nor does all that goes, one after the other
 pub purges_other : (t u : Tables) (gone : List ℕ) → AreOther t u → AreOther t (deeds_done u (purges gone))
 purges_other t = purged_keeps (AreOther t) (purged_other t)
 
@@ -338,6 +351,7 @@ climb_fewer u w fewer (suc j) node top is =
     option_and_then_some (climb w.nodes j) (parent_of w.nodes node) top is (λ parent above rest.
     ap (option_and_then (climb u.nodes j)) (fewer.up node parent above) ∙ climb_fewer u w fewer j parent top rest)
 
+-- so without what goes for good
 pub purged_fewer : (u : Tables) (top : ℕ) → Fewer u (purged u top)
 purged_fewer u top = record {
   there = λ node h. (h.0, (kept_left u.nodes top node h.0 h.1).1);
@@ -356,6 +370,7 @@ turned_there u node change keeps other (row, there) = here (other == node) (node
     here true None e is = absurd (none-some row is)
     here false None e is = absurd (none-some row is)
 
+-- and with what is put in the trash
 pub discarded_fewer : (u : Tables) (item : ItemRow) → Fewer u (discarded u item)
 discarded_fewer u item = record {
   there = turned_there u item.node trashed (λ row. refl);
@@ -371,6 +386,7 @@ discarded_fewer u item = record {
     here true (Some row) parent is = absurd (none-some parent is)
     here false o parent is = is
 
+-- whichever
 pub discard_fewer : (t u : Tables) (now : ℕ) (row : NodeRow) → Fewer u (deed_done u (discard t now row))
 discard_fewer t u now row =
     cond_both (goes_itself t now row) (deed.Purge row.id) (deed.Discard (item_for now row)) (λ (one : Deed). Fewer u (deed_done u one))
@@ -388,6 +404,7 @@ discard_next t u now row =
 abbrev pub NewApart : Tables → (ℕ → Type 0) → Tables → Type 0
 NewApart t Tops u = (node : ℕ) → HasRow u.nodes node → HasRow t.nodes node ⊎ ((j top : ℕ) → Tops top → climb u.nodes j node ≢ Some top)
 
+-- with no more than was there what is new stays apart
 pub apart_fewer : (t : Tables) (Tops : ℕ → Type 0) (u w : Tables) → Fewer u w → NewApart t Tops u → NewApart t Tops w
 apart_fewer t Tops u w fewer apart node there =
     elim (apart node (fewer.there node there)) [
@@ -411,6 +428,7 @@ apart_old t Tops u top apart tops there node under = let c = under_climb u.nodes
 abbrev pub Tells : Tables → Tables → List Deed → Type 0
 Tells t u deeds = AreTold t u deeds × AreOther t (deeds_done u deeds)
 
+-- where what is new is under no item that was there, the items that go are told
 pub items_told : (t : Tables) (Tops : ℕ → Type 0) (u : Tables) (gone : List ℕ) → AreSound t → ((node : ℕ) → IsItem t node → Tops node)
     → All (IsItem t) gone → NewApart t Tops u → AreTold t u (purges gone)
 items_told t Tops u [] sound tops items apart = tt
@@ -442,6 +460,7 @@ present_none : (t : Tables) (node : ℕ) → AreSound t → LeadsToRoot t.nodes 
 present_none t node sound present is =
     let top = item_top t node sound is in never_trash 0 t.nodes node node top.0 present refl top.1 top.2
 
+-- it is told in other tables than those in which it was decided how, where its row is the same and what is under it was there
 pub leaving_told : (t u : Tables) (now : ℕ) (row : NodeRow) → AreSound t → KnownLeaving t row → node_row u.nodes row.id ≡ Some row → IsOld t u row.id
     → (IsItem u row.id → IsItem t row.id) → IsTold t u (discard t now row)
 leaving_told t u now row sound known there old item =
@@ -451,11 +470,13 @@ leaving_told t u now row sound known there old item =
       present_none t row.id sound known.present,
     ))
 
+-- so in those themselves
 pub leaving_here : (t : Tables) (now : ℕ) (row : NodeRow) → AreSound t → KnownLeaving t row → IsTold t t (discard t now row)
 leaving_here t now row sound known =
     leaving_told t t now row sound known known.there
     (λ node under. some_there (node_row t.nodes node) (under_there t.nodes node row.id (ap is_some known.there) under)) (λ is. is)
 
+-- and its row is another then, or none
 leaving_other : (t : Tables) (now : ℕ) (row : NodeRow) → AreSound t → KnownLeaving t row → AreOther t (deed_done t (discard t now row))
 leaving_other t now row sound known =
     cond_both (goes_itself t now row) (deed.Purge row.id) (deed.Discard (item_for now row)) (λ (one : Deed). AreOther t (deed_done t one))
@@ -469,6 +490,7 @@ leaving_other t now row sound known =
           (same_Some (trashed row) row (sym (row_itself t.nodes row.id trashed (λ row. refl) ∙ ap (option_map trashed) known.there) ∙ is));
     }))
 
+-- with what goes beside it
 pub leaving_tells : (t : Tables) (now : ℕ) (row : NodeRow) → AreSound t → KnownLeaving t row → Tells t t (discard t now row ∷ beside t now row)
 leaving_tells t now row sound known =
     let more = items_tell t (deed_done t (discard t now row)) (rest_of t now row) sound (rest_goes t sound now row known).items
@@ -477,14 +499,17 @@ leaving_tells t now row sound known =
 
 -- ---- the meta row is never dropped
 
+-- where a node's row becomes another
 row_droppable : (o : Option NodeRow) (change : NodeRow → NodeRow) → All IsDroppable (told_node o change)
 row_droppable None change = All-nil IsDroppable
 row_droppable (Some row) change = All-cons IsDroppable (Put (rows.Node (change row))) [] tt (All-nil IsDroppable)
 
+-- where shares end
 closed_droppable : (nodes : List NodeRow) (shares : List ShareRow) (top : ℕ) → All IsDroppable (closed_under nodes shares top)
 closed_droppable nodes shares top =
     All-map IsDroppable (λ share. Put (rows.Share (ended_row share))) (filter (is_closing nodes top) shares) (λ k d within. tt)
 
+-- by no deed
 deed_droppable : (t : Tables) (one : Deed) → All IsDroppable (told_deed t one)
 deed_droppable t (deed.Discard item) =
     All-append IsDroppable (told_node (node_row t.nodes item.node) trashed) (Put (rows.Item item) ∷ closed_under t.nodes t.shares item.node)
@@ -503,6 +528,7 @@ deed_droppable t (deed.Relink node folder name) = row_droppable (node_row t.node
 deed_droppable t (deed.Join copies) = All-map IsDroppable (λ row. Put (rows.Node row)) copies (λ k d within. tt)
 deed_droppable t (deed.Requote row) = All-cons IsDroppable (Put (rows.User row)) [] tt (All-nil IsDroppable)
 
+-- nor by those after it
 pub deeds_droppable : (t : Tables) (deeds : List Deed) → All IsDroppable (told_deeds t deeds)
 deeds_droppable t [] = All-nil IsDroppable
 deeds_droppable t (one ∷ deeds) =
