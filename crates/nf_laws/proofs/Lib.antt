@@ -68,6 +68,7 @@ pub mod Sources
 pub mod Stays
 pub mod Stored
 pub mod Telling
+pub mod Told
 pub mod Transferred
 pub mod Trashed
 pub mod Trashing
