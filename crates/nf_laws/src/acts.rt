@@ -30,7 +30,6 @@ pub fn mounts_are_renamed()
 {}
 
 /// A sweep takes the items that their owners' trashes don't hold any more, each for good with all under it, and touches nothing else.
-#[tactic(auto, using(crate::proofs::Acting::sweeps_take))]
 pub fn sweeps_take()
     ensures { SweepsTake }
 {}
