@@ -1,5 +1,5 @@
 -- What the deeds that act make of the tables: what leaves its place, what is put somewhere, and that all else is as it was.
-use Rattle.std.proofs.Common.{◌≡◌, ◌≢◌, ◌<◌, ◌≤◌, ◌⊎◌, ℕ, zero, suc, ◌+◌, ◌==◌, ◌||◌, Bool, true, false, List, [], ◌∷◌, Option, None, Some, get_or, map, option_map, unwrap_or, inl, inr, refl, sym, ap, subst, ◌∙◌, arith}
+use Rattle.std.proofs.Common.{◌≡◌, ◌≢◌, ◌<◌, ◌≤◌, ◌⊎◌, ℕ, zero, suc, ◌||◌, Bool, true, false, List, [], ◌∷◌, Some, get_or, map, option_map, unwrap_or, inl, inr, refl, sym, ap, subst, ◌∙◌, arith}
 use Rattle.std.specs.Prelude.{is_some}
 use Rattle.std.specs.List.{All, Contains}
 use Rattle.std.proofs.lemmas.Bool.{cases_Bool, cases_lt, cond_both, false_from_ne_true, ne_eqb}
@@ -10,13 +10,12 @@ use Rattle.nf_base.specs.declared.rows.ItemRow.{ItemRow}
 use Rattle.nf_base.specs.declared.rows.MetaRow.{MetaRow}
 use Rattle.nf_base.specs.declared.rows.NodeRow.{NodeRow}
 use Rattle.nf_base.specs.declared.rows.Place.{Place}
-use Rattle.nf_base.specs.declared.rows.Place.TheVariants.{Inside, Trash}
+use Rattle.nf_base.specs.declared.rows.Place.TheVariants.{Inside}
 use Rattle.nf_base.specs.declared.rows.ShareRow.{ShareRow}
 use Rattle.nf_defs.proofs.Climbs.{climb_under, under_climb}
 use Rattle.nf_defs.specs.Prelude.{climb, folder_of, is_under, item_row, node_row, parent_of, relinked, Tables}
 use Rattle.nf_defs.specs.Tree.{trashed}
-use Rattle.nf_laws.proofs.Climbs.{some_there}
-use Rattle.nf_laws.proofs.Ended.{any, are_ended, ended_twice}
+use Rattle.nf_laws.proofs.Ended.{any, ended_twice}
 use Rattle.nf_laws.proofs.Going.{outside_is, present_off, under_is}
 use Rattle.nf_laws.proofs.Gone.{row_gone}
 use Rattle.nf_laws.proofs.InTurn.{fit_sound, item_outside, Joins}
@@ -25,13 +24,13 @@ use Rattle.nf_laws.proofs.Moved.{below_leads, Fits, outside_leads, relinked_soun
 use Rattle.nf_laws.proofs.OneRow.{row_itself, row_other}
 use Rattle.nf_laws.proofs.Others.{item_other, unless_gone}
 use Rattle.nf_laws.proofs.Present.{kept_leads, root_there, trash_alone}
-use Rattle.nf_laws.proofs.Puts.{number_found, other_number, under_there}
+use Rattle.nf_laws.proofs.Puts.{number_found, other_number}
 use Rattle.nf_laws.proofs.Regions.{joined_stays, left_stays, old_row, Stays, stays_same, stays_then, with_stays}
 use Rattle.nf_laws.proofs.Rows.{kept_joined}
 use Rattle.nf_laws.proofs.Sources.{under_given}
 use Rattle.nf_laws.proofs.Trashed.{item_top}
-use Rattle.nf_laws.proofs.Upwards.{climbed, derived, never_climbs}
-use Rattle.nf_laws.specs.Acts.{AreEnded, IsGoneWith, IsInTrash, IsUnderOne}
+use Rattle.nf_laws.proofs.Upwards.{derived, never_climbs}
+use Rattle.nf_laws.specs.Acts.{IsGoneWith, IsInTrash, IsUnderOne}
 use Rattle.nf_laws.specs.Tree.{Under}
 use Rattle.nf_words.proofs.Known.{IsItem, KnownLeaving}
 use Rattle.nf_words.proofs.Ways.{HasRow, inside_there}
@@ -312,7 +311,7 @@ join_acted t u now leave rows sound meta at acted joins = record {
     v = joined u rows
 
     old : (node : ℕ) → (IsNew t node → ⊥) → node < t.meta.next_node
-    old node new = elim (cases_lt node t.meta.next_node) [ | inl less ↦ less | inr more ↦ absurd (new more) ]
+    old node new = elim (cases_lt node t.meta.next_node) [ inl less ↦ less | inr more ↦ absurd (new more) ]
 
     same : (node : ℕ) → node < t.meta.next_node → node_row v.nodes node ≡ node_row u.nodes node
     same node given = old_row u now rows acted.sound joins node (omega (arith, given, ap (λ (meta : MetaRow). meta.next_node) meta))

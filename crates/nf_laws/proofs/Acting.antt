@@ -55,8 +55,8 @@ use Rattle.nf_words.proofs.Passing.{call_passes, Passes, place_passes, PlacePass
 use Rattle.nf_words.proofs.Starts.{has_asker, itself_asker, row_of_caller}
 use Rattle.nf_words.proofs.Sweeping.{gone_owned, swept_goes}
 use Rattle.nf_words.proofs.Trashing.{back_known, dropped_goes, emptied_goes}
-use Rattle.nf_words.proofs.Ways.{node_present, way_there}
-use Rattle.nf_words.specs.Prelude.{access_of, allowed_of, answered_by, AreSound, asked_of, asker_of, behind, beside, blob_after, blob_for, by_of, Call, call_decision, call_of, changed, content_in, decision_of, deleted, discard, deeds_done, done, end_refusal, ends_at, exists_rule, found, given, gone_beside, gone_from, IsHeld, IsStorable, item_dropped, item_restored, items_of, last_name, LeadsToRoot, left_row, made_folder, makes, MayAsk, MayEnd, mount_left, mount_of, mount_renamed, moved, named_row, named_rule, new_node, node_at, nothing_done, own_mount, owners_of, purges, refilled, refusal_of, root_of, seeker_of, row_at, source_lost, stored, stored_at, stores, swept, taken, target_lost, transfer_of, unnamed_by, untrashed, user_of, way_by, way_of, with_mount_row}
+use Rattle.nf_words.proofs.Ways.{way_there}
+use Rattle.nf_words.specs.Prelude.{access_of, allowed_of, answered_by, AreSound, asked_of, asker_of, behind, beside, blob_after, blob_for, by_of, Call, call_decision, call_of, changed, content_in, decision_of, deleted, discard, deeds_done, done, end_refusal, ends_at, exists_rule, found, given, gone_beside, gone_from, IsHeld, IsStorable, item_dropped, item_restored, items_of, last_name, left_row, made_folder, makes, MayAsk, MayEnd, mount_left, mount_of, mount_renamed, moved, named_row, named_rule, new_node, node_at, nothing_done, own_mount, owners_of, purges, refilled, refusal_of, root_of, seeker_of, row_at, source_lost, stored, stored_at, stores, swept, taken, target_lost, transfer_of, unnamed_by, untrashed, user_of, way_by, way_of, with_mount_row}
 use Rattle.nf_words.specs.declared.answer.Allowed.{Allowed}
 use Rattle.nf_words.specs.declared.answer.Allowed.TheVariants as allowed
 use Rattle.nf_words.specs.declared.answer.Deed.{Deed}

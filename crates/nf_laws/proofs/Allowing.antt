@@ -4,7 +4,7 @@ use Rattle.std.specs.List.{All}
 use Rattle.std.specs.Option.{IfSome, option_and_then, option_map_or}
 use Rattle.nf_access.specs.Shares.{ground_of}
 use Rattle.nf_base.specs.declared.perms.Act.TheVariants as act
-use Rattle.nf_defs.specs.Prelude.{put, Tables}
+use Rattle.nf_defs.specs.Prelude.{Tables}
 use Rattle.nf_defs.specs.declared.Seeker.{Seeker}
 use Rattle.nf_laws.proofs.Acting.{put_rows}
 use Rattle.nf_laws.proofs.Entries.{entry_has}
@@ -18,7 +18,7 @@ use Rattle.nf_words.proofs.Ends.{known_change, goal_held}
 use Rattle.nf_words.proofs.Known.{Known}
 use Rattle.nf_words.proofs.Passing.{acts_pass, call_passes, end_passes, needs_pass, not_refused, Passes}
 use Rattle.nf_words.proofs.Starts.{has_asker, IsAsking}
-use Rattle.nf_words.specs.Prelude.{access_of, allowed_of, AreSound, blob_for, Call, call_of, call_decision, changed, content_in, decision_of, deeds_done, end_refusal, ends_at, given, goal_at, IsSound, IsStorable, MayAsk, MayEnd, MayWant, mounted, Need, needed, needed_by, needs, places_of, purges, seeker_of, State, stored_at, swept}
+use Rattle.nf_words.specs.Prelude.{access_of, allowed_of, AreSound, blob_for, Call, call_of, call_decision, changed, content_in, decision_of, deeds_done, end_refusal, ends_at, given, goal_at, IsSound, IsStorable, MayAsk, MayEnd, MayWant, Need, needed, needed_by, places_of, purges, seeker_of, State, stored_at, swept}
 use Rattle.nf_words.specs.declared.answer.Allowed.{Allowed}
 use Rattle.nf_words.specs.declared.answer.Allowed.TheVariants as allowed
 use Rattle.nf_words.specs.declared.answer.Goal.{Goal}
@@ -181,7 +181,6 @@ act_fine s e (End outcome) act ends sound later may is = here (goal_at s e.seat)
     here None at may is held = absurd may
     here (Some goal) at brings goes held =
         goal_fine s e outcome goal act ends sound at held goes (known_change s e.seat e.moment (End outcome) act sound may is)
-
 act_fine s e Sweep act sweeps sound later may is =
     let same : swept s.tables e.moment ≡ act = cc in
     subst (λ (a : Allowed). IsFine s e (changed s.tables e.moment a)) same (λ fine. sweep_allowed s e sound sweeps)

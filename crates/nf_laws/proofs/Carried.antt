@@ -1,15 +1,15 @@
 -- Of a DELETE, a MOVE, a COPY and a MOVE to another owner: what acts, and what goes for good beside it.
-use Rattle.std.proofs.Common.{◌≡◌, ◌≢◌, ◌≤◌, ℕ, zero, suc, ◌+◌, ◌==◌, option_map, true, false, List, [], ◌∷◌, ◌++◌, Option, None, Some, filter, get_or, length, not, inl, inr, refl, sym, ap, subst, ◌∙◌, arith}
+use Rattle.std.proofs.Common.{◌≡◌, ◌≤◌, ℕ, zero, suc, ◌+◌, ◌==◌, option_map, false, List, [], ◌∷◌, ◌++◌, Option, None, Some, length, refl, sym, ap, subst, ◌∙◌, arith}
 use Rattle.std.specs.Prelude.{option_and_then, slice_get}
 use Rattle.std.specs.List.{All, Contains}
 use Rattle.std.specs.Option.{option_map_or}
-use Rattle.std.proofs.lemmas.Bool.{both_ways, cond_both, eq-eqb, eqb-true, false_from_ne_true, not-true}
+use Rattle.std.proofs.lemmas.Bool.{both_ways, cond_both, eqb-true, false_from_ne_true}
 use Rattle.std.proofs.lemmas.List.{map-append}
-use Rattle.std.proofs.lemmas.List.Elements.{All-append, All-nil, All-weaker}
+use Rattle.std.proofs.lemmas.List.Elements.{All-append, All-nil}
 use Rattle.nf_base.specs.declared.rows.MetaRow.{MetaRow}
 use Rattle.nf_base.specs.declared.rows.NodeRow.{NodeRow}
 use Rattle.nf_defs.proofs.Climbs.{climb_under, under_climb}
-use Rattle.nf_defs.specs.Prelude.{climb, is_under, node_row, owner_of, parent_of, relinked, Tables}
+use Rattle.nf_defs.specs.Prelude.{climb, is_under, node_row, parent_of, relinked, Tables}
 use Rattle.nf_laws.proofs.Acted.{Acted, IsNew, join_acted, leave_acted, none_acted, NoNode, relink_acted}
 use Rattle.nf_laws.proofs.Copied.{copies_there}
 use Rattle.nf_laws.proofs.Going.{under_is}
@@ -31,7 +31,7 @@ use Rattle.nf_words.proofs.Known.{KnownCopies, KnownCross, KnownGoes, KnownLeavi
 use Rattle.nf_words.proofs.Sweeping.{rest_owned}
 use Rattle.nf_words.proofs.Transfers.{replaced_leaves, row_leaves}
 use Rattle.nf_words.proofs.Trashing.{rest_goes}
-use Rattle.nf_words.specs.Prelude.{AreSound, beside, copies, copies_to, crossing, deed_done, deeds_done, discard, gone_with, goes_itself, item_for, joined, LeadsToRoot, moves, purges, row_at}
+use Rattle.nf_words.specs.Prelude.{AreSound, beside, copies, copies_to, crossing, deed_done, deeds_done, discard, goes_itself, item_for, joined, moves, purges, row_at}
 use Rattle.nf_words.specs.declared.answer.Deed.{Deed}
 use Rattle.nf_words.specs.declared.answer.Deed.TheVariants as deed
 use Rattle.nf_words.specs.declared.request.Transfer.{Transfer}

@@ -1,5 +1,5 @@
 -- The tables with copies more are sound.
-use Rattle.std.proofs.Common.{ℕ, zero, suc, ◌+◌, ◌≡◌, ◌≢◌, ◌<◌, ◌≤◌, ◌&&◌, bytes_eq, true, false, List, [], ◌∷◌, ◌++◌, Option, Some, get_or, length, refl, sym, ap, subst, ◌∙◌, arith, le_refl, length-append, None}
+use Rattle.std.proofs.Common.{ℕ, zero, suc, ◌+◌, ◌≡◌, ◌≢◌, ◌<◌, ◌≤◌, ◌&&◌, bytes_eq, true, List, [], ◌∷◌, ◌++◌, Option, Some, get_or, length, refl, sym, ap, subst, ◌∙◌, arith, le_refl, length-append, None}
 use Rattle.std.specs.List.{All, AllPairs, slice_get, sum_by}
 use Rattle.std.specs.Option.{option_and_then, option_map_or}
 use Rattle.std.proofs.lemmas.Bool.{and_parts, eqb-true, false_from_ne_true}
@@ -13,16 +13,14 @@ use Rattle.nf_base.specs.declared.content.Piece.{Piece}
 use Rattle.nf_base.specs.declared.rows.NodeRow.{NodeRow}
 use Rattle.nf_base.specs.declared.rows.Place.{Place}
 use Rattle.nf_base.specs.declared.rows.Place.TheVariants.{Inside}
-use Rattle.nf_defs.specs.Prelude.{child_of, climb, content_of, depth, is_folder, is_folder_kind, is_in, is_place_in, is_root, is_root_place, node_row, owner_of, piece_count, Tables, walk_of, walk_within}
+use Rattle.nf_defs.specs.Prelude.{child_of, climb, content_of, depth, is_folder, is_folder_kind, is_in, is_place_in, node_row, owner_of, piece_count, Tables, walk_of, walk_within}
 use Rattle.nf_laws.proofs.Added.{new_apart}
 use Rattle.nf_laws.proofs.Climbs.{node_row_each, parent_at}
-use Rattle.nf_laws.proofs.Mirrored.{mirrored}
 use Rattle.nf_laws.proofs.Others.{all_off, IsOff, kept_present, new_off, others_still, root_row, Still, trash_kept, was_same, WasThere}
 use Rattle.nf_laws.proofs.Paths.{child_there}
-use Rattle.nf_laws.proofs.Present.{kept_leads}
 use Rattle.nf_laws.proofs.Rows.{child_folder, climb_kept, counters_up, folder_kept, folder_there, kept_joined, node_kept, parent_there, pieces_kept, root_kept, row_is, row_joined, stamp, top_kept}
 use Rattle.nf_laws.proofs.Upwards.{climbs_depth, deepest_among, depth_up}
-use Rattle.nf_laws.proofs.Walked.{AllPairs-append, walks_take}
+use Rattle.nf_laws.proofs.Walked.{AllPairs-append}
 use Rattle.nf_laws.specs.Numbers.{AreHigher}
 use Rattle.nf_laws.specs.Transfers.{IsCopyOf, Mirrors}
 use Rattle.nf_words.proofs.Known.{KnownTransfer}

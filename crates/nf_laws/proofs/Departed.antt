@@ -1,14 +1,12 @@
 -- What left its place in a step, and what goes for good beside it, row by row.
-use Rattle.std.proofs.Common.{◌≡◌, ◌≢◌, ◌<◌, ◌≤◌, ℕ, length, length-append, true, List, ◌∷◌, ◌++◌, Option, None, Some, get_or, map, option_map, inl, inr, refl, sym, ap, subst, ◌∙◌, arith}
-use Rattle.std.specs.Prelude.{is_some, slice_get}
+use Rattle.std.proofs.Common.{◌≡◌, ◌≤◌, ℕ, length, length-append, List, ◌∷◌, ◌++◌, get_or, inl, inr, sym, ap, subst, ◌∙◌, arith}
 use Rattle.std.specs.List.{All, Contains}
 use Rattle.std.proofs.lemmas.List.Elements.{All-contains, All-contains_itself, All-weaker}
 use Rattle.nf_base.specs.declared.rows.MetaRow.{MetaRow}
-use Rattle.nf_base.specs.declared.rows.NodeRow.{NodeRow}
 use Rattle.nf_base.specs.declared.rows.ShareRow.{ShareRow}
-use Rattle.nf_defs.specs.Prelude.{item_row, node_row, relinked, Tables}
+use Rattle.nf_defs.specs.Prelude.{node_row, Tables}
 use Rattle.nf_laws.proofs.Acted.{Acted, away_on, IsAway, IsNew, item_left, not_leaving}
-use Rattle.nf_laws.proofs.Carried.{AreJoined, IsRelinked, Kind}
+use Rattle.nf_laws.proofs.Carried.{Kind}
 use Rattle.nf_laws.proofs.Discarding.{deed_told}
 use Rattle.nf_laws.proofs.Ended.{are_ended}
 use Rattle.nf_laws.proofs.Going.{ArePurged, items_purged, present_off, purged_rest, shares_purged, under_is}
@@ -19,7 +17,7 @@ use Rattle.nf_laws.proofs.Rows.{stamp, stamped_some}
 use Rattle.nf_laws.proofs.Sources.{under_given}
 use Rattle.nf_laws.proofs.Trashed.{item_top}
 use Rattle.nf_laws.proofs.Upwards.{climbed}
-use Rattle.nf_laws.specs.Acts.{AreEnded, HaveLeft, IsGoneWith, IsInTrash, IsUnderOne}
+use Rattle.nf_laws.specs.Acts.{AreEnded, HaveLeft, IsUnderOne}
 use Rattle.nf_laws.specs.Tree.{Under}
 use Rattle.nf_words.proofs.Known.{IsItem}
 use Rattle.nf_words.specs.Prelude.{AreSound, changed, deed_done, deeds_done, LeadsToRoot, purges, told_deed, told_deeds}

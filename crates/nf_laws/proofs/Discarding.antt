@@ -1,5 +1,5 @@
 -- That a step with a deed tells something, whose the items are that go for good, and what they leave as it was.
-use Rattle.std.proofs.Common.{ℕ, ◌+◌, ◌==◌, ◌≡◌, ◌≢◌, ◌≤◌, not, List, ◌∷◌, ◌++◌, filter, get_or, length, length-append, map, refl, sym, ap, ◌∙◌, arith}
+use Rattle.std.proofs.Common.{ℕ, ◌==◌, ◌≡◌, ◌≢◌, ◌≤◌, not, List, ◌∷◌, get_or, length, length-append, map, refl, sym, ap, ◌∙◌, arith}
 use Rattle.std.specs.Prelude.{is_some}
 use Rattle.std.specs.List.{All, Contains}
 use Rattle.std.specs.Option.{option_and_then}
@@ -121,4 +121,3 @@ goes_beside t u after changed tops same apart h = record {
 
     off : (top : ℕ) → Contains tops top → Apart top
     off top among = All-contains Apart tops top apart among
-

@@ -8,7 +8,7 @@ use Rattle.nf_base.specs.declared.perms.Act.TheVariants.{Create, Update}
 use Rattle.nf_base.specs.declared.rows.NodeKind.{NodeKind}
 use Rattle.nf_base.specs.declared.rows.NodeRow.{NodeRow}
 use Rattle.nf_base.specs.declared.rows.ShareRow.{ShareRow}
-use Rattle.nf_defs.specs.Prelude.{folder_of, node_row, parent_of, Tables}
+use Rattle.nf_defs.specs.Prelude.{folder_of, node_row, Tables}
 use Rattle.nf_laws.proofs.Copied.{copies_there}
 use Rattle.nf_laws.proofs.InTurn.{Joins}
 use Rattle.nf_laws.proofs.Regions.{behind, none_given}

@@ -1,6 +1,5 @@
 -- The tables without what is removed are sound.
 use Rattle.std.proofs.Common.{inl, inr, ℕ, suc, ◌==◌, ◌≡◌, ◌<◌, ◌≤◌, Bool, true, false, not, List, Option, None, Some, length, refl, sym, ap, subst, ◌∙◌, arith, le_refl}
-use Rattle.std.specs.List.{All}
 use Rattle.std.proofs.lemmas.Bool.{both_ways, cases_Bool, false_from_ne_true, ne_eqb, not-true, not_from_false}
 use Rattle.std.proofs.lemmas.List.Elements.{All-filter, All-weaker, filter_passes}
 use Rattle.std.proofs.lemmas.List.Filters.{length-filter_both, sum_by-filter_both}
@@ -14,11 +13,11 @@ use Rattle.nf_base.specs.declared.rows.UserRow.{UserRow}
 use Rattle.nf_defs.proofs.Climbs.{climb_under, under_climb}
 use Rattle.nf_defs.specs.Prelude.{child_of, climb, folder_of, is_root, is_root_place, is_under, node_row, parent_of, piece_count, Tables, without_under}
 use Rattle.nf_laws.proofs.Climbs.{climb_passes, climb_those, climbs_no_further, IsClosed, node_row_each, parent_at, row_of_those, those}
-use Rattle.nf_laws.proofs.Others.{all_off, IsOff, items_all, items_left, ItemsLeft, others_ended, those_were, was_same, without}
+use Rattle.nf_laws.proofs.Others.{all_off, IsOff, items_left, ItemsLeft, others_ended, those_were, was_same, without}
 use Rattle.nf_laws.proofs.Paths.{child_is, child_there}
 use Rattle.nf_laws.proofs.Present.{those_leads, trash_outside}
 use Rattle.nf_laws.proofs.Rows.{finds_none, kept_row, node_still, root_still}
-use Rattle.nf_laws.proofs.Upwards.{never_climbs, no_rings}
+use Rattle.nf_laws.proofs.Upwards.{never_climbs}
 use Rattle.nf_words.specs.Prelude.{AreApart, AreSound, HasRoot, IsNodeSound, IsPlaceSound, LeadsToRoot}
 
 -- ---- the tables without the nodes that go

@@ -1,46 +1,38 @@
 -- The deeds of a step, each known in the tables that it is done in.
-use Rattle.std.proofs.Common.{◌≡◌, ◌≢◌, ◌≤◌, ℕ, zero, suc, ◌+◌, true, ◌==◌, not, filter, false, List, [], ◌∷◌, ◌++◌, Option, None, Some, length, get_or, inl, inr, refl, sym, ap, subst, ◌∙◌, arith, le_refl}
-use Rattle.std.specs.Prelude.{is_some, option_and_then}
+use Rattle.std.proofs.Common.{◌≡◌, ◌≢◌, ◌≤◌, ℕ, zero, suc, ◌+◌, true, ◌==◌, not, false, List, [], ◌∷◌, ◌++◌, Option, None, Some, length, get_or, inl, inr, refl, sym, ap, subst, ◌∙◌, arith}
+use Rattle.std.specs.Prelude.{is_some}
 use Rattle.std.specs.List.{All, AllPairs, Contains, slice_get}
-use Rattle.std.specs.Option.{option_map_or, option_or}
-use Rattle.std.proofs.lemmas.Bool.{both_ways, cond_both, eq-eqb, eqb-true, false_from_ne_true, ne_eqb, not-true}
-use Rattle.std.proofs.lemmas.List.Elements.{All-contains_itself, All-head, All-tail, All-weaker}
+use Rattle.std.specs.Option.{option_map_or}
+use Rattle.std.proofs.lemmas.Bool.{cond_both, eqb-true, false_from_ne_true, ne_eqb}
+use Rattle.std.proofs.lemmas.List.Elements.{All-contains_itself, All-head, All-tail}
 use Rattle.std.proofs.lemmas.List.Sums.{sum_by-cons}
-use Rattle.std.proofs.lemmas.List.Folds.{find-append}
-use Rattle.std.proofs.lemmas.Option.{get_or_from_slice_get, none-some, same_Some, slice_get_within}
+use Rattle.std.proofs.lemmas.Option.{get_or_from_slice_get, none-some, slice_get_within}
 use Rattle.nf_base.specs.declared.changes.Change.TheVariants.{Put}
 use Rattle.nf_base.specs.declared.limits.TheConstants.{MAX_NODES, MAX_STORED_PIECES}
 use Rattle.nf_base.specs.declared.rows.ItemRow.{ItemRow}
 use Rattle.nf_base.specs.declared.rows.NodeRow.{NodeRow}
 use Rattle.nf_base.specs.declared.rows.Row.TheVariants as rows
-use Rattle.nf_defs.specs.Prelude.{dropped, item_key, item_row, content_of, is_root_place, is_under, made, parent_of, node_row, owner_of, Tables, walk_of}
+use Rattle.nf_defs.specs.Prelude.{dropped, item_key, content_of, is_under, node_row, owner_of, Tables, walk_of}
 use Rattle.nf_laws.proofs.Copied.{joined_sound}
-use Rattle.nf_laws.proofs.Into.{below_out, folder_out, into, known_into, source_out, walk_so}
-use Rattle.nf_laws.proofs.Climbs.{parent_at}
-use Rattle.nf_laws.proofs.Gone.{left_leads, row_left}
-use Rattle.nf_laws.proofs.Left.{discard_left, Left}
+use Rattle.nf_laws.proofs.Into.{below_out, folder_out, into, known_into, walk_so}
+use Rattle.nf_laws.proofs.Left.{Left}
 use Rattle.nf_laws.proofs.Mirrored.{mirrored}
-use Rattle.nf_laws.proofs.Moved.{deep_below, Fits, relinked_sound, same_owner}
-use Rattle.nf_laws.proofs.Others.{item_other, items_all, stamp_sound}
+use Rattle.nf_laws.proofs.Moved.{deep_below, Fits, relinked_sound}
+use Rattle.nf_laws.proofs.Others.{item_other, items_all}
 use Rattle.nf_laws.proofs.Peopled.{people_sound}
-use Rattle.nf_laws.proofs.Present.{kept_leads, never_trash}
-use Rattle.nf_laws.proofs.Rows.{kept_joined, row_is, stamp}
-use Rattle.nf_laws.proofs.Trashed.{discarded_sound, Goes, item_put, item_top, purged_sound, restored_fits}
+use Rattle.nf_laws.proofs.Present.{never_trash}
+use Rattle.nf_laws.proofs.Trashed.{discarded_sound, Goes, item_top, purged_sound}
 use Rattle.nf_laws.proofs.Walked.{walks_take}
 use Rattle.nf_laws.proofs.Upwards.{climbs_is_under}
-use Rattle.nf_laws.specs.Transfers.{IsCopyOf, IsPlacedCopy, Mirrors}
+use Rattle.nf_laws.specs.Transfers.{IsPlacedCopy, Mirrors}
 use Rattle.nf_base.specs.declared.rows.MetaRow.{MetaRow}
 use Rattle.nf_base.specs.declared.rows.Place.TheVariants.{Inside}
-use Rattle.nf_defs.proofs.Climbs.{climb_under, under_climb}
+use Rattle.nf_defs.proofs.Climbs.{under_climb}
 use Rattle.nf_defs.proofs.Walks.{walk_climbs}
 use Rattle.nf_words.proofs.Found.{child_parent, found_passes}
-use Rattle.nf_words.proofs.Known.{IsItem, KnownGoes, KnownCopies, KnownCross, KnownDeeds, KnownLeaving, KnownMove, KnownTransfer}
-use Rattle.nf_words.proofs.Known.KnownDeeds.{by_copying, by_crossing, by_going, by_leaving, by_moving, by_requoting, by_restoring}
-use Rattle.nf_words.proofs.Sweeping.{rest_owned}
-use Rattle.nf_words.proofs.Transfers.{replaced_leaves, row_leaves}
-use Rattle.nf_words.proofs.Trashing.{rest_apart, rest_goes}
+use Rattle.nf_words.proofs.Known.{IsItem, KnownCopies, KnownLeaving, KnownTransfer}
 use Rattle.nf_words.proofs.Ways.{inside_there}
-use Rattle.nf_words.specs.Prelude.{AreSound, beside, besides, copies, copies_to, deed_done, deeds_done, discard, discards, goes_itself, gone_with, IsRequoted, IsPlaceSound, item_for, joined, LeadsToRoot, last_number, moves, pieces_in, purged, purges, row_at, stored_pieces}
+use Rattle.nf_words.specs.Prelude.{AreSound, copies, copies_to, deed_done, deeds_done, discard, goes_itself, IsRequoted, item_for, joined, LeadsToRoot, last_number, pieces_in, purged, purges, row_at, stored_pieces}
 use Rattle.nf_words.specs.declared.answer.Deed.{Deed}
 use Rattle.nf_words.specs.declared.answer.Deed.TheVariants as deed
 use Rattle.nf_words.specs.declared.request.Transfer.{Transfer}

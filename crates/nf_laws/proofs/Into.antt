@@ -1,17 +1,17 @@
 -- What is moved or copied fits where what is replaced has left its place.
-use Rattle.std.proofs.Common.{◌≡◌, ◌≢◌, ◌≤◌, ℕ, zero, suc, ◌+◌, ◌==◌, ◌-◌, true, false, List, [], ◌∷◌, get_or, map, max, Option, None, Some, inl, inr, refl, sym, ap, subst, ◌∙◌, arith}
-use Rattle.std.specs.Prelude.{is_some, option_and_then}
+use Rattle.std.proofs.Common.{◌≡◌, ◌≤◌, ℕ, suc, ◌+◌, ◌-◌, true, false, List, [], ◌∷◌, get_or, map, max, Option, None, Some, inl, inr, refl, sym, ap, subst, ◌∙◌, arith}
+use Rattle.std.specs.Prelude.{is_some}
 use Rattle.std.specs.Option.{option_map_or}
 use Rattle.std.proofs.lemmas.Bool.{both_ways, cases_lt, false_from_ne_true}
 use Rattle.std.specs.List.{All}
 use Rattle.std.proofs.lemmas.List.Elements.{All-contains_itself, All-head, All-tail}
-use Rattle.std.proofs.lemmas.Option.{none-some, same_Some}
+use Rattle.std.proofs.lemmas.Option.{same_Some}
 use Rattle.nf_access.specs.Mounts.{mount_at}
 use Rattle.nf_base.specs.declared.limits.TheConstants.{MAX_DEPTH}
 use Rattle.nf_base.specs.declared.rows.MountRow.{MountRow}
 use Rattle.nf_base.specs.declared.rows.NodeRow.{NodeRow}
-use Rattle.nf_defs.proofs.Climbs.{climb_under, under_climb}
-use Rattle.nf_defs.specs.Prelude.{by_name, child_of, children_of, climb, depth, folder_of, is_folder, is_root, is_root_place, is_under, node_row, owner_of, parent_of, Tables, walk_of}
+use Rattle.nf_defs.proofs.Climbs.{under_climb}
+use Rattle.nf_defs.specs.Prelude.{by_name, climb, depth, is_root_place, is_under, node_row, owner_of, parent_of, Tables, walk_of}
 use Rattle.nf_defs.proofs.Walks.{walk_climbs}
 use Rattle.nf_laws.proofs.Climbs.{climb_on, climb_rest, depth_is, some_there}
 use Rattle.nf_laws.proofs.Left.{Left}
@@ -19,11 +19,9 @@ use Rattle.nf_laws.proofs.Puts.{under_there}
 use Rattle.nf_laws.proofs.Rows.{folder_there, none_over}
 use Rattle.nf_laws.proofs.Sources.{walk_by}
 use Rattle.nf_laws.proofs.Upwards.{climbs_depth, climbs_is_under, never_climbs, no_rings}
-use Rattle.nf_laws.specs.Transfers.{IsCopyOf, Mirrors}
 use Rattle.nf_words.proofs.Found.{child_parent}
 use Rattle.nf_words.proofs.Known.{KnownTransfer}
-use Rattle.nf_words.proofs.Ways.{HasRow}
-use Rattle.nf_words.specs.Prelude.{AreSound, deepest, deepest_in, IsTop, IsUnmounted, LeadsToRoot}
+use Rattle.nf_words.specs.Prelude.{AreSound, deepest, deepest_in}
 use Rattle.nf_words.specs.declared.request.Transfer.{Transfer}
 
 -- the transfer into the place that is free

@@ -1,16 +1,13 @@
 -- What tables have in common with those before a node left its place, whether it was put in the trash or went for good.
-use Rattle.std.proofs.Common.{◌≡◌, ◌≢◌, ◌≤◌, ℕ, zero, suc, ◌+◌, ◌-◌, ◌==◌, true, false, not, Bool, List, ◌∷◌, [], Option, None, Some, length, inl, inr, refl, sym, ap, subst, ◌∙◌, arith, le_refl, option_map, ne_eqb, filter, get_or}
+use Rattle.std.proofs.Common.{◌≡◌, ◌≢◌, ◌≤◌, ℕ, zero, suc, ◌-◌, ◌==◌, true, false, not, List, Option, None, Some, length, inl, inr, refl, sym, ap, ◌∙◌, arith, option_map, ne_eqb, filter, get_or}
 use Rattle.std.specs.Prelude.{is_some, option_and_then}
 use Rattle.std.proofs.lemmas.Bool.{both_ways, cases_Bool, cases_lt, cond_both, eq-eqb, eqb-true, false_from_ne_true, not-false}
 use Rattle.std.proofs.lemmas.Option.{none-some, same_Some}
-use Rattle.nf_base.specs.declared.rows.ItemRow.{ItemRow}
-use Rattle.nf_base.specs.declared.rows.MountRow.{MountRow}
 use Rattle.nf_base.specs.declared.rows.NodeRow.{NodeRow}
 use Rattle.nf_base.specs.declared.rows.Place.TheVariants.{Inside, Trash}
-use Rattle.nf_base.specs.declared.rows.UserRow.{UserRow}
-use Rattle.nf_defs.proofs.Climbs.{climb_under, under_climb}
+use Rattle.nf_defs.proofs.Climbs.{under_climb}
 use Rattle.nf_defs.proofs.Walks.{inside_of}
-use Rattle.nf_defs.specs.Prelude.{child_of, climb, folder_of, is_in, is_under, node_row, parent_of, Tables, with_node}
+use Rattle.nf_defs.specs.Prelude.{child_of, climb, folder_of, is_in, is_under, node_row, parent_of, Tables}
 use Rattle.nf_defs.specs.Tree.{trashed}
 use Rattle.nf_laws.proofs.Climbs.{climb_on, node_row_each, parent_at}
 use Rattle.nf_laws.proofs.Gone.{climb_left, counts_left, free_left, kept_left, left_leads, row_left}
@@ -20,7 +17,7 @@ use Rattle.nf_laws.proofs.Others.{item_other}
 use Rattle.nf_laws.proofs.Paths.{child_is, child_there}
 use Rattle.nf_laws.proofs.Sources.{filter_left}
 use Rattle.nf_laws.proofs.Trashed.{discarded_leads, discarded_sound, item_put, purged_sound}
-use Rattle.nf_laws.proofs.Upwards.{climbs_is_under, never_climbs}
+use Rattle.nf_laws.proofs.Upwards.{never_climbs}
 use Rattle.nf_words.proofs.Known.{IsItem, KnownLeaving}
 use Rattle.nf_words.proofs.Ways.{HasRow}
 use Rattle.nf_words.specs.Prelude.{AreSound, deed_done, discard, discarded, goes_itself, item_for, LeadsToRoot, purged, stored_pieces}

@@ -2,10 +2,9 @@
 use Rattle.std.proofs.Common.{ℕ, suc, ◌+◌, ◌<◌, ◌==◌, ◌≡◌, ◌≢◌, ◌≤◌, not, Bool, true, false, List, Option, None, Some, option_map, length, get_or, refl, sym, ap, subst, ◌∙◌, inl, inr, arith, le_refl}
 use Rattle.std.specs.List.{All, AllPairs}
 use Rattle.std.specs.Option.{option_and_then, option_map_or}
-use Rattle.std.proofs.lemmas.Bool.{both_ways, cases_Bool, eqb-true, false_from_ne_true, ne_eqb, not-true}
+use Rattle.std.proofs.lemmas.Bool.{both_ways, cases_Bool, eqb-true, ne_eqb, not-true}
 use Rattle.std.proofs.lemmas.List.Elements.{All-contains, All-weaker}
 use Rattle.std.proofs.lemmas.Option.{same_Some}
-use Rattle.nf_access.specs.Mounts.{mount_at}
 use Rattle.nf_base.specs.declared.limits.TheConstants.{MAX_DEPTH}
 use Rattle.nf_base.specs.declared.rows.ItemRow.{ItemRow}
 use Rattle.nf_base.specs.declared.rows.NodeRow.{NodeRow}
@@ -16,12 +15,12 @@ use Rattle.nf_defs.proofs.Climbs.{under_climb}
 use Rattle.nf_defs.proofs.Walks.{climbs_walk}
 use Rattle.nf_defs.specs.Prelude.{child_of, climb, depth, folder_of, is_folder, is_folder_kind, is_root, is_root_place, is_under, node_row, owner_of, parent_of, relinked, Tables, walk_of, with_node}
 use Rattle.nf_laws.proofs.Added.{new_apart}
-use Rattle.nf_laws.proofs.Climbs.{climb_on, climb_same, depth_is, node_row_each}
+use Rattle.nf_laws.proofs.Climbs.{climb_on, climb_same, node_row_each}
 use Rattle.nf_laws.proofs.OneRow.{IsEither, each_either, KeepsId, length_with, pieces_with, rising_with, row_itself, row_other, value_with, with_others}
-use Rattle.nf_laws.proofs.Others.{items_all, items_left, ItemsLeft, new_off, others_seen, seen_with}
-use Rattle.nf_laws.proofs.Present.{below_present, never_trash}
-use Rattle.nf_laws.proofs.Rows.{IsRooted, folder_there, kept_row, node_still, none_higher, none_over, root_still}
-use Rattle.nf_laws.proofs.Upwards.{climb_short, climbs_depth, climbs_is_under, deepest_among, depth_climb, never_climbs, rooted}
+use Rattle.nf_laws.proofs.Others.{items_left, ItemsLeft, new_off, others_seen, seen_with}
+use Rattle.nf_laws.proofs.Present.{below_present}
+use Rattle.nf_laws.proofs.Rows.{IsRooted, folder_there, kept_row, node_still, none_higher, root_still}
+use Rattle.nf_laws.proofs.Upwards.{climb_short, climbs_depth, deepest_among, depth_climb, never_climbs, rooted}
 use Rattle.nf_words.proofs.Ways.{inside_present}
 use Rattle.nf_words.specs.Prelude.{AreApart, AreSound, crosses, deepest, deepest_in, HasRoot, IsNodeSound, IsPlaceSound, IsTop, IsUnmounted, LeadsToRoot}
 use Rattle.nf_words.specs.declared.request.Transfer.{Transfer}

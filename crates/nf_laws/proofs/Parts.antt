@@ -1,48 +1,34 @@
 -- The deeds of a step: first those that act, and then items that go for good.
-use Rattle.std.proofs.Common.{◌≡◌, ◌≢◌, ◌≤◌, ℕ, zero, suc, ◌+◌, true, ◌==◌, not, filter, false, List, [], ◌∷◌, ◌++◌, Option, None, Some, length, get_or, inl, inr, refl, sym, ap, subst, ◌∙◌, arith, le_refl}
-use Rattle.std.specs.Prelude.{is_some, option_and_then}
-use Rattle.std.specs.List.{All, AllPairs, Contains, slice_get}
+use Rattle.std.proofs.Common.{◌≡◌, ◌≢◌, ◌≤◌, ℕ, ◌==◌, not, filter, false, List, [], ◌∷◌, ◌++◌, Option, None, Some, get_or, refl, sym, ap, subst, ◌∙◌, arith}
+use Rattle.std.specs.Prelude.{is_some}
+use Rattle.std.specs.List.{All}
 use Rattle.std.specs.Option.{option_map_or, option_or}
-use Rattle.std.proofs.lemmas.Bool.{both_ways, cond_both, eq-eqb, eqb-true, false_from_ne_true, ne_eqb, not-true}
-use Rattle.std.proofs.lemmas.List.Elements.{All-append, All-cons, All-nil, All-contains_itself, All-head, All-tail, All-weaker}
-use Rattle.std.proofs.lemmas.List.Sums.{sum_by-cons}
+use Rattle.std.proofs.lemmas.Bool.{both_ways, cond_both, eq-eqb, eqb-true, not-true}
+use Rattle.std.proofs.lemmas.List.Elements.{All-append, All-cons, All-nil, All-head, All-tail}
 use Rattle.std.proofs.lemmas.List.Folds.{find-append}
-use Rattle.std.proofs.lemmas.Option.{get_or_from_slice_get, none-some, same_Some, slice_get_within}
-use Rattle.nf_base.specs.declared.changes.Change.TheVariants.{Put}
-use Rattle.nf_base.specs.declared.limits.TheConstants.{MAX_NODES, MAX_STORED_PIECES}
+use Rattle.std.proofs.lemmas.Option.{same_Some}
 use Rattle.nf_base.specs.declared.rows.ItemRow.{ItemRow}
 use Rattle.nf_base.specs.declared.rows.NodeRow.{NodeRow}
-use Rattle.nf_base.specs.declared.rows.Row.TheVariants as rows
-use Rattle.nf_defs.specs.Prelude.{dropped, item_key, item_row, content_of, is_root_place, is_under, made, parent_of, node_row, owner_of, Tables, walk_of}
-use Rattle.nf_laws.proofs.Copied.{joined_sound}
+use Rattle.nf_defs.specs.Prelude.{item_row, is_root_place, is_under, parent_of, node_row, owner_of, Tables}
 use Rattle.std.proofs.lemmas.List.{map-append}
-use Rattle.nf_laws.proofs.InTurn.{deed_moment, deeds_sound, Fit, fit_sound, goes_turn, InTurn, item_outside, joins_here, joins_into, leaving_fit, move_fits, none_replaced, replaced_is, turn_append}
-use Rattle.nf_laws.proofs.Into.{below_out, folder_out, into, known_into, source_out, walk_so}
+use Rattle.nf_laws.proofs.InTurn.{deeds_sound, Fit, goes_turn, InTurn, item_outside, joins_here, joins_into, leaving_fit, move_fits, none_replaced, replaced_is, turn_append}
+use Rattle.nf_laws.proofs.Into.{folder_out, into, known_into, source_out}
 use Rattle.nf_laws.proofs.Climbs.{parent_at}
-use Rattle.nf_laws.proofs.Gone.{left_leads, row_left}
-use Rattle.nf_laws.proofs.Left.{discard_left, Left}
-use Rattle.nf_laws.proofs.Mirrored.{mirrored}
-use Rattle.nf_laws.proofs.Moved.{deep_below, Fits, relinked_sound, same_owner}
-use Rattle.nf_laws.proofs.Others.{item_other, items_all, stamp_sound}
-use Rattle.nf_laws.proofs.Peopled.{people_sound}
-use Rattle.nf_laws.proofs.Present.{kept_leads, never_trash}
+use Rattle.nf_laws.proofs.Left.{discard_left}
+use Rattle.nf_laws.proofs.Moved.{same_owner}
+use Rattle.nf_laws.proofs.Others.{item_other, stamp_sound}
+use Rattle.nf_laws.proofs.Present.{kept_leads}
 use Rattle.nf_laws.proofs.Rows.{kept_joined, row_is, stamp}
-use Rattle.nf_laws.proofs.Trashed.{discarded_sound, Goes, item_put, item_top, purged_sound, restored_fits}
-use Rattle.nf_laws.proofs.Walked.{walks_take}
-use Rattle.nf_laws.proofs.Upwards.{climbs_is_under}
-use Rattle.nf_laws.specs.Transfers.{IsCopyOf, IsPlacedCopy, Mirrors}
-use Rattle.nf_base.specs.declared.rows.MetaRow.{MetaRow}
+use Rattle.nf_laws.proofs.Trashed.{item_put, restored_fits}
 use Rattle.nf_base.specs.declared.rows.Place.TheVariants.{Inside}
-use Rattle.nf_defs.proofs.Climbs.{climb_under, under_climb}
-use Rattle.nf_defs.proofs.Walks.{walk_climbs}
+use Rattle.nf_defs.proofs.Climbs.{climb_under}
 use Rattle.nf_words.proofs.Found.{child_parent, found_passes}
 use Rattle.nf_words.proofs.Known.{IsItem, KnownGoes, KnownCopies, KnownCross, KnownDeeds, KnownLeaving, KnownMove, KnownTransfer}
 use Rattle.nf_words.proofs.Known.KnownDeeds.{by_copying, by_crossing, by_going, by_leaving, by_moving, by_requoting, by_restoring}
 use Rattle.nf_words.proofs.Sweeping.{joined_once, rest_owned}
 use Rattle.nf_words.proofs.Transfers.{replaced_leaves, row_leaves}
 use Rattle.nf_words.proofs.Trashing.{rest_apart, rest_goes}
-use Rattle.nf_words.proofs.Ways.{inside_there}
-use Rattle.nf_words.specs.Prelude.{AreSound, beside, besides, copies, copies_to, crossing, deed_done, deeds_done, discard, discards, goes_itself, gone_with, IsRequoted, IsPlaceSound, item_for, joined, LeadsToRoot, last_number, moves, pieces_in, purged, purges, row_at, stored_pieces}
+use Rattle.nf_words.specs.Prelude.{AreSound, beside, besides, copies, copies_to, crossing, deed_done, deeds_done, discard, discards, goes_itself, gone_with, IsPlaceSound, item_for, joined, LeadsToRoot, moves, purges, row_at}
 use Rattle.nf_words.specs.declared.answer.Deed.{Deed}
 use Rattle.nf_words.specs.declared.answer.Deed.TheVariants as deed
 use Rattle.nf_words.specs.declared.request.Transfer.{Transfer}
@@ -177,9 +163,11 @@ copying_parts t now transfer name sound at known =
     (λ none. joins_here t now transfer name sound (none_replaced t transfer name sound known.known none) known)
     (λ row e.
     let leaving = replaced_leaves t sound transfer name known.known row e in
-    let u = deed_done t (discard t now row) in
-    (leaving, joins_into t now transfer name u row.id sound (discard_left t now row sound (omega (arith, at)) leaving)
-        (replaced_is t transfer.replaced row e) known))
+    let u = deed_done t (discard t now row) in (
+      leaving,
+      joins_into t now transfer name u row.id sound (discard_left t now row sound (omega (arith, at)) leaving)
+          (replaced_is t transfer.replaced row e) known,
+    ))
 
 -- ---- what goes to another owner
 
@@ -278,8 +266,7 @@ module _ (t : Tables) (now : ℕ) (transfer : Transfer) (name : List ℕ) (sound
           let gone = rest_of t now from in
           let goes = rest_goes t sound now from leaving in
           let v = deed_done t joins in
-          parts_of t now (joins ∷ discard t now from ∷ []) gone
-          (
+          parts_of t now (joins ∷ discard t now from ∷ []) gone (
             joins_here t now transfer name sound (none_replaced t transfer name sound known e) cross.copies,
             (leaving_fit t v now from (leaves_joined t from (copies_to t now transfer name) leaving), tt),
           )
@@ -299,8 +286,7 @@ module _ (t : Tables) (now : ℕ) (transfer : Transfer) (name : List ℕ) (sound
           let goes = both_go row e leaves in
           subst (λ (gone : List Deed). Parts t now (discard t now row ∷ joins ∷ discard t now from ∷ gone))
           (map-append (λ (node : ℕ). deed.Purge node) (rest_of t now row) (rest_of t now from))
-          (parts_of t now (discard t now row ∷ joins ∷ discard t now from ∷ []) gone
-          (
+          (parts_of t now (discard t now row ∷ joins ∷ discard t now from ∷ []) gone (
             leaving_fit t t now row leaves,
             (
               joins_into t now transfer name u row.id sound left is cross.copies,

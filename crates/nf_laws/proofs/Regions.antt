@@ -1,5 +1,5 @@
 -- What is under a top, and its rows, stay while other nodes leave their places, move or come.
-use Rattle.std.proofs.Common.{◌≡◌, ◌≢◌, ◌<◌, ◌≤◌, ℕ, zero, suc, ◌+◌, ◌-◌, ◌==◌, true, false, List, ◌++◌, Option, None, Some, get_or, length, inl, inr, refl, sym, ap, subst, ◌∙◌, arith}
+use Rattle.std.proofs.Common.{◌≡◌, ◌≢◌, ◌<◌, ◌≤◌, ℕ, zero, suc, ◌+◌, ◌-◌, ◌==◌, false, List, ◌++◌, Option, None, Some, get_or, length, inl, inr, refl, sym, ap, subst, ◌∙◌, arith}
 use Rattle.std.specs.Prelude.{is_some, option_and_then, slice_get}
 use Rattle.std.specs.List.{Contains}
 use Rattle.std.specs.Option.{option_or}
@@ -23,7 +23,7 @@ use Rattle.nf_laws.proofs.Upwards.{climbed, climbs_is_under, derived, never_clim
 use Rattle.nf_laws.specs.Transfers.{IsPlacedCopy}
 use Rattle.nf_laws.specs.Tree.{Under}
 use Rattle.nf_words.proofs.Ways.{HasRow, inside_there}
-use Rattle.nf_words.specs.Prelude.{AreSound, joined}
+use Rattle.nf_words.specs.Prelude.{AreSound}
 
 -- the rows under a top are the same, and the same is under it
 pub record Stays (before after : List NodeRow) (top : ℕ) : Type 0 where

@@ -19,7 +19,7 @@ use Rattle.nf_laws.specs.Access.{by_asking, by_delete, by_sweep, ChangesAllowed,
 use Rattle.nf_laws.specs.Acts.{IsItemOf}
 use Rattle.nf_words.proofs.Sweeping.{owned, swept_goes}
 use Rattle.nf_words.proofs.Trashing.{gone_has, own_there}
-use Rattle.nf_words.specs.Prelude.{altered, AreSound, asker_of, Call, call_of, changed, deed_done, deeds_done, gone_beside, gone_from, gone_of, home_of, IsSound, item_dropped, item_if_of, item_restored, items_but, items_of, name_back, Need, nothing_done, own_item, owners_of, purges, quota_of, restored, State, swept, told, trash_done}
+use Rattle.nf_words.specs.Prelude.{AreSound, asker_of, Call, call_of, changed, deed_done, deeds_done, gone_beside, gone_from, gone_of, home_of, IsSound, item_dropped, item_if_of, item_restored, items_but, items_of, name_back, Need, nothing_done, own_item, owners_of, purges, quota_of, restored, State, swept, told, trash_done}
 use Rattle.nf_words.specs.declared.answer.Allowed.TheVariants as allowed
 use Rattle.nf_words.specs.declared.answer.Deed.{Deed}
 use Rattle.nf_words.specs.declared.answer.Deed.TheVariants as deed

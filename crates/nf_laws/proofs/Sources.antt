@@ -1,24 +1,17 @@
 -- What is under the source of a MOVE or a COPY, where something goes at the target.
-use Rattle.std.proofs.Common.{ℕ, zero, suc, ◌-◌, ◌==◌, ◌≡◌, ◌<◌, Bool, true, false, not, List, [], ◌∷◌, ◌++◌, Option, None, Some, filter, get_or, if◌then◌else◌, inl, inr, refl, sym, ap, ◌∙◌, arith}
+use Rattle.std.proofs.Common.{ℕ, zero, suc, ◌≡◌, ◌<◌, Bool, true, false, List, [], ◌∷◌, ◌++◌, Some, filter, if◌then◌else◌, refl, ap, ◌∙◌, arith}
 use Rattle.std.specs.List.{All, flat_map}
-use Rattle.std.specs.Option.{option_map_or}
 use Rattle.std.specs.Prelude.{is_some}
-use Rattle.std.proofs.lemmas.Bool.{cases_lt, cond_both, false_from_ne_true, false≢true, ne_eqb, not-false}
+use Rattle.std.proofs.lemmas.Bool.{cond_both, false_from_ne_true}
 use Rattle.std.proofs.lemmas.List.Elements.{All-head, All-tail, All-weaker}
-use Rattle.std.proofs.lemmas.Option.{option_and_then_some}
 use Rattle.nf_base.specs.declared.rows.NodeRow.{NodeRow}
-use Rattle.nf_defs.proofs.Climbs.{under_climb}
 use Rattle.nf_defs.proofs.Walks.{IsChildOf, children_are, inside_of}
-use Rattle.nf_defs.specs.Prelude.{child_of, children_of, climb, folder_of, is_in, is_under, node_row, parent_of, Tables, walk_within}
-use Rattle.nf_laws.proofs.Climbs.{climb_rest, node_row_each, parent_at, some_there}
+use Rattle.nf_defs.specs.Prelude.{children_of, climb, is_in, is_under, node_row, Tables, walk_within}
+use Rattle.nf_laws.proofs.Climbs.{parent_at, some_there}
 use Rattle.nf_laws.proofs.Puts.{under_there}
 use Rattle.nf_laws.proofs.Rows.{row_is}
-use Rattle.nf_laws.proofs.Upwards.{climbs_is_under, never_climbs}
 use Rattle.nf_laws.proofs.Walked.{no_ring}
-use Rattle.nf_words.proofs.Found.{child_parent}
-use Rattle.nf_words.proofs.Known.{KnownTransfer}
 use Rattle.nf_words.specs.Prelude.{AreSound}
-use Rattle.nf_words.specs.declared.request.Transfer.{Transfer}
 
 -- ---- nodes that are there
 

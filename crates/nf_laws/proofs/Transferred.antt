@@ -1,13 +1,12 @@
 -- What a MOVE and a COPY change, and that they change nothing else.
-use Rattle.std.proofs.Common.{◌≡◌, ◌≢◌, ◌≤◌, ℕ, ◌+◌, ◌==◌, Bool, true, false, List, [], ◌∷◌, Option, Some, None, Ok, if◌then◌else◌, length, option_map, inl, inr, refl, sym, ap, subst, ◌∙◌, arith}
-use Rattle.std.specs.Prelude.{is_some, IsOk, slice_get}
+use Rattle.std.proofs.Common.{◌≡◌, ◌≤◌, ℕ, ◌==◌, Bool, true, false, List, ◌∷◌, Some, None, Ok, if◌then◌else◌, inl, inr, refl, sym, ap, subst, ◌∙◌, arith}
+use Rattle.std.specs.Prelude.{is_some}
 use Rattle.std.proofs.lemmas.List.Elements.{All-contains}
-use Rattle.std.specs.Option.{option_and_then, option_map_or}
-use Rattle.std.proofs.lemmas.Bool.{both_ways, cases_Bool, eq-eqb, eqb-true, not-false, not-true}
+use Rattle.std.specs.Option.{option_and_then}
+use Rattle.std.proofs.lemmas.Bool.{both_ways, eq-eqb, eqb-true, not-false, not-true}
 use Rattle.std.proofs.lemmas.Option.{none-some, same_Some}
-use Rattle.nf_base.specs.declared.limits.TheConstants.{MAX_DEPTH}
 use Rattle.nf_base.specs.declared.rows.NodeRow.{NodeRow}
-use Rattle.nf_defs.specs.Prelude.{is_under, node_row, owner_of, parent_of, Tables, walk_of}
+use Rattle.nf_defs.specs.Prelude.{node_row, owner_of, Tables}
 use Rattle.nf_defs.specs.declared.Found.{Found}
 use Rattle.nf_defs.specs.declared.Found.TheVariants.{At, Free, Missing}
 use Rattle.nf_laws.proofs.Acted.{given_below, IsNew}
@@ -23,12 +22,12 @@ use Rattle.nf_laws.specs.Acts.{HaveLeft, IsBeside, IsUnderOne}
 use Rattle.nf_laws.specs.Transfers.{AreCopied, CopiesMirror, IsCarried, IsMoved, IsTransferOf, LeadsToTarget, Mirrors, MovesKeep, replaced_by}
 use Rattle.nf_laws.specs.Access.{LeadsBy}
 use Rattle.nf_laws.specs.Tree.{Under}
-use Rattle.nf_words.proofs.Begins.{places_at, wanted_passes, WantedPasses}
+use Rattle.nf_words.proofs.Begins.{wanted_passes, WantedPasses}
 use Rattle.nf_words.proofs.Fits.{within}
-use Rattle.nf_words.proofs.Known.{KnownCopies, KnownCross, KnownMove, KnownTransfer}
+use Rattle.nf_words.proofs.Known.{KnownCross, KnownMove, KnownTransfer}
 use Rattle.nf_words.proofs.Starts.{has_asker, IsAsking}
 use Rattle.nf_words.proofs.Transfers.{copies_known, fit_parts, no_mount, same_transfer, transfer_known, transfer_parts}
-use Rattle.nf_words.specs.Prelude.{access_of, allowed_of, AreSound, Call, call_of, carries, carry_limit, changed, copied, copies, copies_to, copy_limit, crosses, crossing, decision_of, deeds_done, deepest_in, done, folder_at, found, is_off_mount, is_root_at, last_name, LeadsToRoot, limited, made_or_done, mount_renamed, mount_of, moved, move_limit, moves, node_found, pieces_in, purges, root_of, transfer_between, transfer_by, transfer_of, transfer_to, unfit_between, unreached, way_of, Ways}
+use Rattle.nf_words.specs.Prelude.{access_of, allowed_of, AreSound, Call, call_of, carries, carry_limit, changed, copied, copies, copies_to, copy_limit, crosses, crossing, decision_of, deeds_done, deepest_in, done, folder_at, found, is_off_mount, is_root_at, last_name, LeadsToRoot, limited, made_or_done, mount_renamed, mount_of, moved, move_limit, moves, node_found, purges, root_of, transfer_between, transfer_by, transfer_of, transfer_to, unfit_between, unreached, way_of, Ways}
 use Rattle.nf_words.specs.declared.answer.Deed.{Deed}
 use Rattle.nf_words.specs.declared.answer.Report.{Report}
 use Rattle.nf_words.specs.declared.history.Event.TheVariants.{Begin}

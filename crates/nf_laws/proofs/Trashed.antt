@@ -1,35 +1,32 @@
 -- The tables with what is put in the trash, comes back or goes for good are sound.
-use Rattle.std.proofs.Common.{inl, inr, ℕ, ◌==◌, ◌≡◌, ◌≢◌, ◌⊎◌, ◌&&◌, ◌≤◌, suc, Bool, true, false, not, List, [], ◌∷◌, Option, None, Some, length, get_or, if◌then◌else◌, refl, sym, ap, subst, ◌∙◌, arith, le_refl, filter, option_map}
+use Rattle.std.proofs.Common.{inl, inr, ℕ, ◌==◌, ◌≡◌, ◌≢◌, ◌⊎◌, ◌&&◌, ◌≤◌, Bool, true, false, not, List, [], ◌∷◌, Option, None, Some, length, if◌then◌else◌, refl, sym, ap, subst, ◌∙◌, arith, le_refl, filter, option_map}
 use Rattle.std.specs.Prelude.{is_some}
-use Rattle.std.specs.List.{All, AllPairs}
+use Rattle.std.specs.List.{All}
 use Rattle.std.specs.Option.{option_map_or}
 use Rattle.std.proofs.lemmas.Bool.{both_ways, cases_Bool, eq-eqb, eqb-true, false_from_ne_true, ne_eqb, not_from_false}
 use Rattle.std.proofs.lemmas.List.{length-map}
-use Rattle.std.proofs.lemmas.List.Elements.{All-head, All-tail, All-weaker}
+use Rattle.std.proofs.lemmas.List.Elements.{All-weaker}
 use Rattle.std.proofs.lemmas.List.Filters.{length-filter_both}
 use Rattle.nf_access.proofs.Naming.{free_is_free, taken_child}
 use Rattle.nf_access.specs.Mounts.{free_name_of, mount_at, names_in_root, root_folder}
-use Rattle.nf_base.specs.declared.changes.Change.TheVariants.{Put}
 use Rattle.nf_base.specs.declared.rows.ItemRow.{ItemRow}
 use Rattle.nf_base.specs.declared.rows.NodeRow.{NodeRow}
 use Rattle.nf_base.specs.declared.rows.Place.{Place}
 use Rattle.nf_base.specs.declared.rows.Place.TheVariants.{Inside, Root, Trash}
-use Rattle.nf_base.specs.declared.rows.Row.TheVariants as rows
 use Rattle.nf_base.specs.declared.rows.UserRow.{UserRow}
 use Rattle.nf_defs.proofs.Climbs.{climb_under, under_climb}
 use Rattle.nf_defs.proofs.Puts.{all_put, put_rising}
-use Rattle.nf_defs.specs.Prelude.{child_of, dropped, is_folder, is_folder_kind, is_in, is_root, is_root_place, is_under, item_key, item_row, made, node_row, owner_of, put, Tables, taken_names, user_row}
+use Rattle.nf_defs.specs.Prelude.{child_of, dropped, is_folder, is_folder_kind, is_in, is_root, is_root_place, is_under, item_key, item_row, node_row, owner_of, put, Tables, taken_names, user_row}
 use Rattle.nf_defs.specs.Tree.{trashed}
 use Rattle.nf_laws.proofs.Climbs.{node_row_each, some_there}
 use Rattle.nf_laws.proofs.Gone.{folder_left, root_left, those_sound}
 use Rattle.nf_laws.proofs.Moved.{below_leads, climb_below, deep_below, Fits, names_turned, no_root_row, others_same, outside_leads, outside_rooted, relinked_sound, root_turned}
 use Rattle.nf_laws.proofs.OneRow.{KeepsId, length_with, pieces_with, rising_with, row_itself, value_with, with_each}
-use Rattle.nf_laws.proofs.Others.{item_other, items_all, items_dropped, items_left, IsSeenSo, off_with, others_ended, stamp_sound, was_with}
+use Rattle.nf_laws.proofs.Others.{items_all, items_dropped, items_left, IsSeenSo, off_with, others_ended, was_with}
 use Rattle.nf_laws.proofs.Paths.{climb_own}
-use Rattle.nf_laws.proofs.Peopled.{people_sound}
 use Rattle.nf_laws.proofs.Present.{below_present, never_trash, root_leads, trash_alone}
 use Rattle.nf_laws.proofs.Puts.{number_found, other_number}
-use Rattle.nf_laws.proofs.Rows.{folder_there, found_is, IsRooted, node_still, row_is, stamp}
+use Rattle.nf_laws.proofs.Rows.{folder_there, found_is, IsRooted, node_still, row_is}
 use Rattle.nf_laws.proofs.Upwards.{climb_short, never_climbs, owners_there}
 use Rattle.nf_words.proofs.Ensured.{free_in_root}
 use Rattle.nf_words.proofs.Known.{IsItem, KnownLeaving, KnownRestore}

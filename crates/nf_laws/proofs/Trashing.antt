@@ -1,5 +1,5 @@
 -- No act but one with deeds changes what is in the trash: the same rows are there afterwards, and all others are present.
-use Rattle.std.proofs.Common.{ℕ, ◌+◌, ◌==◌, ◌&&◌, ◌≡◌, ◌≤◌, Bool, true, false, not, List, [], ◌∷◌, ◌++◌, Option, None, Some, Ok, get_or, if◌then◌else◌, inl, inr, refl, sym, ap, subst, ◌∙◌, arith}
+use Rattle.std.proofs.Common.{ℕ, ◌==◌, ◌&&◌, ◌≡◌, ◌≤◌, Bool, true, false, not, List, [], ◌∷◌, ◌++◌, Option, None, Some, Ok, get_or, if◌then◌else◌, inl, inr, refl, sym, ap, subst, ◌∙◌, arith}
 use Rattle.std.specs.Prelude.{is_some, sum_by}
 use Rattle.std.specs.List.{All}
 use Rattle.std.specs.Option.{option_and_then}

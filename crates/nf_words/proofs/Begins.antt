@@ -30,13 +30,13 @@ use Rattle.nf_words.proofs.Passing.{acts_pass, call_passes, no_fault, no_limit, 
 use Rattle.nf_words.proofs.Starts.{has_asker, IsAsking, itself_asker, link_found, link_mount, link_seeks, only_files, root_is, row_of_caller, user_root, user_seeks}
 use Rattle.nf_words.proofs.Starts.IsAsking.{by_link, by_user}
 use Rattle.nf_words.proofs.Transfers.{copied_known, fit_parts, moved_known, off, row_leaves}
-use Rattle.nf_words.proofs.Ways.{bounded, free_no_mount, node_present, present_inside, slot_known, slot_present, way_there}
+use Rattle.nf_words.proofs.Ways.{bounded, free_no_mount, node_present, slot_known, slot_present, way_there}
 use Rattle.nf_words.specs.Asked.{asked_about}
 use Rattle.nf_words.specs.Calls.{link_by}
 use Rattle.nf_words.specs.declared.request.Caller.{Caller}
 use Rattle.nf_words.specs.declared.request.Caller.TheVariants.{Link}
 use Rattle.nf_words.specs.History.{IsShort}
-use Rattle.nf_words.specs.Prelude.{access_of, AreSound, asked_of, asked_of_trash, asker_of, beside, by_of, Call, call_decision, caller_row, deleted, discard, exists_rule, fault_by, folder_seen, found, given, is_about_files, is_by_link, is_free_in, IsLinkTo, IsNodeSound, is_off_mount, is_owner, is_root_at, IsSound, is_taken, is_there, is_within, last_name, LeadsToRoot, limit_at, limit_by, limited, limit_rule, linked_of, link_of, listing_of, made_folder, may_by, MayWant, mount_left, mount_of, mount_renamed, moved, Need, needs, needs_between, needs_in, node_at, node_found, nothing_done, own_item, people_done, people_limit, places_by, requoted, room_rule, root_of, row_at, row_named, seeker_of, served, sharing_rule, stored, taken, target_rule, transfer_between, transfer_of, trash_done, unfit, unfit_between, unreached, user_of, way_by, way_of, ways_for}
+use Rattle.nf_words.specs.Prelude.{access_of, AreSound, asked_of, asked_of_trash, asker_of, beside, by_of, Call, call_decision, caller_row, deleted, discard, exists_rule, fault_by, folder_seen, found, given, is_about_files, is_by_link, is_free_in, IsLinkTo, IsNodeSound, is_off_mount, is_owner, is_root_at, IsSound, is_taken, is_there, is_within, last_name, limit_at, limit_by, limited, limit_rule, linked_of, link_of, listing_of, made_folder, may_by, MayWant, mount_left, mount_of, mount_renamed, moved, Need, needs, needs_between, needs_in, node_at, node_found, nothing_done, own_item, people_done, people_limit, places_by, requoted, room_rule, root_of, row_at, row_named, seeker_of, served, sharing_rule, stored, taken, target_rule, transfer_between, transfer_of, trash_done, unfit, unfit_between, unreached, user_of, way_by, way_of, ways_for}
 use Rattle.nf_words.specs.Needed.{target_needs}
 use Rattle.nf_words.specs.Sound.{MayStoreBy}
 use Rattle.nf_words.specs.declared.answer.Allowed.{Allowed}

@@ -1,6 +1,6 @@
 -- What is known of a change that no rule refuses.
-use Rattle.std.proofs.Common.{◌≡◌, ◌≢◌, ◌⊎◌, ℕ, ◌+◌, ◌≤◌, ◌==◌, true, false, List, [], ◌∷◌, ◌++◌, length}
-use Rattle.std.specs.Prelude.{None, Some, is_some}
+use Rattle.std.proofs.Common.{◌≡◌, ◌≢◌, ℕ, ◌+◌, ◌≤◌, ◌==◌, true, false, List, ◌∷◌, length}
+use Rattle.std.specs.Prelude.{Some, is_some}
 use Rattle.std.specs.List.{All, AllPairs}
 use Rattle.std.specs.Option.{option_map_or}
 use Rattle.nf_base.specs.declared.content.Piece.{Piece}

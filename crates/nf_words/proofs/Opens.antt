@@ -1,12 +1,12 @@
 -- What an event isn't answered.
-use Rattle.std.proofs.Common.{◌≡◌, ◌≢◌, ℕ, Bool, true, false, List, Result, Ok, Err, refl, sym, ap, ◌∙◌, subst, [], ◌==◌, ◌∷◌, filter, not}
+use Rattle.std.proofs.Common.{◌≡◌, ◌≢◌, ℕ, Bool, true, false, List, Result, Ok, Err, refl, sym, ap, ◌∙◌, subst, [], ◌==◌, ◌∷◌}
 use Rattle.std.specs.Prelude.{Option, None, Some, is_some, if◌then◌else◌}
 use Rattle.std.specs.Option.{option_and_then, option_map_or, option_or}
 use Rattle.nf_base.specs.declared.rows.NodeRow.{NodeRow}
-use Rattle.nf_defs.specs.Prelude.{Access, content_of, is_folder, node_row, Tables}
+use Rattle.nf_defs.specs.Prelude.{Access, content_of, is_folder, Tables}
 use Rattle.nf_defs.specs.declared.Found.{Found}
 use Rattle.nf_defs.specs.declared.Found.TheVariants.{At, Free, Missing}
-use Rattle.nf_words.specs.Prelude.{access_of, allowed_of, answered_by, answer_to, asked_of, by_of, Call, call_of, copied, copies_to, crosses, decided, decision_of, deleted, discard, done, end_refusal, ends_at, exists_rule, found, given, goal_at, goal_of, gone_of, hold_of, is_off_mount, is_root_at, item_dropped, item_for, item_restored, items_of, last_name, listing_of, made_folder, mount_left, mount_renamed, moved, node_at, node_found, nothing_done, offered, own_item, people_done, perms_after, purges, quota_of, refusal_of, reply_to, reported, requoted, root_of, row_named, served, shared, share_ended, share_made, share_set, share_shown, share_steered, share_told, shown, source_lost, State, step, stored, stored_at, taken, target_lost, target_rule, transfer_between, transfer_by, transfer_of, transfer_to, trash_done, unfit, unfit_between, unless_refused, until_after, Way, way_of, ways_for, with_goal}
+use Rattle.nf_words.specs.Prelude.{access_of, allowed_of, answered_by, answer_to, asked_of, by_of, Call, call_of, copied, decided, decision_of, deleted, done, end_refusal, ends_at, exists_rule, found, given, goal_at, goal_of, gone_of, hold_of, is_off_mount, is_root_at, item_dropped, item_restored, items_of, last_name, listing_of, made_folder, mount_left, mount_renamed, moved, node_at, node_found, nothing_done, offered, own_item, people_done, perms_after, purges, refusal_of, reply_to, reported, requoted, root_of, row_named, served, shared, share_ended, share_made, share_set, share_shown, share_steered, share_told, shown, source_lost, State, step, stored, stored_at, taken, target_lost, target_rule, transfer_between, transfer_by, transfer_of, transfer_to, trash_done, unfit, unfit_between, unless_refused, until_after, Way, way_of, ways_for, with_goal}
 use Rattle.nf_words.specs.declared.answer.Allowed.{Allowed}
 use Rattle.nf_words.specs.declared.answer.Allowed.TheVariants as allowed
 use Rattle.nf_words.specs.declared.answer.Denial.{Denial}
@@ -46,7 +46,6 @@ use Rattle.nf_words.specs.declared.request.PeopleAsk.TheVariants as people
 use Rattle.nf_words.specs.declared.request.TrashAsk.TheVariants as trash
 use Rattle.nf_words.specs.declared.answer.Deed.TheVariants as deed
 use Rattle.std.proofs.lemmas.Bool.{cond_both}
-use Rattle.std.specs.List.{list_any}
 
 -- ---- never as the End of what stores nothing
 

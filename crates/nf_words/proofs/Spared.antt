@@ -1,6 +1,6 @@
 -- What a step that no rule refuses leaves to the others who hold something.
 use Rattle.std.proofs.Common.{◌≡◌, ◌≢◌, ℕ, ◌<◌, ◌≤◌, ◌==◌, ◌&&◌, ◌||◌, not, find, filter, get_or, Bool, true, false, List, [], ◌∷◌, ◌++◌, length, suc, Option, Ok, Result, if◌then◌else◌, refl, sym, subst, arith, ◌⊎◌, inl, inr, map, flat_map}
-use Rattle.std.specs.Prelude.{None, Some, IsNone, nat_lt, option_and_then, option_map, slice_get}
+use Rattle.std.specs.Prelude.{None, Some, IsNone, nat_lt, option_and_then, option_map}
 use Rattle.std.specs.List.{All, AllPairs, list_any}
 use Rattle.std.specs.Option.{IfSome, option_map_or}
 use Rattle.std.proofs.lemmas.Bool.{both_ways, cond_both, eq-eqb, eqb-true, not-true}
@@ -23,15 +23,15 @@ use Rattle.nf_base.specs.declared.rows.UserRow.{UserRow}
 use Rattle.nf_defs.specs.Prelude.{Access, content_of, is_folder, is_under, node_row, Tables, user_named, walk_of}
 use Rattle.nf_defs.specs.declared.Found.{Found}
 use Rattle.nf_defs.specs.declared.Found.TheVariants.{At, Free, Missing}
-use Rattle.nf_words.proofs.Begins.{delete_leaves, only_at, places_at, wanted_known, wanted_passes, WantedPasses}
+use Rattle.nf_words.proofs.Begins.{delete_leaves, only_at, places_at, wanted_passes, WantedPasses}
 use Rattle.nf_words.proofs.Found.{found_has, found_passes}
 use Rattle.nf_words.proofs.Fits.{within}
-use Rattle.nf_words.proofs.Known.{IsItem, Known, KnownCopies, KnownGoes, KnownLeaving, KnownTransfer}
+use Rattle.nf_words.proofs.Known.{IsItem, KnownLeaving, KnownTransfer}
 use Rattle.nf_words.proofs.Passing.{place_passes, call_passes, no_key, not_refused}
 use Rattle.nf_words.proofs.Starts.{has_asker, IsAsking}
 use Rattle.nf_words.proofs.Steps.{fails_each}
 use Rattle.nf_words.proofs.Transfers.{copies_known, replaced_leaves, row_leaves, transfer_known}
-use Rattle.nf_words.specs.Prelude.{access_of, AreApartHolds, AreKeysApart, AreSound, asked_by, asked_of, asked_of_trash, asker_of, beside, besides, blob_for, blocks, by_of, Call, call_decision, call_of, carry_limit, clashes, content_in, copied, copies, copies_to, copy_limit, crosses, crossing, decision_of, deepest_in, deleted, discard, discards, done, end_decision, ended_row, end_refusal, ends_at, ends_goal, found, given, goes_itself, gone_beside, gone_from, gone_of, HoldsFor, home_of, is_exclusive, is_member, IsNodeSound, IsSound, IsTicketSound, item_dropped, item_for, item_restored, items_of, joined_by, key_in_way, last_name, least, left_by, left_row, lesser, limited, listing_of, locked_rule, made_folder, makes, MayAsk, MayWant, membership, mount_left, mount_renamed, mounts_for, mounts_joined, moved, move_limit, moves, name_back, named_row, new_node, new_root, new_share, new_user, node_at, node_of_key, nothing_done, offered, owners_of, own_item, own_mount, people_changed, people_done, perms_after, pieces_in, places_of, purges, put_mounts, quota_of, refilled, requoted, restore_touches, root_of, row_at, row_named, same_end, same_key, served, set_row, shared, share_ended, share_made, share_set, share_shown, share_steered, share_told, source_touches, State, stored, stored_at, swept, target_touches, ticket_of, Touch, touched, touches, touch_key, touch_under, transfer_of, transfer_touches, trash_done, unfit_between, unreached, until_after, way_of, with_mount_row, without, without_ticket}
+use Rattle.nf_words.specs.Prelude.{access_of, AreApartHolds, AreKeysApart, AreSound, asked_by, asked_of, asked_of_trash, asker_of, beside, besides, blob_for, blocks, by_of, Call, call_decision, call_of, carry_limit, clashes, content_in, copied, copies, copies_to, copy_limit, crosses, crossing, decision_of, deepest_in, deleted, discard, discards, done, end_decision, ended_row, end_refusal, ends_at, ends_goal, found, given, goes_itself, gone_beside, gone_from, gone_of, HoldsFor, home_of, is_exclusive, is_member, IsNodeSound, IsSound, IsTicketSound, item_dropped, item_for, item_restored, items_of, joined_by, key_in_way, last_name, least, left_by, left_row, lesser, limited, listing_of, locked_rule, made_folder, makes, MayAsk, MayWant, membership, mount_left, mount_renamed, mounts_for, mounts_joined, moved, move_limit, moves, name_back, named_row, new_node, new_root, new_share, new_user, node_at, node_of_key, nothing_done, offered, owners_of, own_item, own_mount, people_changed, people_done, perms_after, pieces_in, places_of, purges, put_mounts, refilled, requoted, restore_touches, root_of, row_at, row_named, same_end, same_key, served, set_row, shared, share_ended, share_made, share_set, share_shown, share_steered, share_told, source_touches, State, stored, stored_at, swept, target_touches, ticket_of, Touch, touched, touches, touch_key, touch_under, transfer_of, transfer_touches, trash_done, unfit_between, unreached, until_after, way_of, with_mount_row, without, without_ticket}
 use Rattle.nf_words.specs.declared.answer.Allowed.{Allowed}
 use Rattle.nf_words.specs.declared.answer.Allowed.TheVariants as allowed
 use Rattle.nf_words.specs.declared.answer.By.{By}

@@ -1,5 +1,5 @@
 -- What is known of a MOVE or a COPY that no rule refuses.
-use Rattle.std.proofs.Common.{◌++◌, ◌≡◌, ℕ, ◌≤◌, ◌==◌, ◌||◌, Bool, true, false, List, length, ◌∙◌, Option, option_map, if◌then◌else◌, refl, sym, ap, subst, arith, eqb-true}
+use Rattle.std.proofs.Common.{◌≡◌, ℕ, ◌≤◌, ◌==◌, ◌||◌, Bool, true, false, List, length, ◌∙◌, Option, option_map, if◌then◌else◌, refl, sym, ap, subst, arith, eqb-true}
 use Rattle.std.specs.Prelude.{None, Some}
 use Rattle.std.specs.Option.{option_and_then, option_map_or, option_or}
 use Rattle.std.proofs.lemmas.Option.{none-some, same_Some}
@@ -14,7 +14,7 @@ use Rattle.nf_words.proofs.Known.{Known, KnownCopies, KnownDeeds, KnownLeaving, 
 use Rattle.nf_words.proofs.Known.KnownDeeds.{by_copying, by_crossing, by_moving}
 use Rattle.nf_words.proofs.Starts.{IsAsking}
 use Rattle.nf_words.proofs.Ways.{at_in, folder_present, HasRow, inside_no_root, inside_present, node_present, present_inside, slot_known, slot_present, taken_unmounted, way_there}
-use Rattle.nf_words.specs.Prelude.{access_of, AreSound, besides, Call, carry_limit, copied, copies, copy_limit, crosses, crossing, deepest_in, discards, folder_at, folder_seen, found, is_off_mount, is_root_at, is_start, is_there, IsUnmounted, last_name, LeadsToRoot, misplaced, misplaced_by, moved, move_limit, moves, node_found, pieces_in, root_of, row_at, transfer_between, transfer_by, transfer_of, transfer_to, unfit_between, unreached, Way, way_of, Ways}
+use Rattle.nf_words.specs.Prelude.{access_of, AreSound, Call, carry_limit, copied, copy_limit, crosses, crossing, deepest_in, folder_at, folder_seen, found, is_off_mount, is_root_at, is_start, is_there, IsUnmounted, last_name, LeadsToRoot, misplaced, misplaced_by, moved, move_limit, moves, node_found, pieces_in, root_of, row_at, transfer_between, transfer_by, transfer_of, transfer_to, unfit_between, unreached, Way, way_of, Ways}
 use Rattle.nf_words.specs.declared.answer.TargetFault.{TargetFault}
 use Rattle.nf_words.specs.declared.answer.TargetFault.TheVariants as target
 use Rattle.nf_words.specs.declared.request.Places.{Places}

@@ -1,7 +1,7 @@
 -- What is known of a DELETE, of what is asked about the trash, and of another quota: which nodes go for good.
-use Rattle.std.proofs.Common.{◌≡◌, ◌≢◌, ◌⊎◌, ℕ, zero, suc, ◌==◌, ◌||◌, inl, inr, Bool, true, false, not, List, [], ◌∷◌, ◌∙◌, drop, filter, get_or, map, Option, unwrap_or, if◌then◌else◌, refl, sym, ap, subst, arith}
+use Rattle.std.proofs.Common.{◌≡◌, ◌≢◌, ◌⊎◌, ℕ, zero, suc, ◌==◌, inl, inr, Bool, true, false, not, List, [], ◌∷◌, ◌∙◌, drop, filter, get_or, map, Option, if◌then◌else◌, refl, sym, ap, subst, arith}
 use Rattle.std.specs.Prelude.{None, Some, is_some}
-use Rattle.std.specs.List.{All, AllPairs, list_any}
+use Rattle.std.specs.List.{All, AllPairs}
 use Rattle.std.specs.Option.{option_and_then, option_map_or}
 use Rattle.std.proofs.lemmas.Cmp.{tied_itself}
 use Rattle.std.proofs.lemmas.Bool.{both_ways, cond_both, eq-eqb, eqb-true, not-true}
@@ -13,16 +13,15 @@ use Rattle.nf_base.specs.declared.rows.NodeRow.{NodeRow}
 use Rattle.nf_base.specs.declared.rows.Place.TheVariants.{Inside, Trash}
 use Rattle.nf_base.specs.declared.rows.UserRow.{UserRow}
 use Rattle.nf_defs.proofs.Puts.{key_total}
-use Rattle.nf_defs.specs.Prelude.{folder_of, is_root, item_key, item_row, key_cmp, node_row, Tables, user_row}
+use Rattle.nf_defs.specs.Prelude.{item_key, item_row, key_cmp, node_row, Tables, user_row}
 use Rattle.nf_retention.specs.Trash.{is_newer, newest_first, put_newest}
 use Rattle.nf_words.proofs.Asks.{nothing_known}
 use Rattle.nf_words.proofs.Fits.{within}
 use Rattle.nf_words.proofs.Found.{found_passes}
 use Rattle.nf_words.proofs.Known.{IsItem, Known, KnownDeeds, KnownGoes, KnownLeaving, KnownRestore}
 use Rattle.nf_words.proofs.Known.KnownDeeds.{by_going, by_requoting, by_restoring}
-use Rattle.nf_words.specs.Prelude.{AreSound, deepest_in, done, gone_beside, gone_of, home_of, IsItemSound, item_dropped, item_for, item_if_of, item_restored, items_but, items_of, LeadsToRoot, name_back, nothing_done, purges, quota_of, requoted, restore_limit}
+use Rattle.nf_words.specs.Prelude.{AreSound, deepest_in, done, gone_beside, gone_of, home_of, IsItemSound, item_dropped, item_for, item_if_of, item_restored, items_but, items_of, name_back, nothing_done, purges, quota_of, requoted, restore_limit}
 use Rattle.nf_words.specs.declared.answer.Allowed.{Allowed}
-use Rattle.nf_words.specs.declared.answer.Allowed.TheVariants as allowed
 use Rattle.nf_words.specs.declared.answer.Deed.TheVariants as deed
 use Rattle.nf_words.specs.declared.answer.Report.TheVariants as report
 

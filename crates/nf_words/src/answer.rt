@@ -418,7 +418,10 @@ pub enum Allowed {
         report: Report,
     },
     /// DELETE, MOVE, COPY, what is asked about the trash, and another quota: what is done, one after the other.
-    Deeds { deeds: Deeds, report: Report },
+    Deeds {
+        deeds: Deeds,
+        report: Report,
+    },
     /// The End of a request that stores nothing.
     Close,
 }
