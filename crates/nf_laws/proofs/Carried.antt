@@ -127,10 +127,6 @@ module _ (t : Tables) (now : ℕ) (sound : AreSound t) (at : t.meta.last ≡ now
   -- ---- MOVE and COPY
 
   module _ (transfer : Transfer) (name : List ℕ) (known : KnownTransfer t transfer name) where
-    source_under : (row : NodeRow) → row_at t transfer.replaced ≡ Some row → is_under t.nodes transfer.node row.id ≡ false
-    source_under row e =
-        sym (ap (λ (o : Option ℕ). option_map_or (λ node. is_under t.nodes transfer.node node) o false) (replaced_is t transfer.replaced row e)) ∙ known.apart
-
     replaced_alone : (row : NodeRow) → row_at t transfer.replaced ≡ Some row → replaced_by transfer ≡ row.id ∷ []
     replaced_alone row e = ap (λ (o : Option ℕ). option_map_or (λ node. node ∷ []) o []) (replaced_is t transfer.replaced row e)
 

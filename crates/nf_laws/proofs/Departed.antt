@@ -87,9 +87,6 @@ module _ (t : Tables) (now : ℕ) (deeds : List Deed) (leave : List ℕ) (IsPut 
       → node_row after.nodes node ≡ node_row t.nodes node
   others_after node put off other = row_then node other ∙ acted.others node put off
 
-  pub all_after : deeds_done t deeds ≡ after
-  all_after = ap (deeds_done t) kind.are ∙ deeds_append t (kind.one ∷ kind.more) (purges kind.gone)
-
   pub rest_after : after ≡ record t { meta = meta; nodes = after.nodes; shares = after.shares; items = after.items }
   rest_after =
       purged_rest u kind.gone
@@ -121,30 +118,6 @@ unstamped t after moment now leave tops h = record {
 }
   where
     away : (top : ℕ) → IsAway (stamp t moment) after now top → IsAway t after now top
-    away top (inl is) = inl (record {
-      row = is.row;
-      folder = is.folder;
-      there = is.there;
-      inside = is.inside;
-      itself = is.itself;
-      item = is.item;
-      below = is.below;
-    })
-    away top (inr gone) = inr gone
-
--- nor does the moment after
-pub stamped_after : (t after : Tables) (moment now : ℕ) (leave tops : List ℕ) → HaveLeft t after now leave tops
-    → HaveLeft t (stamp after moment) now leave tops
-stamped_after t after moment now leave tops h = record {
-  left = All-weaker (IsAway t after now) (IsAway t (stamp after moment) now) away leave h.left;
-  beside = h.beside;
-  gone = h.gone;
-  none = h.none;
-  items = h.items;
-  shares = h.shares;
-}
-  where
-    away : (top : ℕ) → IsAway t after now top → IsAway t (stamp after moment) now top
     away top (inl is) = inl (record {
       row = is.row;
       folder = is.folder;

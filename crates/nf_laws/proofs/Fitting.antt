@@ -34,6 +34,7 @@ use Rattle.nf_laws.proofs.Leaving.{acted_follow, acted_items, acted_shares, IsBe
 use Rattle.nf_laws.proofs.Mirrored.{mirrored}
 use Rattle.nf_laws.proofs.Others.{stamp_sound}
 use Rattle.nf_laws.proofs.Parts.{deeds_stamped}
+use Rattle.nf_laws.proofs.Parts.{copies_stamped, leaving_stamped, transfer_stamped}
 use Rattle.nf_laws.proofs.Reaching.{way_mount}
 use Rattle.nf_laws.proofs.Remaining.{added_present, gone_present, KeepsPresent, refilled_present}
 use Rattle.nf_laws.proofs.Rows.{found_is, inside_folder, parent_there, row_id, stamp, stamped_has}
@@ -158,41 +159,6 @@ refilled_fits t made now node content needs Other sound is needed =
         ]
 
 -- ---- where nodes leave their places
-
--- what is known of them is known whatever moment is stamped
-leaving_stamped : (t : Tables) (moment : ℕ) (row : NodeRow) → KnownLeaving t row → KnownLeaving (stamp t moment) row
-leaving_stamped t moment row k = record {
-  there = k.there;
-  no_root = k.no_root;
-  folder = k.folder;
-  inside = k.inside;
-  present = k.present;
-}
-
-transfer_stamped : (t : Tables) (moment : ℕ) (transfer : Transfer) (name : List ℕ) → KnownTransfer t transfer name
-    → KnownTransfer (stamp t moment) transfer name
-transfer_stamped t moment transfer name k = record {
-  source = k.source;
-  no_root = k.no_root;
-  present = k.present;
-  in_folder = k.in_folder;
-  folder_present = k.folder_present;
-  there = k.there;
-  unmounted = k.unmounted;
-  differs = k.differs;
-  outside = k.outside;
-  apart = k.apart;
-  deep = k.deep;
-}
-
-copies_stamped : (t : Tables) (moment : ℕ) (transfer : Transfer) (name : List ℕ) → KnownCopies t transfer name → KnownCopies (stamp t moment) transfer name
-copies_stamped t moment transfer name k = record {
-  known = transfer_stamped t moment transfer name k.known;
-  nodes = k.nodes;
-  next_node = k.next_node;
-  pieces = k.pieces;
-  next_blob = k.next_blob;
-}
 
 module _ (t : Tables) (now : ℕ) (deeds : List Deed) (leave : List ℕ) (IsPut : ℕ → Type 0) (Put : Tables → Type 0) (meta : MetaRow)
     (sound : AreSound t) (later : t.meta.last ≤ now) (kind : Kind (stamp t now) now deeds leave IsPut Put meta) (needs : List Need)

@@ -9,13 +9,11 @@ use Rattle.nf_base.specs.declared.rows.NodeKind.{NodeKind}
 use Rattle.nf_base.specs.declared.rows.NodeRow.{NodeRow}
 use Rattle.nf_base.specs.declared.rows.ShareRow.{ShareRow}
 use Rattle.nf_defs.specs.Prelude.{folder_of, node_row, Tables}
-use Rattle.nf_laws.proofs.Copied.{copies_there}
-use Rattle.nf_laws.proofs.InTurn.{Joins}
-use Rattle.nf_laws.proofs.Regions.{behind, none_given}
+use Rattle.nf_laws.proofs.Regions.{none_given}
 use Rattle.nf_laws.specs.Access.{Follows, IsMadeIn, IsNeeded, in_it, in_made, is_made, is_updated}
 use Rattle.nf_laws.specs.Acts.{IsAdded, IsRefilled}
 use Rattle.nf_laws.specs.Transfers.{IsPlacedCopy, Mirrors}
-use Rattle.nf_words.specs.Prelude.{AreSound, ended_row, joined, Need}
+use Rattle.nf_words.specs.Prelude.{AreSound, ended_row, Need}
 use Rattle.nf_words.specs.declared.request.Transfer.{Transfer}
 
 -- what becomes of each node whose row is another
@@ -79,24 +77,6 @@ kept_shares before after (share ∷ shares) stay =
 pub record AreLaid (next : ℕ) (copies after : List NodeRow) : Type 0 where
   pub there : (k : ℕ) (copy : NodeRow) → slice_get copies k ≡ Some copy → node_row after copy.id ≡ Some copy
   pub new : (node : ℕ) (row : NodeRow) → next ≤ node → node_row after node ≡ Some row → (k : ℕ) × (slice_get copies k ≡ Some row) × (row.id ≡ node)
-
--- so they are where they join others
-pub joined_laid : (u : Tables) (now : ℕ) (copies : List NodeRow) → AreSound u → Joins u now copies
-    → AreLaid u.meta.next_node copies (joined u copies).nodes
-joined_laid u now copies sound joins = record {
-  there = copies_there u now joins.transfer joins.name copies joins.mirrors sound joins.known joins.alone;
-  new = λ node row new is. behind u.nodes copies node row (none_given u node sound new) is;
-}
-
--- and where no row of a new number becomes another
-pub laid_on : (next : ℕ) (copies rows after : List NodeRow)
-    → ((node : ℕ) (row : NodeRow) → next ≤ node → node_row rows node ≡ Some row → node_row after node ≡ Some row)
-    → ((node : ℕ) (row : NodeRow) → next ≤ node → node_row after node ≡ Some row → node_row rows node ≡ Some row)
-    → ((k : ℕ) (copy : NodeRow) → slice_get copies k ≡ Some copy → next ≤ copy.id) → AreLaid next copies rows → AreLaid next copies after
-laid_on next copies rows after on back new laid = record {
-  there = λ k copy is. on copy.id copy (new k copy is) (laid.there k copy is);
-  new = λ node row given is. laid.new node row given (back node row given is);
-}
 
 module _ (t : Tables) (now : ℕ) (transfer : Transfer) (name : List ℕ) (copies after : List NodeRow) (sound : AreSound t)
     (mirrors : Mirrors t now transfer name copies) (laid : AreLaid t.meta.next_node copies after) where

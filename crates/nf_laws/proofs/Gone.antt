@@ -15,7 +15,7 @@ use Rattle.nf_defs.specs.Prelude.{child_of, climb, folder_of, is_root, is_root_p
 use Rattle.nf_laws.proofs.Climbs.{climb_passes, climb_those, climbs_no_further, IsClosed, node_row_each, parent_at, row_of_those, those}
 use Rattle.nf_laws.proofs.Others.{all_off, IsOff, items_left, ItemsLeft, others_ended, those_were, was_same, without}
 use Rattle.nf_laws.proofs.Paths.{child_is, child_there}
-use Rattle.nf_laws.proofs.Present.{those_leads, trash_outside}
+use Rattle.nf_laws.proofs.Present.{those_leads}
 use Rattle.nf_laws.proofs.Rows.{finds_none, kept_row, node_still, root_still}
 use Rattle.nf_laws.proofs.Upwards.{never_climbs}
 use Rattle.nf_words.specs.Prelude.{AreApart, AreSound, HasRoot, IsNodeSound, IsPlaceSound, LeadsToRoot}
@@ -113,13 +113,6 @@ root_left t top no_root user root =
     let same = same_Some user.root top (subst (λ (j : ℕ). climb t.nodes j user.root ≡ Some top) none c.2) in
     let is : is_root t.nodes user.root ≡ true = rw root.there (ap is_root_place root.place) in
     both_ways (is_root t.nodes top) no_root (subst (λ (n : ℕ). is_root t.nodes n ≡ true) same is)))
-
--- and so is what is in the trash, where the top is present
-trash_left : (rows : List NodeRow) (top : ℕ) → LeadsToRoot rows top → (node : ℕ) (row : NodeRow) → node_row rows node ≡ Some row
-    → row.place ≡ Trash → is_left rows top node ≡ true
-trash_left rows top present node row there place =
-    not_from_false (is_under rows node top) (false_from_ne_true (is_under rows node top) (λ under.
-    let c = under_climb rows node top under in trash_outside c.0 rows node top row present there place c.2))
 
 -- what is present and isn't under the top is present without it
 pub left_leads : (t : Tables) (top node : ℕ) → AreSound t → is_under t.nodes node top ≡ false → LeadsToRoot t.nodes node

@@ -359,7 +359,7 @@ copies_stamped t moment transfer name k = record {
   next_blob = k.next_blob;
 }
 
-known_stamped : (t : Tables) (now moment : ℕ) (deeds : List Deed) → KnownDeeds t now deeds → KnownDeeds (stamp t moment) now deeds
+pub known_stamped : (t : Tables) (now moment : ℕ) (deeds : List Deed) → KnownDeeds t now deeds → KnownDeeds (stamp t moment) now deeds
 known_stamped t now moment deeds (by_going nodes goes) = by_going nodes (goes_stamped t moment nodes goes)
 known_stamped t now moment deeds (by_leaving row k) = by_leaving row (leaving_stamped t moment row k)
 known_stamped t now moment deeds (by_restoring node folder name gone k goes others) =
@@ -378,7 +378,7 @@ pub step_turn : (t : Tables) (now : ℕ) (deeds : List Deed) → AreSound t → 
 step_turn t now deeds sound later known = in_turn (stamp t now) now deeds (stamp_sound t now sound later) refl (known_stamped t now now deeds known)
 
 -- which may be stamped before or after
-deed_stamped : (t : Tables) (now : ℕ) (one : Deed) → deed_done (stamp t now) one ≡ stamp (deed_done t one) now
+pub deed_stamped : (t : Tables) (now : ℕ) (one : Deed) → deed_done (stamp t now) one ≡ stamp (deed_done t one) now
 deed_stamped t now (deed.Discard item) = refl
 deed_stamped t now (deed.Purge node) = refl
 deed_stamped t now (deed.Restore node folder name) = refl

@@ -2,15 +2,14 @@
 use Rattle.std.proofs.Common.{ℕ, zero, suc, ◌≡◌, ◌<◌, Bool, true, false, List, [], ◌∷◌, ◌++◌, Some, filter, if◌then◌else◌, refl, ap, ◌∙◌, arith}
 use Rattle.std.specs.List.{All, flat_map}
 use Rattle.std.specs.Prelude.{is_some}
-use Rattle.std.proofs.lemmas.Bool.{cond_both, false_from_ne_true}
+use Rattle.std.proofs.lemmas.Bool.{cond_both}
 use Rattle.std.proofs.lemmas.List.Elements.{All-head, All-tail, All-weaker}
 use Rattle.nf_base.specs.declared.rows.NodeRow.{NodeRow}
-use Rattle.nf_defs.proofs.Walks.{IsChildOf, children_are, inside_of}
-use Rattle.nf_defs.specs.Prelude.{children_of, climb, is_in, is_under, node_row, Tables, walk_within}
+use Rattle.nf_defs.proofs.Walks.{IsChildOf, children_are}
+use Rattle.nf_defs.specs.Prelude.{children_of, climb, is_under, node_row, Tables, walk_within}
 use Rattle.nf_laws.proofs.Climbs.{parent_at, some_there}
 use Rattle.nf_laws.proofs.Puts.{under_there}
 use Rattle.nf_laws.proofs.Rows.{row_is}
-use Rattle.nf_laws.proofs.Walked.{no_ring}
 use Rattle.nf_words.specs.Prelude.{AreSound}
 
 -- ---- nodes that are there
@@ -39,13 +38,6 @@ filter_left p q (x ∷ rows) own =
     (λ e. rest ∙ simp (All-head (λ (row : NodeRow). q row ≡ false → p row ≡ false) x rows own e))
 
 -- ---- a folder under the moved node
-
--- it isn't the folder in which the moved node was
-pub under_apart : (t : Tables) (j node : ℕ) (row : NodeRow) (top : ℕ) → AreSound t → climb t.nodes j node ≡ Some top → node_row t.nodes top ≡ Some row
-    → is_in node row ≡ false
-under_apart t j node row top sound under there =
-    false_from_ne_true (is_in node row) (λ is.
-    no_ring t j top sound (rw (parent_at t.nodes top node row there (inside_of node row.place is)) under))
 
 -- ---- walks
 
