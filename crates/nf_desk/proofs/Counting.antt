@@ -17,10 +17,6 @@ use Rattle.nf_desk.specs.Desk.{IsCounted, Shown, entries_by, failed_mark, failed
 use Rattle.nf_desk.specs.Pieces.{StrikesOne}
 use Rattle.nf_desk.specs.Stepping.{Standing, standing}
 
--- a desk at which only a step was made
-abbrev pub standing_in : Shown → Standing
-standing_in a = standing a.site a.told a.faults
-
 abbrev pub moved : Shown → Standing → Shown
 moved a b = record a { site = b.site; told = b.told; faults = b.faults }
 

@@ -17,7 +17,7 @@ use Rattle.nf_laws.proofs.Counters.{counters_rise}
 use Rattle.nf_laws.specs.Wholes.{Brings}
 use Rattle.nf_session.proofs.Lasting.{tells_refl, tells_then}
 use Rattle.nf_session.specs.Book.{Answer, Lasts, TellsStill, held}
-use Rattle.nf_site.specs.Held.{Held}
+use Rattle.nf_site.specs.Held.{HasEntryRoom, HasRoom, Held}
 use Rattle.nf_site.specs.Kept.{IsHistory, Kept}
 use Rattle.nf_told.specs.Told.{Told}
 use Rattle.nf_turn.specs.Book.{KeepsShelf}
@@ -25,13 +25,11 @@ use Rattle.nf_words.specs.Prelude.{IsSound, opened}
 use Rattle.nf_words.specs.declared.answer.Goal.TheVariants.{Serve}
 use Rattle.nf_words.specs.declared.history.Entry.{Entry}
 use Rattle.nf_words.specs.declared.history.Event.{Event}
-use Rattle.nf_words.specs.declared.history.Event.TheVariants.{Begin}
-use Rattle.nf_words.specs.declared.request.Request.{Request}
-use Rattle.nf_words.specs.declared.request.Words.{Words}
-use Rattle.nf_desk.specs.Desk.{IsCounted, IsDesk, Served, Shown, TakesTurn, blobs_in, book_at, first_blob_of, next_of, shelf_of, shown, strikes_of}
+use Rattle.nf_words.specs.declared.history.Event.TheVariants.{Begin, End, Sweep}
+use Rattle.nf_desk.specs.Desk.{IsCounted, IsDesk, Served, Shown, TakesTurn, blobs_in, book_at, first_blob_of, next_of, shelf_of, shown, strikes_of, standing_in}
 use Rattle.nf_desk.specs.Pieces.{Reads, StrikesBy}
-use Rattle.nf_desk.specs.Stepping.{Asks, Standing, Steps, entry_at, standing}
-use Rattle.nf_desk.proofs.Counting.{marks, moved, standing_in, strike}
+use Rattle.nf_desk.specs.Stepping.{Standing, Starts, Steps, entry_at, standing}
+use Rattle.nf_desk.proofs.Counting.{marks, moved, strike}
 use Rattle.nf_desk.proofs.Entering.{by_step, next_again, step_lasts, stepped, waits}
 use Rattle.nf_desk.proofs.Giving.{HasStrikes, counted_on, read_goes, reads}
 use Rattle.nf_desk.proofs.Tellings.{steps_still, steps_true}
@@ -70,12 +68,16 @@ steps_desk seat a b now event body answer h sound rising brings steps desk =
       counted = (marks seat a (entry_at seat a.site now event steps.mark) b.told b.faults desk.counted refl steps.faults steps.rises).1.counted;
     })
 
-pub asks_desk : (seat : ℕ) (a : Shown) (b : Standing) (now : ℕ) (words : Words) (request : Request) (answer : Answer) → IsHistory a.site
-    → IsSound a.site.state → AreRising a.site.state.tables → Asks seat (standing_in a) b now words request answer → IsDesk a → IsDesk (moved a b)
-asks_desk seat a b now words request answer h sound rising (inl steps) desk =
-    steps_desk seat a b now (Begin words request) [] answer h sound rising tt steps desk
-asks_desk seat a b now words request answer h sound rising (inr none) desk =
-    subst (λ (z : Standing). IsDesk (moved a z)) (sym none.same) desk
+pub starts_desk : (seat : ℕ) (a : Shown) (b : Standing) (now : ℕ) (event : Event) (answer : Answer) → Brings [] event → IsHistory a.site
+    → IsSound a.site.state → AreRising a.site.state.tables → Starts seat (standing_in a) b now event answer → IsDesk a → IsDesk (moved a b)
+starts_desk seat a b now event answer brings h sound rising (inl steps) desk = steps_desk seat a b now event [] answer h sound rising brings steps desk
+starts_desk seat a b now event answer brings h sound rising (inr none) desk = subst (λ (z : Standing). IsDesk (moved a z)) (sym none.same) desk
+
+-- what has room for two entries more has room for any event's
+pub any_room : (site : Held) (event : Event) → HasRoom site → HasEntryRoom site event
+any_room site (Begin words request) room = room
+any_room site (End outcome) room = tt
+any_room site Sweep room = room
 
 -- ---- reading
 
@@ -181,13 +183,12 @@ module _ {K : Type 0} (k : KeeperOf K) (seat : ℕ) (old : Served K) where
       (subst (λ (n : ℕ). TellsStill ⊥ n (blobs_in (k.told old.keeper)) (blobs_in (k.told keeper))) (sym (next_again old.site.kept before))
       (steps_still seat (standing_by old.site old.keeper) (standing_by site keeper) now event body answer sound steps))
 
-  pub asks_turn : (site : Held) (keeper : K) (now : ℕ) (words : Words) (request : Request) (answer : Answer) → IsHistory old.site.kept
+  pub starts_turn : (site : Held) (keeper : K) (now : ℕ) (event : Event) (answer : Answer) → IsHistory old.site.kept
       → IsHistory site.kept → IsSound old.site.kept.state → IsCounted (shown k old)
-      → Asks seat (standing_by old.site old.keeper) (standing_by site keeper) now words request answer
-      → TakesTurn k seat old (serving site keeper)
-  asks_turn site keeper now words request answer before after sound counted (inl steps) =
-      steps_turn site keeper now (Begin words request) [] answer before after sound counted steps
-  asks_turn site keeper now words request answer before after sound counted (inr none) =
+      → Starts seat (standing_by old.site old.keeper) (standing_by site keeper) now event answer → TakesTurn k seat old (serving site keeper)
+  starts_turn site keeper now event answer before after sound counted (inl steps) =
+      steps_turn site keeper now event [] answer before after sound counted steps
+  starts_turn site keeper now event answer before after sound counted (inr none) =
       takes_turn (serving site keeper) [] before after
       (ap (λ (z : Standing). z.site.history) none.same ∙ sym (append-nil old.site.kept.history)) (All-nil (λ (e : Entry). e.seat ≡ seat))
       (strikes_stay seat old.strikes old.strikes refl) refl

@@ -2,10 +2,10 @@
 
 ghost use Rattle.std.specs.Prelude.{◌≡◌, ◌<◌, ◌≤◌, length, replicate, IfErr, IfOk, None, Some};
 ghost use Rattle.sha2.specs.Sha256.{sha256};
-ghost use Rattle.nf_desk.specs.Desk.{IsDesk, TakesTurn, book_at, meanings, shown};
+ghost use Rattle.nf_desk.specs.Desk.{IsDesk, TakesTurn, book_at, meanings, shown, standing_in};
 ghost use Rattle.nf_desk.specs.Opened.{AsksOnce, CountsFault, IsFault, MayBegin, Opens};
 ghost use Rattle.nf_desk.specs.Pieces.{Reads, StrikesBy};
-ghost use Rattle.nf_desk.specs.Stepping.{IsEmpty};
+ghost use Rattle.nf_desk.specs.Stepping.{IsEmpty, Starts};
 ghost use Rattle.nf_rules.specs.Ruled.{AreRuled};
 ghost use Rattle.nf_rules.specs.Rules.{AreUnbroken};
 ghost use Rattle.nf_session.specs.Book.{Begins, EndsBody, EndsEmpty, held};
@@ -13,17 +13,18 @@ ghost use Rattle.nf_site.specs.Kept.{IsHistory};
 ghost use Rattle.nf_turn.specs.Book.{IsFresh};
 ghost use Rattle.nf_words.specs.Prelude.{IsSound, MayEnd, MayWant};
 ghost use Rattle.nf_words.specs.declared.answer.Goal.TheVariants.{Serve};
+ghost use Rattle.nf_words.specs.declared.history.Event.TheVariants.{Sweep};
 ghost use Rattle.nf_words.specs.declared.history.Outcome.TheVariants.{Body};
 
 use crate::first::{Opening, Unopened};
 use crate::loading::site_over;
 use crate::piece::piece_at;
-use crate::stepping::{begin, finish, store, sweep};
+use crate::stepping::{begin, finish, start, store};
 use nf_base::{Content, Digest, MAX_SEATS, Moment, RowList};
 use nf_keeper::{KeepFault, Keeper};
 use nf_site::Site;
 use nf_turn::Book;
-use nf_words::{Answer, Entry, Outcome, Request, Words};
+use nf_words::{Answer, Entry, Event, Outcome, Request, Words};
 use std::alloc::Global;
 use std::marker::Model;
 use std::snapshot::Snapshot;
@@ -119,11 +120,18 @@ impl<K: Keeper + Drop> Desk<K> {
     /// Has go what the trashes don't hold any more, at a reading of the clock.
     pub fn sweep(&mut self, seat: u64, now: Moment) -> Answer
         requires idle { held (book_at seat (shown K.Keeper self.old)) ≡ None }
-        ensures sweeps { SweepsTrash (book_at seat (shown K.Keeper self.old)) (book_at seat (shown K.Keeper self.new)) now result }
+        ensures sweeps { Starts seat (standing_in (shown K.Keeper self.old)) (standing_in (shown K.Keeper self.new)) now Sweep result }
         ensures turn { TakesTurn K.Keeper seat self.old self.new }
     {
         let _ = self.site.history();
-        let answer = sweep(self.alloc, &mut self.site, &mut self.keeper, seat, now);
+        let answer = start(
+            self.alloc,
+            &mut self.site,
+            &mut self.keeper,
+            seat,
+            now,
+            Event::Sweep,
+        );
         let _ = self.site.history();
         answer
     }

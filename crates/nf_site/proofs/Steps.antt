@@ -18,7 +18,7 @@ use Rattle.nf_words.specs.declared.answer.Allowed.{Allowed}
 use Rattle.nf_words.specs.declared.answer.Denial.{Denial}
 use Rattle.nf_words.specs.declared.history.Entry.{Entry}
 use Rattle.nf_words.specs.declared.history.Event.{Event}
-use Rattle.nf_words.specs.declared.history.Event.TheVariants.{Begin, End}
+use Rattle.nf_words.specs.declared.history.Event.TheVariants.{Begin, End, Sweep}
 use Rattle.nf_words.specs.declared.history.Mark.{Mark}
 use Rattle.nf_words.specs.declared.history.Mark.TheVariants.{Answered}
 use Rattle.nf_words.specs.declared.history.Outcome.{Outcome}
@@ -57,6 +57,11 @@ begin_adds : (s : State) (seat moment : ℕ) (words : Words) (request : Request)
 begin_adds s seat moment words request Answered = decided_tickets s seat moment (decision_of s seat moment (Begin words request))
 begin_adds s seat moment words request mark = omega arith
 
+-- a sweep adds none
+sweep_adds : (s : State) (seat moment : ℕ) (mark : Mark) → (after s (entry seat moment Sweep mark)).tickets ≡ s.tickets
+sweep_adds s seat moment Answered = refl
+sweep_adds s seat moment mark = refl
+
 -- an End takes one away
 end_leaves : (s : State) (seat moment : ℕ) (outcome : Outcome) (mark : Mark)
     → (after s (entry seat moment (End outcome) mark)).tickets ≡ (without_ticket s seat).tickets
@@ -81,12 +86,15 @@ ends_left site seat moment (End outcome) mark ends asked room =
       ap length (end_leaves s seat moment outcome mark),
       length-found (λ ticket. ticket.seat == seat) s.tickets (has_ticket (ticket_of s seat) outcome asked),
     )
+ends_left site seat moment Sweep mark ends asked room =
+    omega (arith, room.entries, ap length (sweep_adds site.kept.state seat moment mark))
 
 -- ---- an entry
 
 leaves_room : (site : Held) (event : Event) → HasEntryRoom site event → LeavesRoom (length site.kept.history) site.kept.state event
 leaves_room site (Begin words request) room = room.run
 leaves_room site (End outcome) room = tt
+leaves_room site Sweep room = room.run
 
 history_more : (k : Kept) (e : Entry) → IsHistory k → MayCome (length k.history) k.state e → IsHistory (entered k e)
 history_more k e h may =
@@ -197,6 +205,7 @@ fits_ticket site seat moment (Begin words request) act room is some = room.ticke
 fits_ticket site seat moment (End outcome) act room is some =
     let none : goal_of act ≡ None = subst GrantsNothing is (end_nothing site.kept.state seat moment outcome) in
     absurd (false≢true (sym (ap is_some none) ∙ some))
+fits_ticket site seat moment Sweep act room is some = room.tickets
 
 -- what a plan does that is ready fits
 pub fits_plan : (old : Inside) (site : Held) (plan : PlanInside) (act : Allowed) → held_of old ≡ site
