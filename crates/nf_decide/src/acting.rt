@@ -6,11 +6,11 @@ ghost use Rattle.nf_base.specs.declared.rows.Row.TheVariants as kinds;
 ghost use Rattle.nf_base.specs.Kept.{IsPlain};
 ghost use Rattle.nf_defs.specs.Prelude.{node_row};
 ghost use Rattle.nf_defs.specs.declared.Found.TheVariants.{Free};
-ghost use Rattle.nf_words.specs.Prelude.{AreSound, carries, carry_limit, copied, copies, copy_limit, deleted, last_name, made_folder, made_or_done, makes, moved, moves, new_node, stored};
+ghost use Rattle.nf_words.specs.Prelude.{AreSound, carries, carry_limit, copied, copies, copy_limit, crossing, deleted, last_name, made_folder, made_or_done, makes, moved, moves, new_node, stored};
 
 use crate::copying::copies_to;
 use crate::discarding::done;
-use crate::leaving::{leaving, push_around};
+use crate::leaving::leaves;
 use crate::nodes::owner_of;
 use crate::shared::nothing_done;
 use crate::transferring::crosses;
@@ -105,8 +105,7 @@ pub(crate) fn deleted(
     requires { AreSound view.now.tables }
     ensures { IfOk result (λ allowed. allowed ≡ deleted view.now.tables moment node) }
 {
-    let mut deeds = Vec::new(alloc);
-    push_around(&mut deeds, leaving(alloc, view, moment, node)?, None)?;
+    let deeds = leaves(alloc, view, moment, node)?.alone()?;
     Ok(done(deeds, Report::Done))
 }
 
@@ -142,16 +141,11 @@ fn carries(
     requires few { carry_limit view.now.tables transfer.now ≡ None }
     ensures { IfOk result (λ deeds. deeds.items ≡ carries view.now.tables moment name transfer.now) }
 {
-    if !crosses(view.tree(), transfer) {
-        return moves(alloc, view, moment, name, transfer);
+    if crosses(view.tree(), transfer) {
+        crossing(alloc, view, moment, name, transfer)
+    } else {
+        moves(alloc, view, moment, name, transfer)
     }
-    let mut deeds = copies(alloc, view, moment, name, transfer)?;
-    push_around(
-        &mut deeds,
-        leaving(alloc, view, moment, Some(transfer.node))?,
-        None,
-    )?;
-    Ok(deeds)
 }
 
 fn moves(
@@ -169,13 +163,7 @@ fn moves(
         folder: transfer.folder,
         name,
     };
-    let mut deeds = Vec::new(alloc);
-    push_around(
-        &mut deeds,
-        leaving(alloc, view, moment, transfer.replaced)?,
-        Some(deed),
-    )?;
-    Ok(deeds)
+    leaves(alloc, view, moment, transfer.replaced)?.before(deed)
 }
 
 fn copies(
@@ -190,13 +178,24 @@ fn copies(
     ensures { IfOk result (λ deeds. deeds.items ≡ copies view.now.tables moment name transfer.now) }
 {
     let deed = Deed::Join(copies_to(alloc, view, moment, transfer, name)?);
-    let mut deeds = Vec::new(alloc);
-    push_around(
-        &mut deeds,
-        leaving(alloc, view, moment, transfer.replaced)?,
-        Some(deed),
-    )?;
-    Ok(deeds)
+    leaves(alloc, view, moment, transfer.replaced)?.before(deed)
+}
+
+fn crossing(
+    alloc: Global,
+    view: &View<'_>,
+    moment: Moment,
+    name: Name,
+    transfer: &Transfer,
+) -> Result<Vec<Deed>, AllocError>
+    requires sound { AreSound view.now.tables }
+    requires few { copy_limit view.now.tables transfer.now ≡ None }
+    ensures { IfOk result (λ deeds. deeds.items ≡ crossing view.now.tables moment name transfer.now) }
+{
+    let deed = Deed::Join(copies_to(alloc, view, moment, transfer, name)?);
+    let replaced = leaves(alloc, view, moment, transfer.replaced)?;
+    let source = leaves(alloc, view, moment, Some(transfer.node))?;
+    replaced.before_both(deed, source)
 }
 
 /// What is put at a place is made, where nothing was there.

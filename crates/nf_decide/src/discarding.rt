@@ -1,10 +1,10 @@
 //! What is put in the trash and comes back from there, and what goes for good beside it.
 
-ghost use Rattle.std.specs.Prelude.{◌≡◌, ◌==◌, ◌∷◌, List, filter, if◌then◌else◌, map, not, unwrap_or, IfOk, OnOk};
+ghost use Rattle.std.specs.Prelude.{◌≡◌, ◌++◌, List, ◌∷◌, map, unwrap_or, IfOk, OnOk};
 ghost use Rattle.nf_base.specs.declared.rows.ItemRow.{ItemRow};
 ghost use Rattle.nf_defs.specs.Prelude.{folder_of};
 ghost use Rattle.nf_retention.specs.Trash.{trashed};
-ghost use Rattle.nf_words.specs.Prelude.{AreSound, discard, gone_beside, gone_of, item_dropped, item_for, item_restored, item_size, items_but, items_of, nothing_done, quota_of, requoted};
+ghost use Rattle.nf_words.specs.Prelude.{AreSound, done, gone_beside, gone_of, item_dropped, item_for, item_restored, item_size, items_but, items_of, purges, quota_of, requoted};
 ghost use Rattle.nf_words.specs.declared.answer.Allowed.TheVariants as allowed;
 ghost use Rattle.nf_words.specs.declared.answer.Deed.TheVariants as deed;
 ghost use Rattle.nf_words.specs.declared.answer.Report.TheVariants as report;

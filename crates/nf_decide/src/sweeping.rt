@@ -1,8 +1,7 @@
 //! What goes of the trash of all users where nobody asks for anything.
 
-ghost use Rattle.std.specs.Prelude.{◌≡◌, ◌==◌, ◌++◌, ◌∷◌, [], filter, not, IfOk, OnOk};
-ghost use Rattle.std.specs.List.{flat_map};
-ghost use Rattle.nf_words.specs.Prelude.{AreSound, gone_from, owners_of, swept};
+ghost use Rattle.std.specs.Prelude.{◌≡◌, IfOk};
+ghost use Rattle.nf_words.specs.Prelude.{AreSound, owners_of, swept};
 
 use crate::discarding::{done, gone_by, push_purges};
 use crate::quotas::quota_of;

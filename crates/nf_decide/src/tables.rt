@@ -7,10 +7,10 @@ ghost use Rattle.nf_base.specs.declared.rows.NodeRow.{NodeRow};
 ghost use Rattle.nf_base.specs.declared.rows.Row.TheVariants as kinds;
 ghost use Rattle.nf_base.specs.declared.rows.MetaRow.{MetaRow};
 ghost use Rattle.nf_defs.specs.Prelude.{drop_row, dropped, item_key, made, node_key, node_row, put, put_all, rows_of};
-ghost use Rattle.nf_words.specs.Prelude.{above, blob_after, changed, counted, deed_done, discarded, goal_of, joined, last_number, purged, restored};
+ghost use Rattle.nf_words.specs.Prelude.{above, blob_after, changed, counted, deed_done, deeds_done, discarded, goal_of, joined, last_number, purged, restored};
 ghost use Rattle.nf_words.specs.declared.answer.Report.TheVariants.{Done};
 ghost use Rattle.nf_words.specs.declared.answer.Allowed.TheVariants as allowed;
-ghost use Rattle.nf_decide.specs.Current.{AreBorne, AreGiven, BearsAct, BearsChanges, BearsCopies, BearsDeed, BearsDeeds, BearsRestore, IsBorne, IsCounted, IsDroppedKey, IsNew, IsRefilled, LeadUpBehind, added_by, added_deed, added_deeds, added_of};
+ghost use Rattle.nf_decide.specs.Current.{AreBorne, AreGiven, BearsAct, BearsChanges, BearsCopies, BearsDeed, BearsDeeds, BearsPlace, IsBorne, IsCounted, IsDroppedKey, IsNew, IsRefilled, LeadUpBehind, added_by, added_deed, added_deeds, added_of};
 ghost use Rattle.nf_rules.specs.Ruled.{AreRuled};
 ghost use Rattle.nf_decide.specs.Counts.{FitsNodes, FitsRows, IsNoSmaller, only_nodes};
 
@@ -238,10 +238,18 @@ impl Tables {
         if deeds.is_empty() {
             return;
         }
+        self.perform_each(deeds);
+        self.stamp(moment);
+    }
+
+    fn perform_each(&mut self, deeds: Vec<Deed>)
+        requires room { FitsRows self.old.tables self.old.room (added_deeds deeds.items) }
+        requires bears { BearsDeeds self.old.tables deeds.items }
+        ensures { self.new.tables ≡ deeds_done self.old.tables deeds.items }
+    {
         for deed in deeds {
             self.perform(deed);
         }
-        self.stamp(moment);
     }
 
     fn perform(&mut self, deed: Deed)
@@ -264,7 +272,8 @@ impl Tables {
     fn discard(&mut self, item: ItemRow)
         requires room { length self.old.tables.items < self.old.room.items }
         requires there { IsSome (node_row self.old.tables.nodes item.node) }
-        ensures { self.new.tables ≡ discarded self.old.tables item }
+        ensures tables { self.new.tables ≡ discarded self.old.tables item }
+        ensures room { IsNoSmaller self.old.room self.new.room }
     {
         self.shares.end_under(&self.tree, item.node);
         self.tree.detach(item.node);
@@ -273,8 +282,9 @@ impl Tables {
 
     /// Puts the node of an item into that folder, under that name.
     fn restore(&mut self, node: NodeId, folder: NodeId, name: Name)
-        requires { BearsRestore self.old.tables node folder name }
-        ensures { self.new.tables ≡ restored self.old.tables node folder name }
+        requires { BearsPlace self.old.tables node folder name }
+        ensures tables { self.new.tables ≡ restored self.old.tables node folder name }
+        ensures room { self.new.room ≡ self.old.room }
     {
         self.tree.attach(node, folder, name);
         self.drop_item(node);
@@ -282,7 +292,8 @@ impl Tables {
 
     /// Takes out a node and all under it for good, with its item, and ends the shares there.
     fn purge(&mut self, node: NodeId)
-        ensures { self.new.tables ≡ purged self.old.tables node }
+        ensures tables { self.new.tables ≡ purged self.old.tables node }
+        ensures room { self.new.room ≡ self.old.room }
     {
         self.shares.end_under(&self.tree, node);
         self.tree.purge(node);
@@ -300,9 +311,9 @@ impl Tables {
     /// Puts new nodes in, with the next numbers.
     fn join(&mut self, rows: NodeRows)
         requires room { FitsNodes self.old.tables self.old.room.nodes (length rows) }
-        requires given { AreGiven self.old.tables }
         requires bears { BearsCopies self.old.tables rows }
-        ensures { self.new.tables ≡ joined self.old.tables rows }
+        ensures tables { self.new.tables ≡ joined self.old.tables rows }
+        ensures room { self.new.room ≡ self.old.room }
     {
         self.meta.next_node = add_all(&mut self.tree, self.meta.next_node, rows);
     }

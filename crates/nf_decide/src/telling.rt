@@ -1,18 +1,19 @@
 //! What an act changes, told as a list of the rows that differ.
 
-ghost use Rattle.std.specs.Prelude.{◌≡◌, count_by, [], ◌∷◌, ◌++◌, map, IfOk, OnOk};
+ghost use Rattle.std.specs.Prelude.{◌≡◌, ◌+◌, ◌≤◌, count_by, max, [], ◌∷◌, ◌++◌, map, IfOk, OnOk};
 ghost use Rattle.std.specs.List.{flat_map};
 ghost use Rattle.nf_base.specs.declared.changes.Change.TheVariants as change;
 ghost use Rattle.nf_base.specs.declared.changes.RowKey.TheVariants as keys;
 ghost use Rattle.nf_base.specs.declared.rows.Row.TheVariants as kinds;
 ghost use Rattle.nf_defs.specs.Tree.{is_leaf, is_under, node_row, relinked, trashed};
+ghost use Rattle.nf_words.specs.Limits.{last_number};
 ghost use Rattle.nf_words.specs.Changes.{blob_of, changes_of, hold_of, meta_after, told, with_meta};
 ghost use Rattle.nf_words.specs.Deeds.{closed_under, dropped_under, ended_row, gone_under, is_closing, told_deed, told_deeds, told_node};
 ghost use Rattle.nf_words.specs.declared.answer.Deed.TheVariants as deeds;
 ghost use Rattle.nf_words.specs.declared.answer.LockKey.TheVariants as lock_keys;
 ghost use Rattle.nf_words.specs.declared.answer.Mode.TheVariants.{Exclusive, Shared};
-ghost use Rattle.nf_decide.specs.Current.{BearsAct, added_by, added_deeds, added_of, is_counted, is_fresh, puts_group, puts_item, puts_member, puts_mount, puts_share, puts_token, puts_user};
-ghost use Rattle.nf_decide.specs.Gone.{TellsDeeds, told_gone};
+ghost use Rattle.nf_decide.specs.Current.{BearsAct, added_by, added_deeds, added_of, discards, is_counted, is_fresh, nodes_joined, puts_group, puts_item, puts_member, puts_mount, puts_share, puts_token, puts_user, requotes, rows_joined};
+ghost use Rattle.nf_decide.specs.Gone.{TellsDeeds, told_first, told_gone};
 
 use crate::counts::RowCounts;
 use crate::items::item_row;
@@ -205,7 +206,7 @@ fn push_deed(
     deed: &Deed,
     changes: &mut Changes,
 ) -> Result<(), AllocError>
-    ensures { OnOk result (changes.new ≡ changes.old ++ told_deed view.now.tables deed.now) }
+    ensures { OnOk result (changes.new ≡ changes.old ++ told_first view.now.tables deed.now) }
 {
     match deed {
         Deed::Discard(item) => push_discarded(view, item, changes),
@@ -228,11 +229,19 @@ fn push_discarded(
 ) -> Result<(), AllocError>
     ensures { OnOk result (changes.new ≡ changes.old ++ told_deed view.now.tables (deeds.Discard item.now)) }
 {
-    if let Some(row) = view.tree().node(item.node) {
-        changes.push(Change::Put(Row::Node(in_trash(row)?)))?;
-    }
+    push_trashed(view, item.node, changes)?;
     changes.push(Change::Put(Row::Item(item.clone()?)))?;
     close_under(changes, view, item.node)
+}
+
+/// A node's row is put in the trash, if the node is there.
+fn push_trashed(view: &View<'_>, node: NodeId, changes: &mut Changes) -> Result<(), AllocError>
+    ensures { OnOk result (changes.new ≡ changes.old ++ told_node (node_row view.now.tables.nodes node) trashed) }
+{
+    if let Some(row) = view.tree().node(node) {
+        changes.push(Change::Put(Row::Node(in_trash(row)?)))?;
+    }
+    Ok(())
 }
 
 /// A node's row is put in its new place, if the node is there.
@@ -313,19 +322,36 @@ fn meta_after(view: &View<'_>, moment: Moment, act: &Allowed) -> MetaRow
 }
 
 /// The next number of a node after some deeds.
-fn next_node(next: NodeId, deeds: &[Deed]) -> NodeId {
+fn next_node(next: NodeId, deeds: &[Deed]) -> NodeId
+    requires { next + nodes_joined deeds.now ≤ max next last_number }
+    ensures { result ≡ next + nodes_joined deeds.now }
+{
     NodeId::new(next.number() + nodes_joined(deeds) as u64)
 }
 
 /// How many nodes are made by some deeds.
-fn nodes_joined(deeds: &[Deed]) -> usize {
-    let mut count = 0;
+fn nodes_joined(deeds: &[Deed]) -> usize
+    ensures { result ≡ nodes_joined deeds.now }
+{
+    let mut count: usize = 0;
     for deed in deeds {
-        if let Deed::Join(rows) = deed {
-            count += rows.rows().len();
-        }
+        count = count.saturating_add(rows_joined(deed));
     }
     count
+}
+
+/// How many are made by one.
+fn rows_joined(deed: &Deed) -> usize
+    ensures { result ≡ rows_joined deed.now }
+{
+    match deed {
+        Deed::Join(rows) => rows.rows().len(),
+        Deed::Discard(_)
+        | Deed::Purge(_)
+        | Deed::Restore { .. }
+        | Deed::Relink { .. }
+        | Deed::Requote(_) => 0,
+    }
 }
 
 /// How many rows an act adds at most.
@@ -346,10 +372,22 @@ fn added_deeds(deeds: &[Deed]) -> RowCounts
     ensures { result ≡ added_deeds deeds.now }
 {
     RowCounts {
-        items: deeds.iter().filter(|deed| matches!(deed, Deed::Discard(_))).count(),
-        users: deeds.iter().filter(|deed| matches!(deed, Deed::Requote(_))).count(),
+        items: deeds.iter().filter(|deed| discards(deed)).count(),
+        users: deeds.iter().filter(|deed| requotes(deed)).count(),
         ..RowCounts::only_nodes(nodes_joined(deeds))
     }
+}
+
+fn discards(deed: &Deed) -> bool
+    ensures { result ≡ discards deed.now }
+{
+    matches!(deed, Deed::Discard(_))
+}
+
+fn requotes(deed: &Deed) -> bool
+    ensures { result ≡ requotes deed.now }
+{
+    matches!(deed, Deed::Requote(_))
 }
 
 /// How many rows some changes add at most: nodes of numbers that weren't given yet, and rows of the other kinds.
