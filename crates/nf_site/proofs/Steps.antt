@@ -139,10 +139,10 @@ held_step old new site e is held before asked marked room kept capacity =
 -- ---- a decision
 
 -- the tables bear an act that is decided
-pub bears_step : (s : State) (seat now : ℕ) (event : Event) (act : Allowed) → IsSound s → MayAsk s seat event
+pub bears_step : (s : State) (seat now : ℕ) (event : Event) (act : Allowed) → IsSound s → s.seen ≤ now → MayAsk s seat event
     → decision_of s seat now event ≡ Ok act → BearsAct s.tables act
-bears_step s seat now event act sound asked decides =
-    known_bears s.tables now act sound.rows (known_change s seat now event act sound asked decides)
+bears_step s seat now event act sound late asked decides =
+    known_bears s.tables now act sound.rows (omega (arith, sound.seen, late)) (known_change s seat now event act sound asked decides)
 
 -- ---- a site's fields
 
@@ -168,9 +168,10 @@ opened_held site rows ruled opening state none =
 
 -- the tables bear what is decided
 pub bears_held : (old : Inside) (site : Held) (seat now : ℕ) (event : Event) (act : Allowed) → held_of old ≡ site → IsHeld old
-    → MayAsk site.kept.state seat event → decision_of site.kept.state seat now event ≡ Ok act → BearsAct old.current.state.tables act
-bears_held old site seat now event act is held asked decides =
-    bears_step old.current.state seat now event act held.sound
+    → site.kept.state.seen ≤ now → MayAsk site.kept.state seat event → decision_of site.kept.state seat now event ≡ Ok act
+    → BearsAct old.current.state.tables act
+bears_held old site seat now event act is held late asked decides =
+    bears_step old.current.state seat now event act held.sound (subst (λ (x : Held). x.kept.state.seen ≤ now) (sym is) late)
     (subst (λ (x : Held). MayAsk x.kept.state seat event) (sym is) asked)
     (subst (λ (x : Held). decision_of x.kept.state seat now event ≡ Ok act) (sym is) decides)
 
@@ -178,7 +179,7 @@ bears_held old site seat now event act is held asked decides =
 pub bears_plan : (old : Inside) (site : Held) (plan : PlanInside) (act : Allowed) → held_of old ≡ site → IsHeld old
     → IsReady site (planned_in plan) → decision_in plan.decided ≡ Ok act → BearsAct old.current.state.tables act
 bears_plan old site plan act is held ready decides =
-    bears_held old site plan.seat plan.moment plan.event act is held ready.asked
+    bears_held old site plan.seat plan.moment plan.event act is held ready.not_before ready.asked
     (sym (ap (λ (p : Planned). p.decision) ready.planned) ∙ decides)
 
 -- ---- what an act adds

@@ -1,6 +1,6 @@
 //! The site.
 
-ghost use Rattle.std.specs.Prelude.{◌≡◌, ◌≢◌, ◌<◌, ◌↔◌, Err, IfOk, OnOk};
+ghost use Rattle.std.specs.Prelude.{◌≡◌, ◌≢◌, ◌<◌, ◌≤◌, ◌↔◌, Err, IfOk, OnOk};
 ghost use Rattle.nf_defs.specs.Tables.{rows_of};
 ghost use Rattle.nf_rules.specs.Ruled.{AreRuled};
 ghost use Rattle.nf_site.specs.Built.{IsBuilt};
@@ -127,7 +127,8 @@ impl Site {
         moment: Moment,
         event: Event,
     ) -> Result<Plan, AllocError>
-        requires { MayAsk self.now.kept.state seat event }
+        requires asked { MayAsk self.now.kept.state seat event }
+        requires late { self.now.kept.state.seen ≤ moment }
         ensures { IfOk result (λ plan. plan ≡ plan_at self.entry.now.kept.state seat moment event) }
     {
         let (decided, changes) = self.decided(alloc, seat, moment, &event)?;
@@ -142,7 +143,8 @@ impl Site {
         moment: Moment,
         event: &Event,
     ) -> Result<(Result<Deed, Denial>, Changes), AllocError>
-        requires { MayAsk self.now.kept.state seat event.now }
+        requires asked { MayAsk self.now.kept.state seat event.now }
+        requires late { self.now.kept.state.seen ≤ moment }
         ensures decision { IfOk result (λ made. decision_in made.0 ≡ decision_of self.now.kept.state seat moment event.now) }
         ensures changes { IfOk result (λ made. made.1 ≡ changes_to self.now.kept.state seat moment event.now) }
     {
