@@ -51,8 +51,7 @@ pub struct Finished<K: Drop> {
 
 /// What the program does by its words: `batch` serves the input and the output as one session over the rows that the keeper has, or over
 /// the demonstration rows, which it stores first where the keeper has none. `init` stores the rows of one administrator. `serve` serves
-/// the connections of the workers' doors over the rows that the keeper has. `sweep` has go what the trashes
-/// don't hold any more, and drops the blobs that no row names.
+/// the connections of the workers' doors over the rows that the keeper has. `sweep` drops the blobs that no row names.
 ///
 /// The site after the run is handed out with its history, but where none was opened.
 pub fn run<R, S, O, K, C, Q, D, W, V>(
@@ -145,7 +144,7 @@ where
             workers,
             connections,
         ),
-        Ok(Some(Command::Sweep)) => sweep(alloc, output, keeper, clock),
+        Ok(Some(Command::Sweep)) => sweep(alloc, output, keeper),
         Ok(None) => unopened(Status::Words, keeper),
         Err(_) => unopened(Status::Memory, keeper),
     }

@@ -1,4 +1,4 @@
-//! The command that has go what the trashes don't hold any more, and drops the bodies that no row names.
+//! The command that drops the bodies that no row names.
 
 ghost use Rattle.std.specs.Prelude.{◌≡◌, [], IfSome, OnErr, OnOk, Some, option_map};
 ghost use Rattle.nf_keeper.specs.Keeping.{Counts, swept};
@@ -11,47 +11,64 @@ ghost use Rattle.filesd.specs.Sweep.{Drops, Sweeps};
 use crate::opening::status_of;
 use crate::running::{Finished, unopened};
 use crate::status::Status;
-use nf_base::{Moment, Row, RowList};
 use nf_desk::{Desk, Opening, Unopened};
 use nf_http::send;
 use nf_keeper::{KeepFault, Keeper};
 use nf_named::named_blobs;
-use nf_outside::{Clock, Sink};
+use nf_outside::Sink;
 use nf_site::Site;
-use nf_words::Denial;
-use std::alloc::{AllocError, Global};
+use std::alloc::Global;
 
-/// The seat of a sweep.
-const SEAT: u64 = 1;
-
-/// Makes a sweep at the clock's reading, drops the blobs that no row names then, and says what went. There are no uploads yet, so none
-/// are counted.
-pub(crate) fn sweep<O: Sink, K: Keeper + Drop, C: Clock>(
+/// Drops the blobs that no row names, and says so. A trash is looked at by the requests that touch it, and there are no uploads yet, so no row changes, no entry is made, and
+/// none of either are counted.
+pub(crate) fn sweep<O: Sink, K: Keeper + Drop>(
     alloc: Global,
     output: &mut O,
     keeper: K,
-    clock: &mut C,
-) -> Finished<K> {
+) -> Finished<K>
+    ensures sweeps { Sweeps (outlet O.Ends K.Keeper output.old keeper) (outlet O.Ends K.Keeper output.new result.keeper) result.status result.site }
+    ensures leaves { IfSome result.site (λ site. Leaves site.kept (K.told result.keeper)) }
+    ensures paid { IfSome result.site (λ site. Pays site.kept (K.faults keeper) (K.faults result.keeper)) }
+    ensures alone { IfSome result.site (λ site. AreOwn site.kept.history) }
+{
     match Desk::open(alloc, keeper, Opening::Kept) {
-        Ok(desk) => sweep_over(alloc, output, desk, clock),
+        Ok(desk) => sweep_over(alloc, output, desk),
         Err(Unopened { fault, keeper }) => unopened(status_of(fault), keeper),
     }
 }
 
 /// The same over a desk that was just opened.
-fn sweep_over<O: Sink, K: Keeper + Drop, C: Clock>(
+#[tactic(auto, using(crate::proofs::Unnamed::drops_done, crate::proofs::Unnamed::drops_cut, crate::proofs::Unnamed::drops_failed, crate::proofs::Unnamed::drops_none))]
+fn sweep_over<O: Sink, K: Keeper + Drop>(
     alloc: Global,
     output: &mut O,
-    mut desk: Desk<K>,
-    clock: &mut C,
-) -> Finished<K> {
-    let made = desk.sweep(SEAT, Moment::new(clock.now()));
-    let (site, mut keeper) = desk.into_parts();
-    let status = match made {
-        Ok(_) => drop_unnamed(alloc, output, &site, &mut keeper),
-        Err(Denial::Store) => Status::StoreFault,
-        Err(_) => Status::Memory,
-    };
+    desk: Desk<K>,
+) -> Finished<K>
+    requires history { desk.site.kept.history ≡ [] }
+    ensures site { result.site ≡ Some desk.site }
+    ensures drops { Drops desk.site.kept.opening (outlet O.Ends K.Keeper output.old desk.keeper) (outlet O.Ends K.Keeper output.new result.keeper) result.status }
+    ensures leaves { Leaves desk.site.kept (K.told result.keeper) }
+    ensures paid { Pays desk.site.kept (K.faults desk.keeper) (K.faults result.keeper) }
+    ensures alone { AreOwn desk.site.kept.history }
+{
+    let Swept {
+        dropped,
+        site,
+        keeper,
+    } = drop_unnamed(alloc, desk);
+    match dropped {
+        Ok(()) => match send(output, b"items 0 uploads 0\n") {
+            Ok(()) => finished(Status::Done, site, keeper),
+            Err(_) => finished(Status::WriteFault, site, keeper),
+        },
+        Err(KeepFault::Failed) => finished(Status::StoreFault, site, keeper),
+        Err(KeepFault::Memory) => finished(Status::Memory, site, keeper),
+    }
+}
+
+fn finished<K: Keeper + Drop>(status: Status, site: Site, keeper: K) -> Finished<K>
+    ensures { result ≡ record { status = status; keeper = keeper; site = Some site } }
+{
     Finished {
         status,
         keeper,
@@ -59,40 +76,40 @@ fn sweep_over<O: Sink, K: Keeper + Drop, C: Clock>(
     }
 }
 
-/// Drops what no row names, and says how many items went.
-fn drop_unnamed<O: Sink, K: Keeper>(
-    alloc: Global,
-    output: &mut O,
-    site: &Site,
-    keeper: &mut K,
-) -> Status {
-    match keep_named(alloc, site, keeper) {
-        Ok(items) => match tell(alloc, output, items) {
-            Ok(status) => status,
-            Err(AllocError) => Status::Memory,
-        },
-        Err(KeepFault::Failed) => Status::StoreFault,
-        Err(KeepFault::Memory) => Status::Memory,
+/// A site and its keeper, and whether that dropped what no row names.
+#[derive(Drop)]
+struct Swept<K: Drop> {
+    dropped: Result<(), KeepFault>,
+    site: Site,
+    keeper: K,
+}
+
+fn drop_unnamed<K: Keeper + Drop>(alloc: Global, desk: Desk<K>) -> Swept<K>
+    requires history { desk.site.kept.history ≡ [] }
+    ensures site { result.site ≡ desk.site }
+    ensures made { OnOk result.dropped (K.told result.keeper ≡ option_map (swept (named_blobs desk.site.kept.opening)) (K.told desk.keeper)) }
+    ensures same { OnErr result.dropped (K.told result.keeper ≡ K.told desk.keeper) }
+    ensures count { Counts (K.faults desk.keeper) (K.faults result.keeper) result.dropped }
+    ensures leaves { Leaves desk.site.kept (K.told result.keeper) }
+    ensures paid { Pays desk.site.kept (K.faults desk.keeper) (K.faults result.keeper) }
+    ensures alone { AreOwn desk.site.kept.history }
+{
+    let (site, keeper) = desk.into_parts();
+    let mut keeper = keeper;
+    let dropped = keep_named(alloc, &site, &mut keeper);
+    Swept {
+        dropped,
+        site,
+        keeper,
     }
 }
 
-/// How many items went since the site was opened, once the keeper has dropped what no row names.
-fn keep_named<K: Keeper>(alloc: Global, site: &Site, keeper: &mut K) -> Result<usize, KeepFault> {
-    let rows = site.rows(alloc)?;
-    let named = named_blobs(alloc, rows.rows())?;
-    keeper.sweep(&named)?;
-    Ok(items_of(site.opening()) - items_of(&rows))
-}
-
-/// How many items there are among some rows.
-fn items_of(rows: &RowList) -> usize {
-    rows.rows().iter().filter(|row| matches!(row, Row::Item(_))).count()
-}
-
-fn tell<O: Sink>(alloc: Global, output: &mut O, items: usize) -> Result<Status, AllocError> {
-    let line = format!(in alloc; "items {items} uploads 0\n")?;
-    match send(output, line.as_bytes()) {
-        Ok(()) => Ok(Status::Done),
-        Err(_) => Ok(Status::WriteFault),
-    }
+// The rows are those that the site was opened with, since no entry was made.
+fn keep_named<K: Keeper>(alloc: Global, site: &Site, keeper: &mut K) -> Result<(), KeepFault>
+    ensures made { OnOk result (K.told keeper.new ≡ option_map (swept (named_blobs site.now.kept.opening)) (K.told keeper.old)) }
+    ensures same { OnErr result (K.told keeper.new ≡ K.told keeper.old) }
+    ensures count { Counts (K.faults keeper.old) (K.faults keeper.new) result }
+{
+    let named = named_blobs(alloc, site.opening().rows())?;
+    keeper.sweep(&named)
 }
