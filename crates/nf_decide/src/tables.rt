@@ -439,7 +439,7 @@ fn push_mounts(list: &mut RowList, mounts: &[MountRow]) -> Result<(), AllocError
 }
 
 /// An equal item of the trash.
-fn copy_item(item: &ItemRow) -> Result<ItemRow, AllocError>
+pub(crate) fn copy_item(item: &ItemRow) -> Result<ItemRow, AllocError>
     ensures { IfOk result (λ copy. copy ≡ item.now) }
 {
     item.clone()

@@ -17,7 +17,7 @@ ghost use Rattle.nf_decide.specs.Gone.{TellsDeeds, told_first, told_gone};
 
 use crate::counts::RowCounts;
 use crate::items::item_row;
-use crate::tables::{copy, raised};
+use crate::tables::{copy, copy_item, raised};
 use crate::view::View;
 use nf_base::{
     BlobId, Change, Changes, ItemRow, MetaRow, Moment, Name, NodeId, NodeRow, Place, Row, RowKey,
@@ -230,7 +230,7 @@ fn push_discarded(
     ensures { OnOk result (changes.new ≡ changes.old ++ told_deed view.now.tables (deeds.Discard item.now)) }
 {
     push_trashed(view, item.node, changes)?;
-    changes.push(Change::Put(Row::Item(item.clone()?)))?;
+    changes.push(Change::Put(Row::Item(copy_item(item)?)))?;
     close_under(changes, view, item.node)
 }
 
