@@ -1,5 +1,5 @@
 -- What sound tables can bear, where no rule refuses it.
-use Rattle.std.proofs.Common.{inl, inr, ◌⊎◌, cond, count_by, max, nat_lt, ◌∷◌, length-append, ℕ, ◌+◌, ◌<◌, ◌≤◌, ◌==◌, ◌≡◌, Bool, true, false, not, List, [], ◌++◌, length, is_some, sum_by, Option, None, Some, IsSome, IfSome, if◌then◌else◌, refl, sym, ap, ◌∙◌, subst, arith}
+use Rattle.std.proofs.Common.{inl, inr, ◌⊎◌, cond, count_by, max, nat_lt, ◌∷◌, length-append, ℕ, ◌+◌, ◌<◌, ◌≤◌, ◌==◌, ◌≡◌, true, false, not, List, [], ◌++◌, length, is_some, sum_by, Option, None, Some, IfSome, refl, sym, ap, ◌∙◌, subst, arith}
 use Rattle.std.specs.List.{All}
 use Rattle.std.specs.Option.{option_map_or}
 use Rattle.std.proofs.lemmas.List.Elements.{All-cons, All-nil, All-weaker}

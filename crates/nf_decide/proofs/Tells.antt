@@ -35,7 +35,7 @@ use Rattle.nf_words.specs.declared.answer.Deed.{Deed}
 use Rattle.nf_words.specs.declared.answer.Deed.TheVariants as deed
 use Rattle.nf_words.specs.declared.request.Transfer.{Transfer}
 use Rattle.nf_decide.specs.Gone.{TellsDeeds, told_first}
-use Rattle.nf_decide.proofs.ToldFirst.{join_same, join_tells, leave_tells, relink_tells, restore_tells, tell_both, Tells, TellInTurn, there_given}
+use Rattle.nf_decide.proofs.ToldFirst.{join_same, join_tells, leave_tells, relink_tells, restore_tells, tell_both, Tells, there_given}
 use Rattle.nf_decide.proofs.ToldGone.{SameUnder}
 
 -- ---- what is done first
@@ -242,8 +242,7 @@ module _ (t : Tables) (now : ℕ) (transfer : Transfer) (name : List ℕ) (sound
       let goes = rest_goes t sound now from leaving in
       let v = deed_done t joins in
       tell_both t (joins ∷ discard t now from ∷ []) gone sound
-      (after_first t now (joins ∷ discard t now from ∷ []) (beside t now from) sound at turn) goes
-      (
+      (after_first t now (joins ∷ discard t now from ∷ []) (beside t now from) sound at turn) goes (
         joins_tell t gone goes.items,
         (
           leave_tells t v now gone from sound (fit_sound t now joins sound at turn.0) leaving (leaves_joined t from more leaving) goes.items
@@ -335,8 +334,7 @@ module _ (t : Tables) (now : ℕ) (transfer : Transfer) (name : List ℕ) (sound
         subst (λ (last : List Deed). TellsDeeds t (discard t now row ∷ joins ∷ discard t now from ∷ last))
         (map-append (λ (node : ℕ). deed.Purge node) (rest_of t now row) (rest_of t now from))
         (tell_both t (discard t now row ∷ joins ∷ discard t now from ∷ []) gone sound
-        (after_first t now (discard t now row ∷ joins ∷ discard t now from ∷ []) (beside t now row ++ beside t now from) sound at turn) goes
-        (
+        (after_first t now (discard t now row ∷ joins ∷ discard t now from ∷ []) (beside t now row ++ beside t now from) sound at turn) goes (
           leaves_first t now gone row sound leaves goes.items,
           (
             joins_tell without gone goes.items,
@@ -372,8 +370,7 @@ step_tell t now deeds sound at (by_going nodes goes) turn = tell_both t [] nodes
 step_tell t now deeds sound at (by_leaving row it) turn = leaving_tell t now row sound at it turn
 step_tell t now deeds sound at (by_restoring node folder name gone it goes others) turn =
     let back = deed.Restore node folder name in
-    tell_both t (back ∷ []) gone sound (after_first t now (back ∷ []) (purges gone) sound at turn) goes
-    (
+    tell_both t (back ∷ []) gone sound (after_first t now (back ∷ []) (purges gone) sound at turn) goes (
       restore_tells t gone node folder name sound goes.items (ap is_some it.there)
           (subst (LeadsToRoot t.nodes) (sym it.home) (item_home t node it.item sound it.there).present) others,
       tt,

@@ -1,5 +1,5 @@
 -- What a step does first is told of the tables before it, and leaves what is under each item that goes for good as it was.
-use Rattle.std.proofs.Common.{◌≡◌, ◌≢◌, ℕ, zero, suc, ◌+◌, ◌<◌, false, Bool, List, [], ◌∷◌, ◌++◌, Option, None, Some, get_or, map, filter, refl, sym, ap, subst, ◌∙◌, arith, append_assoc, if◌then◌else◌}
+use Rattle.std.proofs.Common.{◌≡◌, ◌≢◌, ℕ, zero, suc, ◌+◌, ◌<◌, false, Bool, List, [], ◌∷◌, ◌++◌, Option, Some, get_or, map, filter, refl, sym, ap, subst, ◌∙◌, arith, append_assoc, if◌then◌else◌}
 use Rattle.std.specs.Prelude.{is_some}
 use Rattle.std.specs.List.{All, flat_map}
 use Rattle.std.proofs.lemmas.Bool.{cond_both, false_from_ne_true, ne_eqb}
@@ -29,7 +29,7 @@ use Rattle.nf_words.specs.Prelude.{AreSound, closed_under, deed_done, deeds_done
 use Rattle.nf_words.specs.declared.answer.Deed.{Deed}
 use Rattle.nf_words.specs.declared.answer.Deed.TheVariants as deed
 use Rattle.nf_words.specs.declared.request.Transfer.{Transfer}
-use Rattle.nf_decide.specs.Gone.{TellsDeeds, told_first, told_gone}
+use Rattle.nf_decide.specs.Gone.{TellsDeeds, told_first}
 use Rattle.nf_decide.proofs.ToldGone.{items_told, present_apart, purge_same, SameUnder, same_walk}
 
 -- ---- deeds that act, and then items that go

@@ -1,6 +1,5 @@
 -- What goes for good: each is told of the tables before all of it, since nothing of one is under another.
 use Rattle.std.proofs.Common.{◌≡◌, ◌≢◌, inl, inr, ℕ, suc, ◌&&◌, Bool, false, not, List, [], ◌∷◌, ◌++◌, None, Some, get_or, if◌then◌else◌, map, refl, sym, ap, subst, ◌∙◌, arith}
-use Rattle.std.specs.Prelude.{is_some}
 use Rattle.std.specs.List.{All, AllPairs, Contains, flat_map}
 use Rattle.std.proofs.lemmas.Bool.{cases_Bool, false_from_ne_true, not-false}
 use Rattle.std.proofs.lemmas.List.{append-nil}
@@ -14,7 +13,7 @@ use Rattle.nf_base.specs.declared.rows.NodeRow.{NodeRow}
 use Rattle.nf_base.specs.declared.rows.ShareRow.{ShareRow}
 use Rattle.nf_defs.proofs.Climbs.{under_climb}
 use Rattle.nf_defs.proofs.Walks.{climbs_walk, inside_of, node_row_each, walk_climbs}
-use Rattle.nf_defs.specs.Prelude.{by_name, children_of, climb, folder_of, is_in, is_under, item_row, parent_of, Tables, walk_of}
+use Rattle.nf_defs.specs.Prelude.{by_name, children_of, climb, folder_of, is_in, is_under, parent_of, Tables, walk_of}
 use Rattle.nf_laws.proofs.Climbs.{climbs_no_further, parent_at}
 use Rattle.nf_laws.proofs.Present.{below_present, never_trash}
 use Rattle.nf_laws.proofs.InTurn.{item_outside, item_stays}

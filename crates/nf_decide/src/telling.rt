@@ -222,11 +222,7 @@ fn push_deed(
 }
 
 /// The node of an item is in the trash, the item is there, and the shares of what is under the node are ended.
-fn push_discarded(
-    view: &View<'_>,
-    item: &ItemRow,
-    changes: &mut Changes,
-) -> Result<(), AllocError>
+fn push_discarded(view: &View<'_>, item: &ItemRow, changes: &mut Changes) -> Result<(), AllocError>
     ensures { OnOk result (changes.new ≡ changes.old ++ told_deed view.now.tables (deeds.Discard item.now)) }
 {
     push_trashed(view, item.node, changes)?;
@@ -508,10 +504,9 @@ pub fn hold_of(act: &Allowed) -> Result<Option<Hold>, AllocError>
     match act {
         Allowed::Get { node, .. } => Ok(Some(beside(*node))),
         Allowed::Put { key, .. } => Ok(Some(alone(key)?)),
-        Allowed::List(_)
-        | Allowed::Change { .. }
-        | Allowed::Deeds { .. }
-        | Allowed::Close => Ok(None),
+        Allowed::List(_) | Allowed::Change { .. } | Allowed::Deeds { .. } | Allowed::Close => Ok(
+            None,
+        ),
     }
 }
 
