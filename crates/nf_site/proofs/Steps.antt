@@ -89,6 +89,11 @@ ends_left site seat moment (End outcome) mark ends asked room =
 ends_left site seat moment Sweep mark ends asked room =
     omega (arith, room.entries, ap length (sweep_adds site.kept.state seat moment mark))
 
+-- so the entry itself fits
+pub entry_fits : (site : Held) (seat : ℕ) (event : Event) → length site.kept.history + length site.kept.state.tickets ≤ site.entries
+    → MayAsk site.kept.state seat event → HasEntryRoom site event → length site.kept.history + 1 ≤ site.entries
+entry_fits site seat event ends asked room = omega (arith, ends_left site seat 0 event Answered ends asked room)
+
 -- ---- an entry
 
 leaves_room : (site : Held) (event : Event) → HasEntryRoom site event → LeavesRoom (length site.kept.history) site.kept.state event

@@ -201,4 +201,3 @@ fn beside_report(report: &Report) -> Result<Reply, AllocError>
         Report::Plain => Ok(Reply::Plain),
     }
 }
-

@@ -205,6 +205,7 @@ impl Site {
     }
 
     /// Makes the planned step. It takes no memory.
+    #[tactic(auto, using(crate::proofs::Steps::entry_fits))]
     pub fn adopt(&mut self, plan: Plan) -> Answer
         requires { IsReady self.old plan }
         ensures answer { result ≡ answer_to self.old.kept.state plan.seat plan.moment plan.event }
