@@ -14,7 +14,7 @@ use Rattle.filesd.specs.Outside.{Outside, Untouched}
 use Rattle.filesd.specs.declared.status.Status.{Status}
 use Rattle.filesd.specs.declared.status.Status.TheVariants as exit
 
--- what `sweep` writes: how many items of the trash and how many uploads went, of which there are none yet
+-- what `sweep` writes: how many items of the trash and how many uploads went, which are none, since it makes no step of the site yet
 abbrev pub none_went : List ℕ
 none_went = codes "items 0 uploads 0\n"
 
