@@ -180,7 +180,7 @@ export async function whatIfThere(names) {
   const words = [
     h('p', {}, names.length === 1 ? named(names[0]) : `${counted(names.length, 'name')} of these`, names.length === 1 ? ' is there already.' : ' are there already.'),
     names.length > 1 && h('ul', { class: 'few' }, ...names.slice(0, 5).map((name) => h('li', {}, named(name))), names.length > 5 && h('li', {}, `and ${names.length - 5} more`)),
-    h('p', { class: 'quiet' }, 'What is replaced is gone for good.'),
+    h('p', { class: 'quiet' }, 'What an upload replaces is gone for good. What a move or a copy replaces can be put back from the trash of its owner, as long as that holds it.'),
   ].filter(Boolean);
   return (await question(names.length === 1 ? 'It is there already' : 'Some are there already', words, [
     { text: 'Skip', value: 'skip' },

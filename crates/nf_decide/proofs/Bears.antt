@@ -1,5 +1,5 @@
 -- What sound tables can bear, where no rule refuses it.
-use Rattle.std.proofs.Common.{inl, inr, ◌⊎◌, cond, count_by, max, nat_lt, ◌∷◌, length-append, ℕ, ◌+◌, ◌<◌, ◌≤◌, ◌==◌, ◌≡◌, Bool, true, false, not, List, [], length, find, filter, is_some, Option, None, Some, IsSome, IfSome, if◌then◌else◌, refl, sym, ap, ◌∙◌, subst, arith}
+use Rattle.std.proofs.Common.{inl, inr, ◌⊎◌, cond, count_by, max, nat_lt, ◌∷◌, length-append, ℕ, ◌+◌, ◌<◌, ◌≤◌, ◌==◌, ◌≡◌, true, false, not, List, [], ◌++◌, length, is_some, sum_by, Option, None, Some, IfSome, refl, sym, ap, ◌∙◌, subst, arith}
 use Rattle.std.specs.List.{All}
 use Rattle.std.specs.Option.{option_map_or}
 use Rattle.std.proofs.lemmas.List.Elements.{All-cons, All-nil, All-weaker}
@@ -9,31 +9,42 @@ use Rattle.nf_base.specs.declared.changes.Change.TheVariants.{Drop, Put}
 use Rattle.nf_base.specs.declared.changes.RowKey.TheVariants as keys
 use Rattle.nf_base.specs.declared.rows.MetaRow.{MetaRow}
 use Rattle.nf_base.specs.declared.rows.Row.TheVariants as rows
+use Rattle.nf_laws.proofs.Copied.{walk_first}
+use Rattle.nf_laws.proofs.InTurn.{deed_moment, Fit, fit_sound, InTurn, Joins}
 use Rattle.nf_laws.proofs.Lists.{counted_higher, Rising, rising_row}
-use Rattle.nf_laws.proofs.Moved.{transferred_sound}
+use Rattle.nf_laws.proofs.Mirrored.{mirrored}
 use Rattle.nf_laws.proofs.OneRow.{length_with}
+use Rattle.nf_laws.proofs.Others.{stamp_sound}
+use Rattle.nf_laws.proofs.Parts.{deed_stamped, rest_of, step_turn}
 use Rattle.nf_laws.proofs.Puts.{put_changed, put_new}
-use Rattle.std.proofs.lemmas.Bool.{eqb-true, le-ltb, lt-ltb}
+use Rattle.nf_laws.proofs.Rows.{stamp}
+use Rattle.std.proofs.lemmas.Bool.{cond_both, eqb-true, le-ltb, lt-ltb}
+use Rattle.std.proofs.lemmas.List.Sums.{sum_by-append, sum_by-cons}
 use Rattle.std.proofs.lemmas.Option.{same_Some}
 use Rattle.nf_base.specs.declared.limits.TheConstants.{MAX_NODES}
 use Rattle.nf_access.specs.Shares.{share_row}
 use Rattle.nf_charge.specs.Sums.{LeadUp}
+use Rattle.nf_base.specs.declared.rows.ItemRow.{ItemRow}
 use Rattle.nf_base.specs.declared.rows.NodeRow.{NodeRow}
 use Rattle.nf_base.specs.declared.rows.ShareRow.{ShareRow}
 use Rattle.nf_base.specs.declared.rows.UserRow.{UserRow}
 use Rattle.nf_defs.proofs.Puts.{all_put}
-use Rattle.nf_defs.specs.Prelude.{filled, is_under, made, node_key, node_row, put, Tables, user_key}
-use Rattle.nf_words.specs.Prelude.{AreSound, cleared, IsNewShare, IsNewUser, IsOtherShare, last_number, last_short, raised, transferred}
+use Rattle.nf_defs.specs.Prelude.{filled, made, node_key, node_row, put, Tables, user_key}
+use Rattle.nf_words.specs.Prelude.{AreSound, beside, besides, copies_to, deed_done, discard, discards, goes_itself, IsNewShare, IsNewUser, IsOtherShare, item_for, last_number, last_short, purges, raised, row_at}
 use Rattle.nf_words.specs.declared.answer.Allowed.{Allowed}
 use Rattle.nf_words.specs.declared.answer.Allowed.TheVariants as allowed
+use Rattle.nf_words.specs.declared.answer.Deed.{Deed}
+use Rattle.nf_words.specs.declared.answer.Deed.TheVariants as deed
+use Rattle.nf_words.specs.declared.request.Transfer.{Transfer}
 use Rattle.nf_words.proofs.Fits.{KnownChange, KnownRow, KnownRows, no_more, one_more, user_more, with_user}
 use Rattle.nf_words.proofs.Found.{found_has, found_passes}
-use Rattle.nf_words.proofs.Known.{Known, KnownCopies}
-use Rattle.nf_decide.specs.Current.{AreBorne, AreGiven, BearsAct, BearsChanges, BearsCopies, IsBorne, IsCounted, IsNew, IsRequoted, added_by, is_fresh}
+use Rattle.nf_words.proofs.Known.{Known, KnownCopies, KnownDeeds}
+use Rattle.nf_words.proofs.Known.KnownDeeds.{by_copying, by_crossing, by_going, by_leaving, by_moving, by_requoting, by_restoring}
+use Rattle.nf_decide.specs.Current.{AreBorne, AreGiven, BearsAct, BearsChanges, BearsCopies, BearsDeed, BearsDeeds, BearsStep, IsBorne, IsCounted, IsNew, IsRequoted, added_by, is_fresh, rows_joined}
 use Rattle.nf_decide.proofs.Putting.{count_by-cons, counts_none, counts_one}
-use Rattle.nf_decide.proofs.Copies.{AreNumbered, copies_count, copies_next}
-use Rattle.nf_decide.proofs.Trashing.{deed_nodes, trash_bears}
 use Rattle.nf_decide.proofs.Leading.{copies_lead, leads_born, leads_rooted, leads_row, sound_leads}
+use Rattle.nf_decide.proofs.Tells.{tells_step}
+use Rattle.nf_decide.proofs.ToldGone.{item_shares}
 
 pub sound_given : (t : Tables) → AreSound t → AreGiven t
 sound_given t sound = record { rising = sound.rising; given = λ k d within. (sound.nodes k d within).given }
@@ -256,74 +267,166 @@ rows_few t blob _ _ rising few (user_more u row root changes known rest) =
       count_by-cons (is_fresh next) (Put (rows.Node root)) changes,
     )
 
--- what is found stays so among those that are kept, where it is kept
-kept_there : (test keep : NodeRow → Bool) (rows : List NodeRow) (row : NodeRow) → find test rows ≡ Some row → keep row ≡ true
-    → find test (filter keep rows) ≡ Some row
-kept_there test keep [] row there kept = absurd (cc)
-kept_there test keep (first ∷ rows) row there kept =
-    here (test first) (keep first) refl refl there (λ there. kept_there test keep rows row there kept)
-  where
-    here : (a b : Bool) → test first ≡ a → keep first ≡ b → (if a then Some first else find test rows) ≡ Some row
-        → (find test rows ≡ Some row → find test (filter keep rows) ≡ Some row) → find test (filter keep (first ∷ rows)) ≡ Some row
-    here true true e f there rest = rw f (rw e there)
-    here true false e f there rest = let same = ap keep (same_Some first row there) in absurd (cc)
-    here false true e f there rest = rw f (rw e (rest there))
-    here false false e f there rest = rw f (rest there)
+-- ---- deeds
 
-cleared_there : (rows : List NodeRow) (node : ℕ) (replaced : Option ℕ) → IsSome (node_row rows node)
-    → option_map_or (λ top. is_under rows node top) replaced false ≡ false → IsSome (node_row (cleared rows replaced) node)
-cleared_there rows node None there apart = there
-cleared_there rows node (Some top) there apart = here (node_row rows node) refl there
-  where
-    here : (o : Option NodeRow) → node_row rows node ≡ o → IsSome o → IsSome (node_row (cleared rows (Some top)) node)
-    here None e there = absurd (cc there)
-    here (Some row) e there =
-        let id = eqb-true row.id node (found_passes (λ (row : NodeRow). row.id == node) rows row e) in
-        let kept = ap (λ (n : ℕ). not (is_under rows n top)) id ∙ ap not apart in
-        ap (λ (o : Option NodeRow). is_some o) (kept_there (λ (row : NodeRow). row.id == node) (λ (row : NodeRow). not (is_under rows row.id top)) rows row e kept)
-
-copies_bear : (t : Tables) (now : ℕ) (rows : List NodeRow) (replaced : Option ℕ) → AreSound t
-    → KnownCopies t now rows replaced → BearsCopies t rows replaced
-copies_bear t now rows replaced sound known =
-    let few = ap (λ (rows : List NodeRow). length rows) known.copies in
+copies_bear : (t : Tables) (now : ℕ) (copies : List NodeRow) → AreSound t → Joins t now copies → BearsCopies t copies
+copies_bear t now copies sound joins =
+    let top = joins.transfer.node in
     record {
+      some = λ none. omega (arith, ap (λ (rows : List NodeRow). length rows) none, joins.mirrors.all, (walk_first t.nodes top).1);
+      given = sound_given t sound;
       numbers = record {
-        numbered = subst (λ (rows : List NodeRow). AreNumbered t.meta.next_node rows) (sym known.copies) (copies_next t now known.transfer known.name);
-        next_node = omega (arith, few, copies_count t now known.transfer known.name, known.next_node);
+        numbered = λ k row is. (joins.mirrors.each k row is).id;
+        next_node = omega (arith, joins.mirrors.all, joins.next_node);
       };
-      leads = copies_lead t now rows replaced sound known;
+      leads = copies_lead t now copies sound joins;
     }
 
-pub known_bears : (t : Tables) (now : ℕ) (act : Allowed) → AreSound t → Known t now act → BearsAct t act
-known_bears t now (allowed.Get node content) sound known = tt
-known_bears t now (allowed.List listing) sound known = tt
-known_bears t now (allowed.Put by key length) sound known = tt
-known_bears t now (allowed.Change changes blob report) sound known = changes_bear t now changes blob sound known
-known_bears t now (allowed.Trash did gone report) sound known = trash_bears t now did gone sound known
-known_bears t now (allowed.Move transfer name) sound known = record {
-  there =
-      cleared_there t.nodes transfer.node transfer.replaced (ap (λ (o : Option NodeRow). is_some o) known.known.source.1) known.known.apart;
-  leads = sound_leads (transferred t transfer name) (transferred_sound t transfer name sound known);
+-- what is known of a deed can be borne by the tables in which it is done
+deed_bears : (t : Tables) (now : ℕ) (one : Deed) → AreSound t → t.meta.last ≡ now → Fit t now one → BearsDeed t one
+deed_bears t now (deed.Discard item) sound at (row, known, is) =
+    ap (λ (item : ItemRow). is_some (node_row t.nodes item.node)) is ∙ ap (λ (o : Option NodeRow). is_some o) known.there
+deed_bears t now (deed.Purge node) sound at goes = λ is. item_shares t node sound is
+deed_bears t now (deed.Restore node folder name) sound at (row, fits) =
+    let back = deed.Restore node folder name in
+    record {
+      there = ap (λ (o : Option NodeRow). is_some o) fits.there;
+      leads = sound_leads (deed_done t back) (fit_sound t now back sound at (row, fits));
+    }
+deed_bears t now (deed.Relink node folder name) sound at (row, fits) =
+    let move = deed.Relink node folder name in
+    record {
+      there = ap (λ (o : Option NodeRow). is_some o) fits.there;
+      leads = sound_leads (deed_done t move) (fit_sound t now move sound at (row, fits));
+    }
+deed_bears t now (deed.Join copies) sound at joins = copies_bear t now copies sound joins
+deed_bears t now (deed.Requote row) sound at known = record { was = known.old; there = known.there; same = known.same }
+
+deeds_bear : (t : Tables) (now : ℕ) (deeds : List Deed) → AreSound t → t.meta.last ≡ now → InTurn t now deeds → BearsDeeds t deeds
+deeds_bear t now [] sound at turn = tt
+deeds_bear t now (one ∷ deeds) sound at turn = (
+  deed_bears t now one sound at turn.0,
+  deeds_bear (deed_done t one) now deeds (fit_sound t now one sound at turn.0) (deed_moment t one ∙ at) turn.1,
+)
+
+-- whatever moment is stamped
+deed_unstamped : (t : Tables) (now : ℕ) (one : Deed) → BearsDeed (stamp t now) one → BearsDeed t one
+deed_unstamped t now (deed.Discard item) bears = bears
+deed_unstamped t now (deed.Purge node) bears = bears
+deed_unstamped t now (deed.Restore node folder name) bears = record { there = bears.there; leads = bears.leads }
+deed_unstamped t now (deed.Relink node folder name) bears = record { there = bears.there; leads = bears.leads }
+deed_unstamped t now (deed.Join copies) bears = record {
+  some = bears.some;
+  given = record { rising = bears.given.rising; given = bears.given.given };
+  numbers = record { numbered = bears.numbers.numbered; next_node = bears.numbers.next_node };
+  leads = bears.leads;
 }
-known_bears t now (allowed.Copy rows replaced) sound known = copies_bear t now rows replaced sound known
-known_bears t now (allowed.Cross rows replaced node) sound known = copies_bear t now rows replaced sound known.copies
-known_bears t now allowed.Close sound known = tt
+deed_unstamped t now (deed.Requote row) bears = bears
 
-copies_fit : (t : Tables) (now : ℕ) (rows : List NodeRow) (replaced : Option ℕ) → KnownCopies t now rows replaced
-    → length t.nodes + length rows ≤ MAX_NODES
-copies_fit t now rows replaced known =
-    let few = ap (λ (rows : List NodeRow). length rows) known.copies in
-    omega (arith, few, copies_count t now known.transfer known.name, known.nodes)
+deeds_unstamped : (t : Tables) (now : ℕ) (deeds : List Deed) → BearsDeeds (stamp t now) deeds → BearsDeeds t deeds
+deeds_unstamped t now [] bears = tt
+deeds_unstamped t now (one ∷ deeds) bears = (
+  deed_unstamped t now one bears.0,
+  deeds_unstamped (deed_done t one) now deeds (subst (λ (u : Tables). BearsDeeds u deeds) (deed_stamped t now one) bears.1),
+)
 
--- so there may be the nodes that it adds
+step_bears : (t : Tables) (now : ℕ) (deeds : List Deed) → AreSound t → t.meta.last ≤ now → KnownDeeds t now deeds → BearsStep t deeds
+step_bears t now deeds sound later known = record {
+  borne = deeds_unstamped t now deeds (deeds_bear (stamp t now) now deeds (stamp_sound t now sound later) refl (step_turn t now deeds sound later known));
+  tells = tells_step t now deeds sound later known;
+}
+
+pub known_bears : (t : Tables) (now : ℕ) (act : Allowed) → AreSound t → t.meta.last ≤ now → Known t now act → BearsAct t act
+known_bears t now (allowed.Get node content) sound later known = tt
+known_bears t now (allowed.List listing) sound later known = tt
+known_bears t now (allowed.Put by key length) sound later known = tt
+known_bears t now (allowed.Change changes blob report) sound later known = changes_bear t now changes blob sound known
+known_bears t now (allowed.Deeds deeds report) sound later known = step_bears t now deeds sound later known
+known_bears t now allowed.Close sound later known = tt
+
+-- ---- how many nodes deeds make
+
+purges_none : (nodes : List ℕ) → sum_by rows_joined (purges nodes) ≡ 0
+purges_none [] = refl
+purges_none (node ∷ nodes) = omega (arith, sum_by-cons rows_joined (deed.Purge node) (purges nodes), purges_none nodes)
+
+discards_none : (t : Tables) (now : ℕ) (node : Option ℕ) → sum_by rows_joined (discards t now node) ≡ 0
+discards_none t now node = here (row_at t node)
+  where
+    here : (o : Option NodeRow) → sum_by rows_joined (option_map_or (λ row. discard t now row ∷ []) o []) ≡ 0
+    here None = refl
+    here (Some row) =
+        cond_both (goes_itself t now row) (deed.Purge row.id) (deed.Discard (item_for now row))
+        (λ (one : Deed). sum_by rows_joined (one ∷ []) ≡ 0) (λ e. refl) (λ e. refl)
+
+besides_none : (t : Tables) (now : ℕ) (node : Option ℕ) → sum_by rows_joined (besides t now node) ≡ 0
+besides_none t now node = here (row_at t node)
+  where
+    here : (o : Option NodeRow) → sum_by rows_joined (option_map_or (beside t now) o []) ≡ 0
+    here None = refl
+    here (Some row) = purges_none (rest_of t now row)
+
+-- those of a deed behind what leaves its place
+put_joins : (t : Tables) (now : ℕ) (node : Option ℕ) (one : Deed) (more : List Deed)
+    → sum_by rows_joined (discards t now node ++ one ∷ more) ≡ rows_joined one + sum_by rows_joined more
+put_joins t now node one more =
+    omega (
+      arith,
+      sum_by-append rows_joined (discards t now node) (one ∷ more),
+      sum_by-cons rows_joined one more,
+      discards_none t now node,
+    )
+
+-- there are as many copies as nodes that are copied
+many_copies : (t : Tables) (now : ℕ) (transfer : Transfer) (name : List ℕ) → AreSound t → KnownCopies t transfer name
+    → length t.nodes + length (copies_to t now transfer name) ≤ MAX_NODES
+many_copies t now transfer name sound known = omega (arith, (mirrored t now transfer name sound known.known.source).all, known.nodes)
+
+step_few : (t : Tables) (now : ℕ) (deeds : List Deed) → AreSound t → KnownDeeds t now deeds → length t.nodes + sum_by rows_joined deeds ≤ MAX_NODES
+step_few t now deeds sound (by_going nodes goes) = omega (arith, sound.few_nodes, purges_none nodes)
+step_few t now deeds sound (by_leaving row known) =
+    let one = discard t now row in
+    let none : rows_joined one ≡ 0 =
+    cond_both (goes_itself t now row) (deed.Purge row.id) (deed.Discard (item_for now row)) (λ (one : Deed). rows_joined one ≡ 0) (λ e. refl) (λ e. refl) in
+    omega (arith, sound.few_nodes, none, sum_by-cons rows_joined one (beside t now row), purges_none (rest_of t now row))
+step_few t now deeds sound (by_restoring node folder name gone known goes others) =
+    omega (arith, sound.few_nodes, sum_by-cons rows_joined (deed.Restore node folder name) (purges gone), purges_none gone)
+step_few t now deeds sound (by_requoting row gone known goes) =
+    omega (arith, sound.few_nodes, sum_by-cons rows_joined (deed.Requote row) (purges gone), purges_none gone)
+step_few t now deeds sound (by_moving transfer name known) =
+    omega (
+      arith,
+      sound.few_nodes,
+      put_joins t now transfer.replaced (deed.Relink transfer.node transfer.folder name) (besides t now transfer.replaced),
+      besides_none t now transfer.replaced,
+    )
+step_few t now deeds sound (by_copying transfer name known) =
+    omega (
+      arith,
+      many_copies t now transfer name sound known,
+      put_joins t now transfer.replaced (deed.Join (copies_to t now transfer name)) (besides t now transfer.replaced),
+      besides_none t now transfer.replaced,
+    )
+step_few t now deeds sound (by_crossing transfer name known) =
+    let from = Some transfer.node in
+    let beside_both = besides t now transfer.replaced ++ besides t now from in
+    omega (
+      arith,
+      many_copies t now transfer name sound known.copies,
+      put_joins t now transfer.replaced (deed.Join (copies_to t now transfer name)) (discards t now from ++ beside_both),
+      sum_by-append rows_joined (discards t now from) beside_both,
+      sum_by-append rows_joined (besides t now transfer.replaced) (besides t now from),
+      discards_none t now from,
+      besides_none t now transfer.replaced,
+      besides_none t now from,
+    )
+
+-- so there may be the nodes that an act adds
 pub known_few : (t : Tables) (now : ℕ) (act : Allowed) → AreSound t → Known t now act → length t.nodes + (added_by t act).nodes ≤ MAX_NODES
 known_few t now (allowed.Get node content) sound known = omega (arith, sound.few_nodes)
 known_few t now (allowed.List listing) sound known = omega (arith, sound.few_nodes)
 known_few t now (allowed.Put by key length) sound known = omega (arith, sound.few_nodes)
 known_few t now (allowed.Change changes blob report) sound known =
     rows_few t blob (raised t now changes blob) changes sound.rising sound.few_nodes known.rows
-known_few t now (allowed.Trash did gone report) sound known = omega (arith, sound.few_nodes, deed_nodes did)
-known_few t now (allowed.Move transfer name) sound known = omega (arith, sound.few_nodes)
-known_few t now (allowed.Copy rows replaced) sound known = copies_fit t now rows replaced known
-known_few t now (allowed.Cross rows replaced node) sound known = copies_fit t now rows replaced known.copies
+known_few t now (allowed.Deeds deeds report) sound known = omega (arith, step_few t now deeds sound known)
 known_few t now allowed.Close sound known = omega (arith, sound.few_nodes)

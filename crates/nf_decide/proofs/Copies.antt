@@ -1,14 +1,11 @@
 -- Copies of a node and of what is under it, made one after the other.
-use Rattle.std.proofs.Common.{ℕ, zero, suc, ◌+◌, ◌<◌, ◌≤◌, ◌≡◌, List, [], ◌∷◌, ◌++◌, length, take, get_or, slice_get, Option, None, Some, refl, sym, ap, ◌∙◌, arith, append_assoc}
+use Rattle.std.proofs.Common.{ℕ, zero, suc, ◌+◌, ◌<◌, ◌≤◌, ◌≡◌, List, [], ◌∷◌, ◌++◌, length, take, get_or, Option, None, Some, refl, sym, ap, ◌∙◌, arith, append_assoc}
 use Rattle.std.specs.List.{flat_map}
 use Rattle.std.specs.Option.{option_map_or}
 use Rattle.std.proofs.lemmas.List.{append-nil, length-append}
-use Rattle.std.proofs.lemmas.Option.{same_Some}
-use Rattle.nf_base.specs.declared.limits.TheConstants.{MAX_DEPTH}
 use Rattle.nf_base.specs.declared.rows.NodeRow.{NodeRow}
-use Rattle.nf_defs.specs.Prelude.{children_of, node_row, owner_of, Tables, walk_of, walk_within}
-use Rattle.nf_words.specs.Copies.{copied_row, copies_of_all, copies_to, copies_within, renamed}
-use Rattle.nf_words.specs.declared.request.Transfer.{Transfer}
+use Rattle.nf_defs.specs.Prelude.{children_of, node_row, walk_within}
+use Rattle.nf_words.specs.Copies.{copied_row, copies_of_all, copies_within}
 
 -- what isn't there has no copy
 pub copies_nowhere : (k : ℕ) (rows : List NodeRow) (owner now first folder node : ℕ) → node_row rows node ≡ None
@@ -92,73 +89,4 @@ copies_leave k rows owner now first folder (node ∷ nodes) (suc i) d within =
       length-append (walk_within k rows node) (flat_map (walk_within k rows) nodes),
       copies_few k rows owner now first folder node,
       copies_leave k rows owner now (first + length made) folder nodes i d (omega arith),
-    )
-
--- ---- the numbers of copies
-
--- they rise by one, from the first on
-abbrev pub AreNumbered : ℕ → List NodeRow → Type 0
-AreNumbered first rows = (i : ℕ) (row : NodeRow) → slice_get rows i ≡ Some row → row.id ≡ first + i
-
-numbered_both : (first : ℕ) (made rest : List NodeRow) → AreNumbered first made → AreNumbered (first + length made) rest → AreNumbered first (made ++ rest)
-numbered_both first [] rest left right i row is = omega (arith, right i row is)
-numbered_both first (copy ∷ made) rest left right zero row is = left 0 row is
-numbered_both first (copy ∷ made) rest left right (suc i) row is =
-    omega (
-      arith,
-      numbered_both (first + 1) made rest (λ j row is. omega (arith, left (suc j) row is))
-          (λ j row is. omega (arith, right j row is)) i row is,
-    )
-
-all_numbered : (copies : ℕ → ℕ → ℕ → List NodeRow) (first folder : ℕ) (nodes : List ℕ)
-    → ((first folder node : ℕ) → AreNumbered first (copies first folder node)) → AreNumbered first (copies_of_all copies first folder nodes)
-all_numbered copies first folder [] each = λ (i : ℕ) (row : NodeRow) is. absurd (cc)
-all_numbered copies first folder (node ∷ nodes) each =
-    let made = copies first folder node in
-    numbered_both first made (copies_of_all copies (first + length made) folder nodes) (each first folder node)
-    (all_numbered copies (first + length made) folder nodes each)
-
-copies_numbered : (k : ℕ) (rows : List NodeRow) (owner now first folder node : ℕ) → AreNumbered first (copies_within k rows owner now first folder node)
-unfolding copies_within
-copies_numbered zero rows owner now first folder node = here (node_row rows node)
-  where
-    here : (o : Option NodeRow) → AreNumbered first (option_map_or (λ row. copied_row owner now first folder row ∷ []) o [])
-    here None i row is = absurd (cc)
-    here (Some copied) zero row is = let e = ap (λ (r : NodeRow). r.id) (same_Some _ row is) in omega (arith, e)
-    here (Some copied) (suc i) row is = absurd (cc)
-copies_numbered (suc k) rows owner now first folder node =
-    here (node_row rows node) (all_numbered (copies_within k rows owner now) (first + 1) first (children_of rows node)
-    (λ first folder node. copies_numbered k rows owner now first folder node))
-  where
-    here : (o : Option NodeRow) → AreNumbered (first + 1) (copies_of_all (copies_within k rows owner now) (first + 1) first (children_of rows node))
-        → AreNumbered first (option_map_or (λ row. copied_row owner now first folder row ∷ copies_of_all (copies_within k rows owner now) (first + 1) first (children_of rows node)) o [])
-    here None rest i row is = absurd (cc)
-    here (Some copied) rest zero row is = let e = ap (λ (r : NodeRow). r.id) (same_Some _ row is) in omega (arith, e)
-    here (Some copied) rest (suc i) row is = omega (arith, rest i row is)
-
-renamed_numbered : (first : ℕ) (name : List ℕ) (rows : List NodeRow) → AreNumbered first rows → AreNumbered first (renamed name rows)
-renamed_numbered first name [] numbered i row is = absurd (cc)
-renamed_numbered first name (copy ∷ rows) numbered zero row is =
-    let e = ap (λ (r : NodeRow). r.id) (same_Some _ row is) in omega (arith, e, numbered 0 copy refl)
-renamed_numbered first name (copy ∷ rows) numbered (suc i) row is = numbered (suc i) row is
-
-renamed_many : (name : List ℕ) (rows : List NodeRow) → length (renamed name rows) ≡ length rows
-renamed_many name [] = refl
-renamed_many name (copy ∷ rows) = refl
-
--- the copies have the next numbers, and are no more than the nodes that are copied
-pub copies_next : (t : Tables) (now : ℕ) (transfer : Transfer) (name : List ℕ) → AreNumbered t.meta.next_node (copies_to t now transfer name)
-copies_next t now transfer name =
-    renamed_numbered t.meta.next_node name _
-    (copies_numbered MAX_DEPTH t.nodes (owner_of t.nodes transfer.folder) now t.meta.next_node transfer.folder transfer.node)
-
-pub copies_count : (t : Tables) (now : ℕ) (transfer : Transfer) (name : List ℕ)
-    → length (copies_to t now transfer name) ≤ length (walk_of t.nodes transfer.node)
-unfolding walk_of
-copies_count t now transfer name =
-    let copies = copies_within MAX_DEPTH t.nodes (owner_of t.nodes transfer.folder) now t.meta.next_node transfer.folder transfer.node in
-    omega (
-      arith,
-      renamed_many name copies,
-      copies_few MAX_DEPTH t.nodes (owner_of t.nodes transfer.folder) now t.meta.next_node transfer.folder transfer.node,
     )

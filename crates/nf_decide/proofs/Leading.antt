@@ -16,10 +16,8 @@ use Rattle.nf_defs.specs.Prelude.{climb, depth, filled, folder_of, made, node_ro
 use Rattle.nf_laws.proofs.Added.{new_there}
 use Rattle.nf_laws.proofs.Climbs.{depth_is, node_row_each, parent_at}
 use Rattle.nf_laws.proofs.Copied.{copy_at, copy_in, walk_first}
-use Rattle.nf_laws.proofs.Gone.{cleared_all, clearing_sound, folder_stays, row_cleared}
+use Rattle.nf_laws.proofs.InTurn.{Joins}
 use Rattle.nf_laws.proofs.Lists.{born_made, filled_made, Rising}
-use Rattle.nf_laws.proofs.Mirrored.{mirrored}
-use Rattle.nf_laws.proofs.Moved.{depth_cleared}
 use Rattle.nf_laws.proofs.OneRow.{with_all}
 use Rattle.nf_laws.proofs.Peopled.{people_nodes}
 use Rattle.nf_laws.proofs.Replaced.{kept_replaced}
@@ -28,8 +26,8 @@ use Rattle.nf_laws.proofs.Upwards.{climbs_depth, deepest_among}
 use Rattle.nf_laws.proofs.Walked.{AllPairs-append}
 use Rattle.nf_laws.specs.Transfers.{IsCopyOf, Mirrors}
 use Rattle.nf_words.proofs.Fits.{KnownRow}
-use Rattle.nf_words.proofs.Known.{KnownCopies, KnownTransfer}
-use Rattle.nf_words.specs.Prelude.{AreSound, cleared, IsBorn, IsNewUser, IsTop}
+use Rattle.nf_words.proofs.Known.{KnownTransfer}
+use Rattle.nf_words.specs.Prelude.{AreSound, IsBorn, IsNewUser, IsTop}
 use Rattle.nf_words.specs.declared.request.Transfer.{Transfer}
 use Rattle.nf_decide.specs.Current.{LeadUpBehind}
 
@@ -144,20 +142,14 @@ leads_row t u blob change rising leads known = subst LeadUp (sym (people_nodes u
 
 -- ---- copies
 
--- the first copies behind what is left
+-- the first copies behind those that are there
 module _ (t : Tables) (now : ℕ) (transfer : Transfer) (name : List ℕ) (copies : List NodeRow) (mirrors : Mirrors t now transfer name copies)
     (sound : AreSound t) (known : KnownTransfer t transfer name) (count : ℕ) where
-  abbrev left : Tables
-  left = cleared_all t transfer.replaced
-
   abbrev front : List NodeRow
   front = take count copies
 
   abbrev all : List NodeRow
-  all = left.nodes ++ front
-
-  left_fine : AreSound left
-  left_fine = clearing_sound t transfer name sound known
+  all = t.nodes ++ front
 
   front_at : (k : ℕ) (d : NodeRow) → k < length front → (k < length copies) × (get_or front k d ≡ get_or copies k d)
   front_at k d within = let long = length-take count copies in (omega (arith, long), get_or-take count copies k d (omega (arith, long)))
@@ -170,25 +162,23 @@ module _ (t : Tables) (now : ℕ) (transfer : Transfer) (name : List ℕ) (copie
 
   all_rise : Rising all
   all_rise =
-      AllPairs-append (λ (a b : NodeRow). a.id < b.id) left.nodes front left_fine.rising
+      AllPairs-append (λ (a b : NodeRow). a.id < b.id) t.nodes front sound.rising
       (λ i j d before within. omega (arith, front_id i d (omega arith), front_id j d within))
-      (λ i d within k e also. omega (arith, (left_fine.nodes i d within).given, front_id k e also))
+      (λ i d within k e also. omega (arith, (sound.nodes i d within).given, front_id k e also))
 
   copy_there : (k : ℕ) (d : NodeRow) → k < length front → node_row all (t.meta.next_node + k) ≡ Some (get_or copies k d)
   copy_there k d within =
-      let same = get_or-append-add left.nodes front k d ∙ (front_at k d within).1 in
-      let there = node_row_each all all_rise (length left.nodes + k) d (omega (arith, length-append left.nodes front)) in
+      let same = get_or-append-add t.nodes front k d ∙ (front_at k d within).1 in
+      let there = node_row_each all all_rise (length t.nodes + k) d (omega (arith, length-append t.nodes front)) in
       ap (node_row all) (sym (copy k d within).id) ∙ subst (λ (row : NodeRow). node_row all row.id ≡ Some row) same there
 
   -- the folder of all leads up as before
   folder_leads : LeadsUp all (depth t.nodes transfer.folder) transfer.folder
   folder_leads =
       let folder = folder_there t.nodes transfer.folder known.in_folder in
-      let there = row_cleared t.nodes transfer.replaced transfer.folder (folder_stays t transfer.replaced transfer.folder name sound known.there) ∙ folder.1 in
-      let over = climbs_depth left transfer.folder folder.0 left_fine there in
-      let deep = depth_cleared t transfer.replaced transfer.folder folder.0 sound left_fine there in
-      leads_kept left.nodes all (depth t.nodes transfer.folder) transfer.folder (kept_joined left.nodes front)
-      (leads_to left.nodes (depth t.nodes transfer.folder) transfer.folder (depth left.nodes transfer.folder) over.0 (omega (arith, deep)) over.1 over.2)
+      let over = climbs_depth t transfer.folder folder.0 sound folder.1 in
+      leads_kept t.nodes all (depth t.nodes transfer.folder) transfer.folder (kept_joined t.nodes front)
+      (leads_to t.nodes (depth t.nodes transfer.folder) transfer.folder (depth t.nodes transfer.folder) over.0 (omega arith) over.1 over.2)
 
   -- how deep the node of the k-th copy is
   abbrev deep_at : ℕ → ℕ
@@ -230,10 +220,7 @@ module _ (t : Tables) (now : ℕ) (transfer : Transfer) (name : List ℕ) (copie
       subst (LeadsUp all MAX_DEPTH) (sym (front_id k d within)) (leads_more all c.0 MAX_DEPTH (t.meta.next_node + k) few c.2)
 
   front_all : LeadUp all
-  front_all = All-append (LeadsHere all) left.nodes front (leads_before left.nodes front (sound_leads left left_fine)) front_leads
+  front_all = All-append (LeadsHere all) t.nodes front (leads_before t.nodes front (sound_leads t sound)) front_leads
 
-pub copies_lead : (t : Tables) (now : ℕ) (copies : List NodeRow) (replaced : Option ℕ) → AreSound t → KnownCopies t now copies replaced
-    → LeadUpBehind (cleared t.nodes replaced) copies
-copies_lead t now copies replaced sound known =
-    subst (λ (o : Option ℕ). LeadUpBehind (cleared t.nodes o) copies) (sym known.replaced_is)
-    (λ count. front_all t now known.transfer known.name copies (mirrored t now copies replaced sound known) sound known.known count)
+pub copies_lead : (t : Tables) (now : ℕ) (copies : List NodeRow) → AreSound t → Joins t now copies → LeadUpBehind t.nodes copies
+copies_lead t now copies sound joins count = front_all t now joins.transfer joins.name copies joins.mirrors sound joins.known count

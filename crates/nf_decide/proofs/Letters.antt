@@ -1,5 +1,5 @@
 -- The token of a link is a name: sixteen letters and digits.
-use Rattle.std.proofs.Common.{◌≡◌, ◌≢◌, ◌<◌, ◌≤◌, ◌+◌, ◌/◌, ◌%◌, ℕ, zero, suc, Bool, true, false, ltb, List, [], ◌∷◌, length, refl, ap, ◌∙◌, if◌then◌else◌, get_or, inl, inr, arith}
+use Rattle.std.proofs.Common.{◌≡◌, ◌≢◌, ◌<◌, ◌≤◌, ◌+◌, ◌/◌, ◌%◌, ℕ, zero, suc, Bool, true, false, ltb, List, [], ◌∷◌, length, refl, ap, if◌then◌else◌, inl, inr, arith}
 use Rattle.std.proofs.Math.Nat.{div-div-eq-div-mul}
 use Rattle.std.specs.List.{All}
 use Rattle.std.specs.Prelude.{codes}

@@ -1,6 +1,7 @@
 pub mod Askers
 pub mod Bears
 pub mod Copies
+pub mod Deeds
 pub mod Faults
 pub mod ItemLines
 pub mod Joining
@@ -12,9 +13,13 @@ pub mod Named
 pub mod Numbers
 pub mod Offered
 pub mod Openings
+pub mod Owners
 pub mod Putting
 pub mod Returning
 pub mod Sizes
 pub mod Stamps
+pub mod Tells
+pub mod ToldFirst
 pub mod ToldGone
-pub mod Trashing
+pub mod Runs
+pub mod ByOwner

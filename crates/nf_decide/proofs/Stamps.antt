@@ -1,52 +1,49 @@
--- Acts that change some row.
-use Rattle.std.proofs.Common.{ℕ, ◌≡◌, ◌≢◌, ◌-◌, List, [], ◌∷◌, ◌++◌, map, Option, None, Some, IsSome, refl, ◌∙◌}
+-- Steps that change some row.
+use Rattle.std.proofs.Common.{ℕ, ◌≡◌, ◌≢◌, ◌-◌, List, [], ◌∷◌, ◌++◌, Option, None, Some, IsSome, refl}
 use Rattle.nf_base.specs.declared.limits.TheConstants.{MAX_DEPTH}
 use Rattle.nf_base.specs.declared.changes.Change.{Change}
-use Rattle.nf_base.specs.declared.changes.Change.TheVariants as change
+use Rattle.nf_base.specs.declared.changes.Change.TheVariants.{Put}
 use Rattle.nf_base.specs.declared.rows.NodeRow.{NodeRow}
-use Rattle.nf_base.specs.declared.rows.Row.TheVariants as kinds
-use Rattle.nf_base.specs.declared.rows.ShareRow.{ShareRow}
-use Rattle.std.proofs.lemmas.List.{append-nil}
-use Rattle.nf_defs.specs.Prelude.{children_of, node_row, Tables, walk_of, walk_within}
+use Rattle.nf_base.specs.declared.rows.Row.TheVariants as rows
+use Rattle.nf_defs.specs.Prelude.{children_of, node_row, relinked, Tables, walk_of, walk_within}
+use Rattle.nf_defs.specs.Tree.{trashed}
 use Rattle.std.specs.List.{flat_map}
 use Rattle.nf_tree.proofs.Walks.{walk_down}
-use Rattle.nf_words.specs.Changes.{stamped, transferred_row}
-use Rattle.nf_words.specs.Deeds.{cleared, gone_for, gone_under}
-use Rattle.nf_words.specs.declared.request.Transfer.{Transfer}
+use Rattle.nf_words.specs.Prelude.{closed_under, deed_done, stamped, told_deed, told_deeds, told_node}
+use Rattle.nf_words.specs.declared.answer.Deed.{Deed}
+use Rattle.nf_words.specs.declared.answer.Deed.TheVariants as deed
+use Rattle.nf_decide.specs.Current.{BearsDeed, BearsDeeds}
 
 pub stamped_some : (before after : Tables) (now : ℕ) (changes : List Change) → changes ≢ []
     → stamped before after now changes ≡ record after { meta = record after.meta { last = now } }
 stamped_some before after now [] some = absurd (some refl)
 stamped_some before after now (change ∷ changes) some = refl
 
--- a walk has its top, so a removal drops a node
+-- a walk has its top, so that what goes for good drops a node
 walk_top : (rows : List NodeRow) (top : ℕ) → walk_of rows top ≡ top ∷ flat_map (walk_within (MAX_DEPTH - 1) rows) (children_of rows top)
 unfolding walk_of
 walk_top rows top = walk_down (MAX_DEPTH - 1) MAX_DEPTH rows top refl
 
-pub gone_some : (nodes : List NodeRow) (shares : List ShareRow) (top : ℕ) (more : List Change) → gone_under nodes shares top ++ more ≢ []
-gone_some nodes shares top more none = let h = rw (walk_top nodes top) at none in absurd (cc)
+-- a row that is there becomes another
+node_some : (o : Option NodeRow) (change : NodeRow → NodeRow) (more : List Change) → IsSome o → told_node o change ++ more ≢ []
+node_some None change more there none = absurd (cc there)
+node_some (Some row) change more there none = absurd (cc)
 
--- what is put where nothing has to go, or where something has
-pub put_some : (nodes : List NodeRow) (shares : List ShareRow) (rows : List NodeRow) (replaced : Option ℕ) → (rows ≡ [] → replaced ≡ None → ⊥)
-    → gone_for nodes shares replaced ++ map (λ row. change.Put (kinds.Node row)) rows ≢ []
-put_some nodes shares [] None some none = some refl refl
-put_some nodes shares (row ∷ rows) None some none = absurd (cc)
-put_some nodes shares rows (Some top) some none = gone_some nodes shares top (map (λ row. change.Put (kinds.Node row)) rows) none
-
--- so does a move of what is there
-pub transferred_some : (nodes : List NodeRow) (shares : List ShareRow) (transfer : Transfer) (name : List ℕ) (replaced : Option ℕ)
-    → IsSome (node_row (cleared nodes replaced) transfer.node)
-    → gone_for nodes shares replaced ++ transferred_row (node_row nodes transfer.node) transfer name ≢ []
-transferred_some nodes shares transfer name None there none = here (node_row nodes transfer.node) there none
+-- a deed that can be borne changes a row
+deed_some : (t : Tables) (one : Deed) (more : List Change) → BearsDeed t one → told_deed t one ++ more ≢ []
+deed_some t (deed.Discard item) more borne none = here (node_row t.nodes item.node) none
   where
-    here : (row : Option NodeRow) → IsSome row → transferred_row row transfer name ≡ [] → ⊥
-    here None there none = absurd (cc there)
-    here (Some row) there none = absurd (cc)
-transferred_some nodes shares transfer name (Some top) there none =
-    gone_some nodes shares top (transferred_row (node_row nodes transfer.node) transfer name) none
+    here : (o : Option NodeRow) → (told_node o trashed ++ Put (rows.Item item) ∷ closed_under t.nodes t.shares item.node) ++ more ≢ []
+    here None none = absurd (cc)
+    here (Some row) none = absurd (cc)
+deed_some t (deed.Purge node) more borne none = let h = rw (walk_top t.nodes node) at none in absurd (cc)
+deed_some t (deed.Restore node folder name) more borne none = absurd (cc)
+deed_some t (deed.Relink node folder name) more borne none = node_some (node_row t.nodes node) (relinked folder name) more borne.there none
+deed_some t (deed.Join []) more borne none = borne.some refl
+deed_some t (deed.Join (row ∷ rows)) more borne none = absurd (cc)
+deed_some t (deed.Requote row) more borne none = absurd (cc)
 
--- and one to another owner
-pub crossed_some : (front : List Change) (nodes : List NodeRow) (shares : List ShareRow) (top : ℕ) → front ++ gone_under nodes shares top ≢ []
-crossed_some [] nodes shares top none = gone_some nodes shares top [] (append-nil _ ∙ none)
-crossed_some (change ∷ front) nodes shares top none = absurd (cc)
+-- so some deeds do
+pub deeds_some : (t : Tables) (deeds : List Deed) → BearsDeeds t deeds → deeds ≢ [] → told_deeds t deeds ≢ []
+deeds_some t [] borne some none = some refl
+deeds_some t (one ∷ deeds) borne some none = deed_some t one (told_deeds (deed_done t one) deeds) borne.0 none

@@ -1,5 +1,5 @@
 -- The state of the site as the program holds it.
-use Rattle.std.specs.Prelude.{◌≡◌, ◌⊎◌, ℕ, ◌+◌, ◌<◌, ◌≤◌, ◌==◌, nat_lt, All, AllPairs, Bool, true, false, not, List, [], ◌∷◌, ◌++◌, count_by, length, max, slice_get, take, Option, None, Some, IsSome}
+use Rattle.std.specs.Prelude.{◌≡◌, ◌≢◌, ◌⊎◌, ℕ, ◌+◌, ◌<◌, ◌≤◌, nat_lt, All, AllPairs, Bool, true, false, not, List, [], ◌∷◌, ◌++◌, count_by, length, max, min, slice_get, sum_by, take, Option, None, Some, IsSome}
 use Rattle.nf_access.specs.Shares.{share_row}
 use Rattle.nf_base.specs.declared.changes.Change.{Change}
 use Rattle.nf_base.specs.declared.changes.Change.TheVariants.{Put, Drop}
@@ -13,15 +13,14 @@ use Rattle.nf_base.specs.declared.rows.NodeRow.{NodeRow}
 use Rattle.nf_base.specs.declared.rows.ShareRow.{ShareRow}
 use Rattle.nf_base.specs.declared.rows.UserRow.{UserRow}
 use Rattle.nf_charge.specs.Sums.{LeadUp}
-use Rattle.nf_defs.specs.Prelude.{filled, group_named, is_folder_kind, made, node_row, relinked, Tables, user_named, user_row, with_node}
-use Rattle.nf_words.specs.Prelude.{blob_after, cleared, goal_of, IsNewMember, IsNewToken, last_number, last_short, State}
+use Rattle.nf_defs.specs.Prelude.{filled, group_named, is_folder_kind, item_row, made, node_row, relinked, Tables, user_named, user_row, with_node}
+use Rattle.nf_words.specs.Prelude.{blob_after, deed_done, goal_of, is_closing, IsNewMember, IsNewToken, last_number, last_short, State}
 use Rattle.nf_words.specs.declared.answer.Allowed.{Allowed}
 use Rattle.nf_words.specs.declared.answer.Allowed.TheVariants as allowed
 use Rattle.nf_words.specs.declared.answer.Deed.{Deed}
 use Rattle.nf_words.specs.declared.answer.Deed.TheVariants as deed
-use Rattle.nf_words.specs.declared.request.Transfer.{Transfer}
 use Rattle.nf_decide.specs.Counts.{FitsRows, only_nodes}
-use Rattle.nf_decide.specs.Gone.{TellsTrash}
+use Rattle.nf_decide.specs.Gone.{TellsDeeds}
 use Rattle.nf_decide.specs.declared.counts.RowCounts.{RowCounts}
 use Rattle.nf_decide.specs.declared.telling.Counted.{Counted}
 use Rattle.nf_decide.specs.declared.telling.Counted.TheVariants as counted
@@ -101,12 +100,33 @@ added_of next changes = record {
   items = count_by puts_item changes;
 }
 
--- how many rows a deed adds at most: an item, or a user
+-- how many rows a deed adds at most: an item, copies, or a user
+abbrev pub discards : Deed → Bool
+discards (deed.Discard item) = true
+discards other = false
+
+abbrev pub requotes : Deed → Bool
+requotes (deed.Requote row) = true
+requotes other = false
+
+abbrev pub rows_joined : Deed → ℕ
+rows_joined (deed.Join rows) = length rows
+rows_joined other = 0
+
 abbrev pub added_deed : Deed → RowCounts
-added_deed deed.Nothing = only_nodes 0
 added_deed (deed.Discard item) = record (only_nodes 0) { items = 1 }
+added_deed (deed.Purge node) = only_nodes 0
 added_deed (deed.Restore node folder name) = only_nodes 0
+added_deed (deed.Relink node folder name) = only_nodes 0
+added_deed (deed.Join rows) = only_nodes (length rows)
 added_deed (deed.Requote row) = record (only_nodes 0) { users = 1 }
+
+-- and some deeds; a machine counts no further
+abbrev pub nodes_joined : List Deed → ℕ
+nodes_joined deeds = min (sum_by rows_joined deeds) last_number
+
+abbrev pub added_deeds : List Deed → RowCounts
+added_deeds deeds = record (only_nodes (nodes_joined deeds)) { users = count_by requotes deeds; items = count_by discards deeds }
 
 -- how many rows an act adds at most
 abbrev pub added_by : Tables → Allowed → RowCounts
@@ -114,10 +134,7 @@ added_by t (allowed.Get node content) = only_nodes 0
 added_by t (allowed.List listing) = only_nodes 0
 added_by t (allowed.Put by key length) = only_nodes 0
 added_by t (allowed.Change changes blob report) = added_of t.meta.next_node changes
-added_by t (allowed.Trash did gone report) = added_deed did
-added_by t (allowed.Move transfer name) = only_nodes 0
-added_by t (allowed.Copy rows replaced) = only_nodes (length rows)
-added_by t (allowed.Cross rows replaced node) = only_nodes (length rows)
+added_by t (allowed.Deeds deeds report) = added_deeds deeds
 added_by t allowed.Close = only_nodes 0
 
 -- what an act adds fits
@@ -207,41 +224,44 @@ pub record BearsChanges (t : Tables) (changes : List Change) (blob : Option ℕ)
   pub numbers : All (IsCounted t.meta) changes
   pub next_blob : blob_after t.meta.next_blob blob ≤ max t.meta.next_blob last_number
 
--- what is moved is there, also without what has to go; and where it comes to each node leads up
-pub record BearsMove (t : Tables) (transfer : Transfer) (name : List ℕ) : Type 0 where
-  pub there : IsSome (node_row (cleared t.nodes transfer.replaced) transfer.node)
-  pub leads : LeadUp (with_node (cleared t.nodes transfer.replaced) transfer.node (relinked transfer.folder name))
+-- what is put in a folder is there, and where it comes to each node leads up
+pub record BearsPlace (t : Tables) (node folder : ℕ) (name : List ℕ) : Type 0 where
+  pub there : IsSome (node_row t.nodes node)
+  pub leads : LeadUp (with_node t.nodes node (relinked folder name))
 
 -- with each new node behind those before it, each leads up
 abbrev pub LeadUpBehind : List NodeRow → List NodeRow → Type 0
 LeadUpBehind old rows = (count : ℕ) → LeadUp (old ++ take count rows)
 
--- and they have the next numbers
-pub record BearsCopies (t : Tables) (rows : List NodeRow) (replaced : Option ℕ) : Type 0 where
+-- there are some, and they have the next numbers
+pub record BearsCopies (t : Tables) (rows : List NodeRow) : Type 0 where
+  pub some : rows ≢ []
+  pub given : AreGiven t
   pub numbers : HasNumbers t rows
-  pub leads : LeadUpBehind (cleared t.nodes replaced) rows
+  pub leads : LeadUpBehind t.nodes rows
 
--- what comes back is there, and where it comes to each node leads up
-pub record BearsRestore (t : Tables) (node folder : ℕ) (name : List ℕ) : Type 0 where
-  pub there : IsSome (node_row t.nodes node)
-  pub leads : LeadUp (with_node t.nodes node (relinked folder name))
+-- of an item of the trash no share is left to end
+abbrev pub IsClosed : Tables → ℕ → Type 0
+IsClosed t node = All (λ (share : ShareRow). is_closing t.nodes node share ≡ false) t.shares
 
--- so is what is put in the trash; and who has another quota is there
+-- what is put in the trash is there, and so is who has another quota
 abbrev pub BearsDeed : Tables → Deed → Type 0
-BearsDeed t deed.Nothing = Unit {0}
 BearsDeed t (deed.Discard item) = IsSome (node_row t.nodes item.node)
-BearsDeed t (deed.Restore node folder name) = BearsRestore t node folder name
+BearsDeed t (deed.Purge node) = IsSome (item_row t.items node) → IsClosed t node
+BearsDeed t (deed.Restore node folder name) = BearsPlace t node folder name
+BearsDeed t (deed.Relink node folder name) = BearsPlace t node folder name
+BearsDeed t (deed.Join rows) = BearsCopies t rows
 BearsDeed t (deed.Requote row) = IsRequoted t.users row
 
--- a deed can be borne, and what goes for good is told of the tables before
-pub record BearsTrash (t : Tables) (did : Deed) (gone : List ℕ) : Type 0 where
-  pub borne : BearsDeed t did
-  pub tells : TellsTrash t did gone
+-- each deed can be borne by the tables after those before it
+abbrev pub BearsDeeds : Tables → List Deed → Type 0
+BearsDeeds t [] = Unit {0}
+BearsDeeds t (deed ∷ deeds) = BearsDeed t deed × BearsDeeds (deed_done t deed) deeds
 
--- nothing is done, and nothing goes
-abbrev pub does_nothing : Deed → List ℕ → Bool
-does_nothing deed.Nothing gone = length gone == 0
-does_nothing did gone = false
+-- and what becomes of the rows is told of the tables before all
+pub record BearsStep (t : Tables) (deeds : List Deed) : Type 0 where
+  pub borne : BearsDeeds t deeds
+  pub tells : TellsDeeds t deeds
 
 -- the tables can bear an act
 abbrev pub BearsAct : Tables → Allowed → Type 0
@@ -249,8 +269,5 @@ BearsAct t (allowed.Get node content) = Unit {0}
 BearsAct t (allowed.List listing) = Unit {0}
 BearsAct t (allowed.Put by key length) = Unit {0}
 BearsAct t (allowed.Change changes blob report) = BearsChanges t changes blob
-BearsAct t (allowed.Trash did gone report) = BearsTrash t did gone
-BearsAct t (allowed.Move transfer name) = BearsMove t transfer name
-BearsAct t (allowed.Copy rows replaced) = BearsCopies t rows replaced
-BearsAct t (allowed.Cross rows replaced node) = BearsCopies t rows replaced
+BearsAct t (allowed.Deeds deeds report) = BearsStep t deeds
 BearsAct t allowed.Close = Unit {0}

@@ -6,10 +6,11 @@ ghost use Rattle.nf_base.specs.declared.rows.Row.TheVariants as kinds;
 ghost use Rattle.nf_base.specs.Kept.{IsPlain};
 ghost use Rattle.nf_defs.specs.Prelude.{node_row};
 ghost use Rattle.nf_defs.specs.declared.Found.TheVariants.{Free};
-ghost use Rattle.nf_words.specs.Prelude.{AreSound, carried, carry_limit, copied, copy_limit, deleted, last_name, made_folder, makes, moved, new_node, stored};
+ghost use Rattle.nf_words.specs.Prelude.{AreSound, carries, carry_limit, copied, copies, copy_limit, crossing, deleted, last_name, made_folder, made_or_done, makes, moved, moves, new_node, stored};
 
 use crate::copying::copies_to;
-use crate::discarding::discard;
+use crate::discarding::done;
+use crate::leaving::leaves;
 use crate::nodes::owner_of;
 use crate::shared::nothing_done;
 use crate::transferring::crosses;
@@ -18,7 +19,7 @@ use nf_base::{
     BlobId, Change, Changes, Content, Moment, Name, NodeId, NodeKind, NodeRow, Place, Row,
 };
 use nf_defs::Found;
-use nf_words::{Allowed, By, LockKey, Report, Spot, Transfer};
+use nf_words::{Allowed, By, Deed, LockKey, Report, Spot, Transfer};
 use std::alloc::{AllocError, Global};
 
 /// PUT stores over the file that is there, or under the name that is free.
@@ -104,21 +105,12 @@ pub(crate) fn deleted(
     requires { AreSound view.now.tables }
     ensures { IfOk result (λ allowed. allowed ≡ deleted view.now.tables moment node) }
 {
-    match row_of(view, node) {
-        Some(row) => discard(alloc, view, moment, row),
-        None => Ok(nothing_done(alloc)),
-    }
+    let deeds = leaves(alloc, view, moment, node)?.alone()?;
+    Ok(done(deeds, Report::Done))
 }
 
-/// The row of a node, if there is one.
-fn row_of<'a>(view: &'a View<'_>, node: Option<NodeId>) -> Option<&'a NodeRow>
-    ensures { option_copied result ≡ option_and_then (node_row view.now.tables.nodes) node }
-{
-    view.tree().node(node?)
-}
-
-/// MOVE puts the node that is there into the target's folder, under the target's name. What goes to another owner is copied there, and
-/// then removed.
+/// MOVE puts the node that is there into the target's folder, under the target's name, and what is replaced in the trash. What goes to
+/// another owner is copied there, and is then put in the trash of its owner.
 pub(crate) fn moved(
     alloc: Global,
     view: &View<'_>,
@@ -126,37 +118,98 @@ pub(crate) fn moved(
     spot: &Spot,
     transfer: Option<Transfer>,
 ) -> Result<Allowed, AllocError>
+    requires sound { AreSound view.now.tables }
     requires named { IsSome transfer → spot.now.path ≢ [] }
     requires few { IfSome transfer (λ transfer. carry_limit view.now.tables transfer ≡ None) }
     ensures { IfOk result (λ allowed. allowed ≡ moved view.now.tables moment (last_name spot.now) transfer) }
 {
-    match transfer {
-        Some(transfer) => carried(alloc, view, moment, last_name(spot)?, transfer),
-        None => Ok(Allowed::Close),
-    }
+    let Some(transfer) = transfer else {
+        return Ok(Allowed::Close);
+    };
+    let deeds = carries(alloc, view, moment, last_name(spot)?, &transfer)?;
+    Ok(done(deeds, made_or_done(transfer.replaced)))
 }
 
-fn carried(
+fn carries(
     alloc: Global,
     view: &View<'_>,
     moment: Moment,
     name: Name,
-    transfer: Transfer,
-) -> Result<Allowed, AllocError>
-    requires { carry_limit view.now.tables transfer ≡ None }
-    ensures { IfOk result (λ allowed. allowed ≡ carried view.now.tables moment name transfer) }
+    transfer: &Transfer,
+) -> Result<Vec<Deed>, AllocError>
+    requires sound { AreSound view.now.tables }
+    requires few { carry_limit view.now.tables transfer.now ≡ None }
+    ensures { IfOk result (λ deeds. deeds.items ≡ carries view.now.tables moment name transfer.now) }
 {
-    if !crosses(view.tree(), &transfer) {
-        return Ok(Allowed::Move { transfer, name });
+    if crosses(view.tree(), transfer) {
+        crossing(alloc, view, moment, name, transfer)
+    } else {
+        moves(alloc, view, moment, name, transfer)
     }
-    Ok(Allowed::Cross {
-        rows: copies_to(alloc, view, moment, &transfer, name)?,
-        replaced: transfer.replaced,
-        node: transfer.node,
-    })
 }
 
-/// COPY puts copies of the node that is there, and of all under it, into the target's folder, under the target's name.
+fn moves(
+    alloc: Global,
+    view: &View<'_>,
+    moment: Moment,
+    name: Name,
+    transfer: &Transfer,
+) -> Result<Vec<Deed>, AllocError>
+    requires { AreSound view.now.tables }
+    ensures { IfOk result (λ deeds. deeds.items ≡ moves view.now.tables moment name transfer.now) }
+{
+    let deed = Deed::Relink {
+        node: transfer.node,
+        folder: transfer.folder,
+        name,
+    };
+    leaves(alloc, view, moment, transfer.replaced)?.before(deed)
+}
+
+fn copies(
+    alloc: Global,
+    view: &View<'_>,
+    moment: Moment,
+    name: Name,
+    transfer: &Transfer,
+) -> Result<Vec<Deed>, AllocError>
+    requires sound { AreSound view.now.tables }
+    requires few { copy_limit view.now.tables transfer.now ≡ None }
+    ensures { IfOk result (λ deeds. deeds.items ≡ copies view.now.tables moment name transfer.now) }
+{
+    let deed = Deed::Join(copies_to(alloc, view, moment, transfer, name)?);
+    leaves(alloc, view, moment, transfer.replaced)?.before(deed)
+}
+
+fn crossing(
+    alloc: Global,
+    view: &View<'_>,
+    moment: Moment,
+    name: Name,
+    transfer: &Transfer,
+) -> Result<Vec<Deed>, AllocError>
+    requires sound { AreSound view.now.tables }
+    requires few { copy_limit view.now.tables transfer.now ≡ None }
+    ensures { IfOk result (λ deeds. deeds.items ≡ crossing view.now.tables moment name transfer.now) }
+{
+    let deed = Deed::Join(copies_to(alloc, view, moment, transfer, name)?);
+    let replaced = leaves(alloc, view, moment, transfer.replaced)?;
+    let source = leaves(alloc, view, moment, Some(transfer.node))?;
+    replaced.before_both(deed, source)
+}
+
+/// What is put at a place is made, where nothing was there.
+fn made_or_done(replaced: Option<NodeId>) -> Report
+    ensures { result ≡ made_or_done replaced }
+{
+    match replaced {
+        Some(_) => Report::Done,
+        None => Report::Made,
+    }
+}
+
+/// COPY puts copies of the node that is there, and of all under it, into the target's folder, under the target's name, and what is
+/// replaced in the trash.
 pub(crate) fn copied(
     alloc: Global,
     view: &View<'_>,
@@ -164,20 +217,16 @@ pub(crate) fn copied(
     spot: &Spot,
     transfer: Option<Transfer>,
 ) -> Result<Allowed, AllocError>
+    requires sound { AreSound view.now.tables }
     requires named { IsSome transfer → spot.now.path ≢ [] }
     requires few { IfSome transfer (λ transfer. copy_limit view.now.tables transfer ≡ None) }
     ensures { IfOk result (λ allowed. allowed ≡ copied view.now.tables moment (last_name spot.now) transfer) }
 {
-    match transfer {
-        Some(transfer) => {
-            let name = last_name(spot)?;
-            Ok(Allowed::Copy {
-                rows: copies_to(alloc, view, moment, &transfer, name)?,
-                replaced: transfer.replaced,
-            })
-        }
-        None => Ok(Allowed::Close),
-    }
+    let Some(transfer) = transfer else {
+        return Ok(Allowed::Close);
+    };
+    let deeds = copies(alloc, view, moment, last_name(spot)?, &transfer)?;
+    Ok(done(deeds, made_or_done(transfer.replaced)))
 }
 
 /// A new node in a folder, with the next number and the folder's owner.

@@ -1,10 +1,10 @@
 //! What is put in the trash and comes back from there, and what goes for good beside it.
 
-ghost use Rattle.std.specs.Prelude.{◌≡◌, ◌==◌, ◌∷◌, List, filter, if◌then◌else◌, map, not, unwrap_or, IfOk, OnOk};
+ghost use Rattle.std.specs.Prelude.{◌≡◌, ◌++◌, List, ◌∷◌, map, unwrap_or, IfOk, OnOk};
 ghost use Rattle.nf_base.specs.declared.rows.ItemRow.{ItemRow};
 ghost use Rattle.nf_defs.specs.Prelude.{folder_of};
 ghost use Rattle.nf_retention.specs.Trash.{trashed};
-ghost use Rattle.nf_words.specs.Prelude.{AreSound, discard, gone_beside, gone_of, item_dropped, item_for, item_restored, item_size, items_but, items_of, nothing_done, quota_of, requoted};
+ghost use Rattle.nf_words.specs.Prelude.{AreSound, done, gone_beside, gone_of, item_dropped, item_for, item_restored, item_size, items_but, items_of, purges, quota_of, requoted};
 ghost use Rattle.nf_words.specs.declared.answer.Allowed.TheVariants as allowed;
 ghost use Rattle.nf_words.specs.declared.answer.Deed.TheVariants as deed;
 ghost use Rattle.nf_words.specs.declared.answer.Report.TheVariants as report;
@@ -15,13 +15,13 @@ use crate::shared::nothing_done;
 use crate::view::View;
 use nf_base::{ItemRow, Moment, NodeId, NodeRow, Place, UserId, UserRow};
 use nf_retention::{Trashed, going, newest_first, trash_bound};
-use nf_words::{Allowed, Deed, NodeIds, Report};
+use nf_words::{Allowed, Deed, Deeds, Report};
 use std::alloc::{AllocError, Global};
 
 // ---- items
 
 /// What a node is in the trash, when it is put there.
-fn item_for(moment: Moment, row: &NodeRow) -> Result<ItemRow, AllocError>
+pub(crate) fn item_for(moment: Moment, row: &NodeRow) -> Result<ItemRow, AllocError>
     ensures { IfOk result (λ item. item ≡ item_for moment row.now) }
 {
     Ok(ItemRow {
@@ -104,7 +104,7 @@ fn trash_with(alloc: Global, view: &View<'_>, item: &ItemRow) -> Result<Vec<Tras
 // ---- what goes
 
 /// Of some items of a user's with that quota, the nodes of those that go for good.
-fn gone_of(
+pub(crate) fn gone_of(
     alloc: Global,
     view: &View<'_>,
     moment: Moment,
@@ -118,7 +118,7 @@ fn gone_of(
 }
 
 /// What goes of a user's trash with a node that is put there.
-fn gone_with(
+pub(crate) fn gone_with(
     alloc: Global,
     view: &View<'_>,
     moment: Moment,
@@ -145,8 +145,8 @@ fn gone_beside(
     gone_of(alloc, view, moment, quota_of(view, item.owner), carried)
 }
 
-/// What goes of it with another quota.
-fn gone_by(
+/// What goes of a user's trash with that quota.
+pub(crate) fn gone_by(
     alloc: Global,
     view: &View<'_>,
     moment: Moment,
@@ -160,51 +160,25 @@ fn gone_by(
     gone_of(alloc, view, moment, quota, carried)
 }
 
-/// A node, and then the others of some.
-fn first(node: NodeId, mut nodes: Vec<NodeId>) -> Result<Vec<NodeId>, AllocError>
-    ensures { IfOk result (λ all. all.items ≡ node ∷ filter (λ other. not (other == node)) nodes.items) }
+/// Puts the deeds by which some nodes go for good at the end.
+pub(crate) fn push_purges(deeds: &mut Vec<Deed>, nodes: &[NodeId]) -> Result<(), AllocError>
+    ensures { OnOk result (deeds.new.items ≡ deeds.old.items ++ purges nodes.now) }
 {
-    leave_out(&mut nodes, node);
-    nodes.insert(0, node)?;
-    Ok(nodes)
-}
-
-/// Leaves a node out.
-fn leave_out(nodes: &mut Vec<NodeId>, but: NodeId)
-    ensures { nodes.new.items ≡ filter (λ node. not (node == but)) nodes.old.items }
-{
-    nodes.retain(|node| *node != but)
+    for node in nodes {
+        deeds.push(Deed::Purge(*node))?;
+    }
+    Ok(())
 }
 
 // ---- what is done
 
-/// A deed is done, and then those nodes go.
-fn done(deed: Deed, gone: Vec<NodeId>, report: Report) -> Allowed
-    ensures { result ≡ allowed.Trash deed gone.items report }
+/// These deeds are done, and told so.
+pub(crate) fn done(deeds: Vec<Deed>, report: Report) -> Allowed
+    ensures { result ≡ allowed.Deeds deeds.items report }
 {
-    Allowed::Trash {
-        deed,
-        gone: NodeIds::new(gone),
+    Allowed::Deeds {
+        deeds: Deeds::new(deeds),
         report,
-    }
-}
-
-/// A node is put in the trash, unless the trash can't hold it.
-pub(crate) fn discard(
-    alloc: Global,
-    view: &View<'_>,
-    moment: Moment,
-    row: &NodeRow,
-) -> Result<Allowed, AllocError>
-    requires { AreSound view.now.tables }
-    ensures { IfOk result (λ allowed. allowed ≡ discard view.now.tables moment row.now) }
-{
-    let item = item_for(moment, row)?;
-    let gone = gone_with(alloc, view, moment, &item)?;
-    if gone.contains(&row.id) {
-        Ok(done(Deed::Nothing, first(row.id, gone)?, Report::Done))
-    } else {
-        Ok(done(Deed::Discard(item), gone, Report::Done))
     }
 }
 
@@ -218,9 +192,10 @@ pub(crate) fn item_dropped(
     requires { AreSound view.now.tables }
     ensures { IfOk result (λ allowed. allowed ≡ item_dropped view.now.tables moment item.now) }
 {
-    let mut gone = gone_beside(alloc, view, moment, item)?;
-    gone.insert(0, item.node)?;
-    Ok(done(Deed::Nothing, gone, Report::Done))
+    let mut deeds = Vec::new(alloc);
+    deeds.push(Deed::Purge(item.node))?;
+    push_purges(&mut deeds, &gone_beside(alloc, view, moment, item)?)?;
+    Ok(done(deeds, Report::Done))
 }
 
 /// An item comes back.
@@ -238,16 +213,19 @@ pub(crate) fn item_restored(
         folder: home_of(view, item),
         name: name_back(alloc, view, item)?,
     };
-    let gone = gone_beside(alloc, view, moment, item)?;
-    Ok(done(deed, gone, Report::Made))
+    let mut deeds = Vec::new(alloc);
+    deeds.push(deed)?;
+    push_purges(&mut deeds, &gone_beside(alloc, view, moment, item)?)?;
+    Ok(done(deeds, Report::Made))
 }
 
 /// All items of a user's go for good.
 pub(crate) fn emptied(alloc: Global, view: &View<'_>, user: UserId) -> Result<Allowed, AllocError>
-    ensures { IfOk result (λ act. act ≡ allowed.Trash deed.Nothing (map (λ item. item.node) (items_of view.now.tables user)) report.Done) }
+    ensures { IfOk result (λ act. act ≡ done (purges (map (λ item. item.node) (items_of view.now.tables user))) report.Done) }
 {
-    let gone = nodes_of(alloc, view, user)?;
-    Ok(done(Deed::Nothing, gone, Report::Done))
+    let mut deeds = Vec::new(alloc);
+    push_purges(&mut deeds, &nodes_of(alloc, view, user)?)?;
+    Ok(done(deeds, Report::Done))
 }
 
 /// Their nodes.
@@ -277,8 +255,10 @@ pub(crate) fn requoted(
         return Ok(nothing_done(alloc));
     }
     let gone = gone_by(alloc, view, moment, quota, row.id)?;
-    let other = with_quota(row, quota)?;
-    Ok(done(Deed::Requote(other), gone, Report::Plain))
+    let mut deeds = Vec::new(alloc);
+    deeds.push(Deed::Requote(with_quota(row, quota)?))?;
+    push_purges(&mut deeds, &gone)?;
+    Ok(done(deeds, Report::Plain))
 }
 
 /// The row of a user with another quota.

@@ -112,7 +112,7 @@ impl State {
         self.tables.keeps_room();
     }
 
-    /// Makes the step of a seat's event that no rule refuses. It takes no memory.
+    /// Makes the step of a seat's event that no rule refuses. It needs no memory.
     pub fn change(
         &mut self,
         seat: u64,
@@ -166,7 +166,7 @@ impl State {
     {
         self.seen = moment;
         match event {
-            Event::Begin { .. } => {}
+            Event::Begin { .. } | Event::Sweep => {}
             Event::End(_) => free(&mut self.tickets, seat),
         }
     }

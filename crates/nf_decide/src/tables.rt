@@ -1,16 +1,17 @@
 //! The rows of the site in memory.
 
-ghost use Rattle.std.specs.Prelude.{◌≡◌, ◌⊎◌, ℕ, ◌+◌, ◌<◌, ◌≤◌, ◌∷◌, ◌++◌, [], false, is_some, All, AllPairs, length, map, max, slice_get, IfOk, IsSome, OnOk, None, Some};
+ghost use Rattle.std.specs.Prelude.{◌≡◌, ◌⊎◌, ℕ, ◌+◌, ◌<◌, ◌≤◌, ◌∷◌, ◌++◌, [], false, is_some, IsTrue, All, AllPairs, length, map, max, slice_get, IfOk, IsSome, OnOk, None, Some};
 ghost use Rattle.nf_base.specs.declared.changes.Change.TheVariants.{Put};
 ghost use Rattle.nf_base.specs.declared.limits.TheConstants.{MAX_NODES};
 ghost use Rattle.nf_base.specs.declared.rows.NodeRow.{NodeRow};
 ghost use Rattle.nf_base.specs.declared.rows.Row.TheVariants as kinds;
 ghost use Rattle.nf_base.specs.declared.rows.MetaRow.{MetaRow};
-ghost use Rattle.nf_defs.specs.Prelude.{drop_row, dropped, item_key, made, node_key, node_row, put, put_all, rows_of};
-ghost use Rattle.nf_words.specs.Prelude.{above, blob_after, changed, cleared, counted, deed_done, discarded, ended_for, goal_of, joined, last_number, purged_all, removed, restored};
+ghost use Rattle.nf_defs.specs.Prelude.{drop_row, dropped, item_key, item_row, made, node_key, node_row, put, put_all, rows_of};
+ghost use Rattle.nf_words.specs.Prelude.{above, blob_after, changed, counted, deed_done, deeds_done, discarded, goal_of, joined, last_number, purged, purges, restored};
 ghost use Rattle.nf_words.specs.declared.answer.Report.TheVariants.{Done};
 ghost use Rattle.nf_words.specs.declared.answer.Allowed.TheVariants as allowed;
-ghost use Rattle.nf_decide.specs.Current.{AreBorne, AreGiven, BearsAct, BearsChanges, BearsCopies, BearsDeed, BearsMove, BearsRestore, IsBorne, IsCounted, IsDroppedKey, IsNew, IsRefilled, LeadUpBehind, added_by, added_deed, added_of, does_nothing};
+ghost use Rattle.nf_decide.specs.Current.{AreBorne, AreGiven, BearsAct, BearsChanges, BearsCopies, BearsDeed, BearsDeeds, BearsPlace, IsBorne, IsCounted, IsDroppedKey, IsNew, IsRefilled, LeadUpBehind, added_by, added_deed, added_deeds, added_of};
+ghost use Rattle.nf_decide.specs.Gone.{item_gone};
 ghost use Rattle.nf_rules.specs.Ruled.{AreRuled};
 ghost use Rattle.nf_decide.specs.Counts.{FitsNodes, FitsRows, IsNoSmaller, only_nodes};
 
@@ -27,7 +28,7 @@ use nf_people::{People, PeopleRows};
 use nf_shares::Shares;
 use nf_table::{ItemKey, Table};
 use nf_tree::Tree;
-use nf_words::{Allowed, Deed, Goal, NodeRows, Ticket, Transfer};
+use nf_words::{Allowed, Deed, Deeds, Goal, NodeRows, Ticket};
 use std::alloc::{AllocError, Global};
 use std::marker::Model;
 
@@ -148,30 +149,14 @@ impl Tables {
                 self.change(moment, changes, blob);
                 None
             }
-            Allowed::Trash { deed, gone, .. } => {
-                self.trash(moment, deed, gone.ids());
-                None
-            }
-            Allowed::Move { transfer, name } => {
-                self.transfer(moment, &transfer, name);
-                None
-            }
-            Allowed::Copy { rows, replaced } => {
-                self.join(moment, rows, &replaced);
-                None
-            }
-            Allowed::Cross {
-                rows,
-                replaced,
-                node,
-            } => {
-                self.cross(moment, rows, &replaced, node);
+            Allowed::Deeds { deeds, .. } => {
+                self.perform_all(moment, deeds);
                 None
             }
         }
     }
 
-    /// Puts rows, with the counters above their numbers and behind the blob. It takes no memory, and nor does any other change.
+    /// Puts rows, with the counters above their numbers and behind the blob. It takes no memory, and no other change needs any.
     fn change(&mut self, moment: Moment, changes: Changes, blob: Option<BlobId>)
         requires room { FitsRows self.old.tables self.old.room (added_of self.old.tables.meta.next_node changes) }
         requires bears { BearsChanges self.old.tables changes blob }
@@ -244,29 +229,90 @@ impl Tables {
         }
     }
 
-    /// Does a deed, and then takes out what goes for good.
-    fn trash(&mut self, moment: Moment, deed: Deed, gone: &[NodeId])
-        requires room { FitsRows self.old.tables self.old.room (added_deed deed) }
-        requires bears { BearsDeed self.old.tables deed }
-        ensures { self.new.tables ≡ changed self.old.tables moment (allowed.Trash deed gone.now Done) }
+    /// Does some deeds, one after the other. Where there is no memory to gather items that go for good, they go one by one.
+    fn perform_all(&mut self, moment: Moment, deeds: Deeds)
+        requires room { FitsRows self.old.tables self.old.room (added_deeds deeds) }
+        requires bears { BearsDeeds self.old.tables deeds }
+        ensures { self.new.tables ≡ changed self.old.tables moment (allowed.Deeds deeds Done) }
     {
-        if does_nothing(&deed, gone) {
+        let deeds = deeds.into_vec();
+        if deeds.is_empty() {
             return;
         }
-        self.perform(deed);
-        self.purge_all(gone);
+        self.perform_each(deeds);
         self.stamp(moment);
+    }
+
+    /// Items that go for good one after the other go together, in one pass over the rows.
+    fn perform_each(&mut self, deeds: Vec<Deed>)
+        requires room { FitsRows self.old.tables self.old.room (added_deeds deeds.items) }
+        requires bears { BearsDeeds self.old.tables deeds.items }
+        ensures { self.new.tables ≡ deeds_done self.old.tables deeds.items }
+    {
+        let mut run = Vec::new(*deeds.allocator());
+        for deed in deeds {
+            if !self.gathers(&deed, &mut run) {
+                self.purge_items(&mut run);
+                self.perform(deed);
+            }
+        }
+        self.purge_items(&mut run);
+    }
+
+    /// Puts the node of an item that a deed takes out for good behind those of a run, and tells whether it is there now.
+    fn gathers(&self, deed: &Deed, run: &mut Vec<NodeId>) -> bool
+        ensures gathered { IsTrue result → (node : ℕ) × (item_gone self.now.tables deed.now ≡ Some node) × (run.new.items ≡ run.old.items ++ node ∷ []) }
+        ensures left { result ≡ false → run.new.items ≡ run.old.items }
+    {
+        match self.item_gone(deed) {
+            Some(node) => run.push(node).is_ok(),
+            None => false,
+        }
+    }
+
+    /// The node of the item that a deed takes out for good, if it does.
+    fn item_gone(&self, deed: &Deed) -> Option<NodeId>
+        ensures { result ≡ item_gone self.now.tables deed.now }
+    {
+        match deed {
+            Deed::Purge(node) if self.has_item(*node) => Some(*node),
+            _ => None,
+        }
+    }
+
+    fn has_item(&self, node: NodeId) -> bool
+        ensures { result ≡ is_some (item_row self.now.tables.items node) }
+    {
+        self.items.find(&ItemKey { node }).is_some()
+    }
+
+    /// Takes out the nodes of a run of items for good, each with all under it and with its item. Of what is in the trash no share is left
+    /// to end.
+    fn purge_items(&mut self, run: &mut Vec<NodeId>)
+        requires items { All (λ node. IsSome (item_row self.old.tables.items node)) run.old.items }
+        requires bears { BearsDeeds self.old.tables (purges run.old.items) }
+        ensures tables { self.new.tables ≡ deeds_done self.old.tables (purges run.old.items) }
+        ensures room { self.new.room ≡ self.old.room }
+        ensures run { run.new.items ≡ [] }
+    {
+        self.tree.purge_all(run);
+        run.sort_unstable();
+        self.items.drop_all(run);
+        run.clear();
     }
 
     fn perform(&mut self, deed: Deed)
         requires room { FitsRows self.old.tables self.old.room (added_deed deed) }
         requires bears { BearsDeed self.old.tables deed }
-        ensures { self.new.tables ≡ deed_done self.old.tables deed }
+        ensures tables { self.new.tables ≡ deed_done self.old.tables deed }
+        ensures room { IsNoSmaller self.old.room self.new.room }
     {
         match deed {
-            Deed::Nothing => {}
             Deed::Discard(item) => self.discard(item),
+            Deed::Purge(node) => self.purge(node),
             Deed::Restore { node, folder, name } => self.restore(node, folder, name),
+            Deed::Relink { node, folder, name } => self.tree.relink(node, folder, name),
+            Deed::Join(rows) => self.join(rows),
             Deed::Requote(row) => put_user(&mut self.people, row),
         }
     }
@@ -275,7 +321,8 @@ impl Tables {
     fn discard(&mut self, item: ItemRow)
         requires room { length self.old.tables.items < self.old.room.items }
         requires there { IsSome (node_row self.old.tables.nodes item.node) }
-        ensures { self.new.tables ≡ discarded self.old.tables item }
+        ensures tables { self.new.tables ≡ discarded self.old.tables item }
+        ensures room { IsNoSmaller self.old.room self.new.room }
     {
         self.shares.end_under(&self.tree, item.node);
         self.tree.detach(item.node);
@@ -284,21 +331,22 @@ impl Tables {
 
     /// Puts the node of an item into that folder, under that name.
     fn restore(&mut self, node: NodeId, folder: NodeId, name: Name)
-        requires { BearsRestore self.old.tables node folder name }
-        ensures { self.new.tables ≡ restored self.old.tables node folder name }
+        requires { BearsPlace self.old.tables node folder name }
+        ensures tables { self.new.tables ≡ restored self.old.tables node folder name }
+        ensures room { self.new.room ≡ self.old.room }
     {
         self.tree.attach(node, folder, name);
         self.drop_item(node);
     }
 
-    /// Takes nodes out for good, one after the other, each with all under it and with its item.
-    fn purge_all(&mut self, nodes: &[NodeId])
-        ensures { self.new.tables ≡ purged_all self.old.tables nodes.now }
+    /// Takes out a node and all under it for good, with its item, and ends the shares there.
+    fn purge(&mut self, node: NodeId)
+        ensures tables { self.new.tables ≡ purged self.old.tables node }
+        ensures room { self.new.room ≡ self.old.room }
     {
-        for node in nodes {
-            self.purge(*node);
-            self.drop_item(*node);
-        }
+        self.shares.end_under(&self.tree, node);
+        self.tree.purge(node);
+        self.drop_item(node);
     }
 
     /// Drops the item of a node, if there is one.
@@ -309,70 +357,14 @@ impl Tables {
         let _ = self.items.drop(&ItemKey { node });
     }
 
-    /// Puts a node into another folder, under that name. What is to be replaced there goes.
-    fn transfer(&mut self, moment: Moment, transfer: &Transfer, name: Name)
-        requires { BearsMove self.old.tables transfer.now name }
-        ensures { self.new.tables ≡ changed self.old.tables moment (allowed.Move transfer.now name) }
-    {
-        self.clear(&transfer.replaced);
-        self.tree.relink(transfer.node, transfer.folder, name);
-        self.stamp(moment);
-    }
-
-    /// Puts new nodes in, with the next numbers. What is to be replaced goes.
-    fn join(&mut self, moment: Moment, rows: NodeRows, replaced: &Option<NodeId>)
+    /// Puts new nodes in, with the next numbers.
+    fn join(&mut self, rows: NodeRows)
         requires room { FitsNodes self.old.tables self.old.room.nodes (length rows) }
-        requires given { AreGiven self.old.tables }
-        requires bears { BearsCopies self.old.tables rows replaced.now }
-        ensures { self.new.tables ≡ changed self.old.tables moment (allowed.Copy rows replaced.now) }
+        requires bears { BearsCopies self.old.tables rows }
+        ensures tables { self.new.tables ≡ joined self.old.tables rows }
+        ensures room { self.new.room ≡ self.old.room }
     {
-        if rows.rows().is_empty() && replaced.is_none() {
-            return;
-        }
-        self.enter(rows, replaced);
-        self.stamp(moment);
-    }
-
-    /// Puts new nodes in as a copy does, and takes out the one that they are of.
-    fn cross(&mut self, moment: Moment, rows: NodeRows, replaced: &Option<NodeId>, node: NodeId)
-        requires room { FitsNodes self.old.tables self.old.room.nodes (length rows) }
-        requires given { AreGiven self.old.tables }
-        requires bears { BearsCopies self.old.tables rows replaced.now }
-        ensures { self.new.tables ≡ changed self.old.tables moment (allowed.Cross rows replaced.now node) }
-    {
-        self.enter(rows, replaced);
-        self.purge(node);
-        self.stamp(moment);
-    }
-
-    /// Puts new nodes in; what is to be replaced goes.
-    fn enter(&mut self, rows: NodeRows, replaced: &Option<NodeId>)
-        requires room { FitsNodes self.old.tables self.old.room.nodes (length rows) }
-        requires given { AreGiven self.old.tables }
-        requires bears { BearsCopies self.old.tables rows replaced.now }
-        ensures { self.new.tables ≡ joined self.old.tables rows replaced.now }
-    {
-        self.clear(replaced);
         self.meta.next_node = add_all(&mut self.tree, self.meta.next_node, rows);
-    }
-
-    /// Takes out what has to go.
-    fn clear(&mut self, replaced: &Option<NodeId>)
-        ensures tables { self.new.tables ≡ record self.old.tables { nodes = cleared self.old.tables.nodes replaced.now; shares = ended_for self.old.tables.nodes replaced.now self.old.tables.shares } }
-        ensures room { self.new.room ≡ self.old.room }
-    {
-        if let Some(node) = *replaced {
-            self.purge(node);
-        }
-    }
-
-    /// Takes out a node and all under it, and ends the shares there.
-    fn purge(&mut self, node: NodeId)
-        ensures tables { self.new.tables ≡ removed self.old.tables node }
-        ensures room { self.new.room ≡ self.old.room }
-    {
-        self.shares.end_under(&self.tree, node);
-        self.tree.purge(node);
     }
 
     /// Records when a row was last changed.
@@ -393,16 +385,6 @@ impl Tables {
         push_shares(&mut list, self.shares.rows())?;
         push_mounted(&mut list, self.mounts.rows(), self.items.rows())?;
         Ok(list)
-    }
-}
-
-/// Whether nothing is done, and nothing goes.
-fn does_nothing(deed: &Deed, gone: &[NodeId]) -> bool
-    ensures { result ≡ does_nothing deed.now gone.now }
-{
-    match deed {
-        Deed::Nothing => gone.is_empty(),
-        Deed::Discard(_) | Deed::Restore { .. } | Deed::Requote(_) => false,
     }
 }
 
@@ -506,7 +488,7 @@ fn push_mounts(list: &mut RowList, mounts: &[MountRow]) -> Result<(), AllocError
 }
 
 /// An equal item of the trash.
-fn copy_item(item: &ItemRow) -> Result<ItemRow, AllocError>
+pub(crate) fn copy_item(item: &ItemRow) -> Result<ItemRow, AllocError>
     ensures { IfOk result (λ copy. copy ≡ item.now) }
 {
     item.clone()

@@ -1,29 +1,30 @@
 //! What an act changes, told as a list of the rows that differ.
 
-ghost use Rattle.std.specs.Prelude.{◌≡◌, count_by, [], ◌∷◌, ◌++◌, map, IfOk, OnOk};
+ghost use Rattle.std.specs.Prelude.{◌≡◌, ◌+◌, ◌≤◌, count_by, max, [], ◌∷◌, ◌++◌, map, IfOk, OnOk};
 ghost use Rattle.std.specs.List.{flat_map};
 ghost use Rattle.nf_base.specs.declared.changes.Change.TheVariants as change;
 ghost use Rattle.nf_base.specs.declared.changes.RowKey.TheVariants as keys;
 ghost use Rattle.nf_base.specs.declared.rows.Row.TheVariants as kinds;
 ghost use Rattle.nf_defs.specs.Tree.{is_leaf, is_under, node_row, relinked, trashed};
-ghost use Rattle.nf_words.specs.Changes.{blob_of, changes_of, hold_of, meta_after, told, transferred_row, with_meta};
-ghost use Rattle.nf_words.specs.Deeds.{closed_under, deed_done, dropped_under, ended_row, gone_for, gone_under, is_closing, told_deed, told_purges};
+ghost use Rattle.nf_words.specs.Limits.{last_number};
+ghost use Rattle.nf_words.specs.Changes.{blob_of, changes_of, hold_of, meta_after, told, with_meta};
+ghost use Rattle.nf_words.specs.Deeds.{closed_under, dropped_under, ended_row, gone_under, is_closing, told_deed, told_deeds, told_node};
 ghost use Rattle.nf_words.specs.declared.answer.Deed.TheVariants as deeds;
 ghost use Rattle.nf_words.specs.declared.answer.LockKey.TheVariants as lock_keys;
 ghost use Rattle.nf_words.specs.declared.answer.Mode.TheVariants.{Exclusive, Shared};
-ghost use Rattle.nf_decide.specs.Current.{BearsAct, added_by, added_deed, added_of, is_counted, is_fresh, puts_group, puts_item, puts_member, puts_mount, puts_share, puts_token, puts_user};
-ghost use Rattle.nf_decide.specs.Gone.{TellsTrash, told_gone};
+ghost use Rattle.nf_decide.specs.Current.{BearsAct, added_by, added_deeds, added_of, discards, is_counted, is_fresh, nodes_joined, puts_group, puts_item, puts_member, puts_mount, puts_share, puts_token, puts_user, requotes, rows_joined};
+ghost use Rattle.nf_decide.specs.Gone.{TellsDeeds, told_first, told_gone};
 
 use crate::counts::RowCounts;
 use crate::items::item_row;
-use crate::tables::{copy, raised};
+use crate::tables::{copy, copy_item, raised};
 use crate::view::View;
 use nf_base::{
     BlobId, Change, Changes, ItemRow, MetaRow, Moment, Name, NodeId, NodeRow, Place, Row, RowKey,
     ShareRow, UserRow,
 };
 use nf_tree::Tree;
-use nf_words::{Allowed, Deed, Hold, LockKey, Mode, Transfer};
+use nf_words::{Allowed, Deed, Hold, LockKey, Mode};
 use std::alloc::{AllocError, Global};
 
 /// What is counted of some changes.
@@ -73,35 +74,11 @@ fn told(alloc: Global, view: &View<'_>, act: &Allowed) -> Result<Changes, AllocE
 {
     match act {
         Allowed::Change { changes, .. } => changes.copy(alloc),
-        Allowed::Trash { deed, gone, .. } => trashed(alloc, view, deed, gone.ids()),
-        Allowed::Move { transfer, name } => transferred(alloc, view, transfer, name),
-        Allowed::Copy { rows, replaced } => joined(alloc, view, rows.rows(), replaced),
-        Allowed::Cross {
-            rows,
-            replaced,
-            node,
-        } => crossed(alloc, view, rows.rows(), replaced, *node),
+        Allowed::Deeds { deeds, .. } => told_deeds(alloc, view, deeds.as_slice()),
         Allowed::Get { .. } | Allowed::List(_) | Allowed::Put { .. } | Allowed::Close => {
             Ok(Changes::new(alloc))
         }
     }
-}
-
-/// What has to go is gone, and a node's row is put in its new place.
-fn transferred(
-    alloc: Global,
-    view: &View<'_>,
-    transfer: &Transfer,
-    name: &Name,
-) -> Result<Changes, AllocError>
-    ensures { IfOk result (λ changes. changes ≡ gone_for view.now.tables.nodes view.now.tables.shares transfer.now.replaced ++ transferred_row (node_row view.now.tables.nodes transfer.now.node) transfer.now name.now) }
-{
-    let mut changes = gone_for(alloc, view, &transfer.replaced)?;
-    if let Some(row) = view.tree().node(transfer.node) {
-        let row = relinked(row, transfer.folder, name)?;
-        changes.push(Change::Put(Row::Node(row)))?;
-    }
-    Ok(changes)
 }
 
 /// A row in that folder, under that name.
@@ -117,35 +94,6 @@ fn relinked(row: &NodeRow, folder: NodeId, name: &Name) -> Result<NodeRow, Alloc
     })
 }
 
-/// What has to go is gone, and the rows of copies are put.
-fn joined(
-    alloc: Global,
-    view: &View<'_>,
-    rows: &[NodeRow],
-    replaced: &Option<NodeId>,
-) -> Result<Changes, AllocError>
-    ensures { IfOk result (λ changes. changes ≡ gone_for view.now.tables.nodes view.now.tables.shares replaced.now ++ map (λ row. change.Put (kinds.Node row)) rows.now) }
-{
-    let mut changes = gone_for(alloc, view, replaced)?;
-    put_all(&mut changes, rows)?;
-    Ok(changes)
-}
-
-/// The same, and the node that the copies are of is gone too.
-fn crossed(
-    alloc: Global,
-    view: &View<'_>,
-    rows: &[NodeRow],
-    replaced: &Option<NodeId>,
-    node: NodeId,
-) -> Result<Changes, AllocError>
-    ensures { IfOk result (λ changes. changes ≡ (gone_for view.now.tables.nodes view.now.tables.shares replaced.now ++ map (λ row. change.Put (kinds.Node row)) rows.now) ++ gone_under view.now.tables.nodes view.now.tables.shares node) }
-{
-    let mut changes = joined(alloc, view, rows, replaced)?;
-    push_gone(alloc, view, node, &mut changes)?;
-    Ok(changes)
-}
-
 /// Puts all the rows.
 fn put_all(changes: &mut Changes, rows: &[NodeRow]) -> Result<(), AllocError>
     ensures { OnOk result (changes.new ≡ changes.old ++ map (λ row. change.Put (kinds.Node row)) rows.now) }
@@ -157,29 +105,6 @@ fn put_all(changes: &mut Changes, rows: &[NodeRow]) -> Result<(), AllocError>
 }
 
 // ---- what is gone
-
-/// What becomes of the node that has to go, if there is one, and of all under it.
-fn gone_for(
-    alloc: Global,
-    view: &View<'_>,
-    replaced: &Option<NodeId>,
-) -> Result<Changes, AllocError>
-    ensures { IfOk result (λ changes. changes ≡ gone_for view.now.tables.nodes view.now.tables.shares replaced.now) }
-{
-    match replaced {
-        Some(node) => gone(alloc, view, *node),
-        None => Ok(Changes::new(alloc)),
-    }
-}
-
-/// What becomes of a node that is removed, and of all under it.
-fn gone(alloc: Global, view: &View<'_>, node: NodeId) -> Result<Changes, AllocError>
-    ensures { IfOk result (λ changes. changes ≡ gone_under view.now.tables.nodes view.now.tables.shares node) }
-{
-    let mut changes = Changes::new(alloc);
-    push_gone(alloc, view, node, &mut changes)?;
-    Ok(changes)
-}
 
 /// A node is dropped with all under it, and the shares there are ended.
 fn push_gone(
@@ -260,100 +185,80 @@ pub(crate) fn ended(share: &ShareRow) -> Result<ShareRow, AllocError>
     Ok(row)
 }
 
-// ---- the trash
+// ---- deeds
 
-/// What is done, and then what becomes of all that goes for good.
-fn trashed(
-    alloc: Global,
-    view: &View<'_>,
-    deed: &Deed,
-    gone: &[NodeId],
-) -> Result<Changes, AllocError>
-    requires { TellsTrash view.now.tables deed.now gone.now }
-    ensures { IfOk result (λ changes. changes ≡ told_deed view.now.tables deed.now ++ told_purges (deed_done view.now.tables deed.now) gone.now) }
+/// What becomes of the rows by some deeds, one after the other.
+fn told_deeds(alloc: Global, view: &View<'_>, deeds: &[Deed]) -> Result<Changes, AllocError>
+    requires { TellsDeeds view.now.tables deeds.now }
+    ensures { IfOk result (λ changes. changes ≡ told_deeds view.now.tables deeds.now) }
 {
-    let mut changes = told_deed(alloc, view, deed)?;
-    push_all_gone(alloc, view, gone, &mut changes)?;
+    let mut changes = Changes::new(alloc);
+    for deed in deeds {
+        push_deed(alloc, view, deed, &mut changes)?;
+    }
     Ok(changes)
 }
 
-fn told_deed(alloc: Global, view: &View<'_>, deed: &Deed) -> Result<Changes, AllocError>
-    ensures { IfOk result (λ changes. changes ≡ told_deed view.now.tables deed.now) }
+/// What becomes of them by one.
+fn push_deed(
+    alloc: Global,
+    view: &View<'_>,
+    deed: &Deed,
+    changes: &mut Changes,
+) -> Result<(), AllocError>
+    ensures { OnOk result (changes.new ≡ changes.old ++ told_first view.now.tables deed.now) }
 {
     match deed {
-        Deed::Nothing => Ok(Changes::new(alloc)),
-        Deed::Discard(item) => discarded(alloc, view, item),
-        Deed::Restore { node, folder, name } => restored(alloc, view, *node, *folder, name),
-        Deed::Requote(row) => requoted(alloc, row),
+        Deed::Discard(item) => push_discarded(view, item, changes),
+        Deed::Purge(node) => push_purged(alloc, view, *node, changes),
+        Deed::Restore { node, folder, name } => {
+            changes.push(Change::Drop(RowKey::Item(*node)))?;
+            push_relinked(view, *node, *folder, name, changes)
+        }
+        Deed::Relink { node, folder, name } => push_relinked(view, *node, *folder, name, changes),
+        Deed::Join(rows) => put_all(changes, rows.rows()),
+        Deed::Requote(row) => changes.push(Change::Put(Row::User(row.clone()?))),
     }
 }
 
 /// The node of an item is in the trash, the item is there, and the shares of what is under the node are ended.
-fn discarded(alloc: Global, view: &View<'_>, item: &ItemRow) -> Result<Changes, AllocError>
-    ensures { IfOk result (λ changes. changes ≡ told_deed view.now.tables (deeds.Discard item.now)) }
+fn push_discarded(view: &View<'_>, item: &ItemRow, changes: &mut Changes) -> Result<(), AllocError>
+    ensures { OnOk result (changes.new ≡ changes.old ++ told_deed view.now.tables (deeds.Discard item.now)) }
 {
-    let mut changes = Changes::new(alloc);
-    if let Some(row) = view.tree().node(item.node) {
+    push_trashed(view, item.node, changes)?;
+    changes.push(Change::Put(Row::Item(copy_item(item)?)))?;
+    close_under(changes, view, item.node)
+}
+
+/// A node's row is put in the trash, if the node is there.
+fn push_trashed(view: &View<'_>, node: NodeId, changes: &mut Changes) -> Result<(), AllocError>
+    ensures { OnOk result (changes.new ≡ changes.old ++ told_node (node_row view.now.tables.nodes node) trashed) }
+{
+    if let Some(row) = view.tree().node(node) {
         changes.push(Change::Put(Row::Node(in_trash(row)?)))?;
     }
-    changes.push(Change::Put(Row::Item(item.clone()?)))?;
-    close_under(&mut changes, view, item.node)?;
-    Ok(changes)
+    Ok(())
 }
 
-/// A row in the trash.
-fn in_trash(row: &NodeRow) -> Result<NodeRow, AllocError>
-    ensures { IfOk result (λ moved. moved ≡ trashed row.now) }
-{
-    let mut row = copy(row)?;
-    row.place = Place::Trash;
-    Ok(row)
-}
-
-/// The item of a node is dropped, and the node's row is put in its new place.
-fn restored(
-    alloc: Global,
+/// A node's row is put in its new place, if the node is there.
+fn push_relinked(
     view: &View<'_>,
     node: NodeId,
     folder: NodeId,
     name: &Name,
-) -> Result<Changes, AllocError>
-    ensures { IfOk result (λ changes. changes ≡ told_deed view.now.tables (deeds.Restore node folder name.now)) }
-{
-    let mut changes = Changes::new(alloc);
-    changes.push(Change::Drop(RowKey::Item(node)))?;
-    if let Some(row) = view.tree().node(node) {
-        changes.push(Change::Put(Row::Node(relinked(row, folder, name)?)))?;
-    }
-    Ok(changes)
-}
-
-fn requoted(alloc: Global, row: &UserRow) -> Result<Changes, AllocError>
-    ensures { IfOk result (λ changes. changes ≡ change.Put (kinds.User row.now) ∷ []) }
-{
-    let mut changes = Changes::new(alloc);
-    changes.push(Change::Put(Row::User(row.clone()?)))?;
-    Ok(changes)
-}
-
-/// What becomes of all that goes for good, one after the other.
-fn push_all_gone(
-    alloc: Global,
-    view: &View<'_>,
-    gone: &[NodeId],
     changes: &mut Changes,
 ) -> Result<(), AllocError>
-    ensures { OnOk result (changes.new ≡ changes.old ++ flat_map (told_gone view.now.tables) gone.now) }
+    ensures { OnOk result (changes.new ≡ changes.old ++ told_node (node_row view.now.tables.nodes node) (relinked folder name.now)) }
 {
-    for node in gone {
-        push_told(alloc, view, *node, changes)?;
+    if let Some(row) = view.tree().node(node) {
+        changes.push(Change::Put(Row::Node(relinked(row, folder, name)?)))?;
     }
     Ok(())
 }
 
 /// A node goes for good with all under it, and with its item. Of what is in the trash no share is left to end, so that for an item the
 /// shares of the site aren't gone through.
-fn push_told(
+fn push_purged(
     alloc: Global,
     view: &View<'_>,
     node: NodeId,
@@ -365,6 +270,15 @@ fn push_told(
         Some(_) => push_item_gone(alloc, view, node, changes),
         None => push_gone(alloc, view, node, changes),
     }
+}
+
+/// A row in the trash.
+fn in_trash(row: &NodeRow) -> Result<NodeRow, AllocError>
+    ensures { IfOk result (λ moved. moved ≡ trashed row.now) }
+{
+    let mut row = copy(row)?;
+    row.place = Place::Trash;
+    Ok(row)
 }
 
 /// A node is dropped with all under it, and so is its item.
@@ -391,20 +305,48 @@ fn meta_after(view: &View<'_>, moment: Moment, act: &Allowed) -> MetaRow
     let meta = view.meta();
     match act {
         Allowed::Change { changes, blob, .. } => raised(meta, moment, changes.as_slice(), *blob),
-        Allowed::Copy { rows, .. } | Allowed::Cross { rows, .. } => MetaRow {
-            next_node: NodeId::new(meta.next_node.number() + rows.rows().len() as u64),
+        Allowed::Deeds { deeds, .. } => MetaRow {
+            next_node: next_node(meta.next_node, deeds.as_slice()),
             last: moment,
             ..*meta
         },
-        Allowed::Get { .. }
-        | Allowed::List(_)
-        | Allowed::Put { .. }
-        | Allowed::Trash { .. }
-        | Allowed::Move { .. }
-        | Allowed::Close => MetaRow {
+        Allowed::Get { .. } | Allowed::List(_) | Allowed::Put { .. } | Allowed::Close => MetaRow {
             last: moment,
             ..*meta
         },
+    }
+}
+
+/// The next number of a node after some deeds.
+fn next_node(next: NodeId, deeds: &[Deed]) -> NodeId
+    requires { next + nodes_joined deeds.now ≤ max next last_number }
+    ensures { result ≡ next + nodes_joined deeds.now }
+{
+    NodeId::new(next.number() + nodes_joined(deeds) as u64)
+}
+
+/// How many nodes are made by some deeds.
+fn nodes_joined(deeds: &[Deed]) -> usize
+    ensures { result ≡ nodes_joined deeds.now }
+{
+    let mut count: usize = 0;
+    for deed in deeds {
+        count = count.saturating_add(rows_joined(deed));
+    }
+    count
+}
+
+/// How many are made by one.
+fn rows_joined(deed: &Deed) -> usize
+    ensures { result ≡ rows_joined deed.now }
+{
+    match deed {
+        Deed::Join(rows) => rows.rows().len(),
+        Deed::Discard(_)
+        | Deed::Purge(_)
+        | Deed::Restore { .. }
+        | Deed::Relink { .. }
+        | Deed::Requote(_) => 0,
     }
 }
 
@@ -414,33 +356,34 @@ pub fn added_by(view: &View<'_>, act: &Allowed) -> RowCounts
 {
     match act {
         Allowed::Change { changes, .. } => added_of(view.meta().next_node, changes.as_slice()),
-        Allowed::Copy { rows, .. } | Allowed::Cross { rows, .. } => {
-            RowCounts::only_nodes(rows.rows().len())
+        Allowed::Get { .. } | Allowed::List(_) | Allowed::Put { .. } | Allowed::Close => {
+            RowCounts::only_nodes(0)
         }
-        Allowed::Get { .. }
-        | Allowed::List(_)
-        | Allowed::Put { .. }
-        | Allowed::Move { .. }
-        | Allowed::Close => RowCounts::only_nodes(0),
-        Allowed::Trash { deed, .. } => added_deed(deed),
+        Allowed::Deeds { deeds, .. } => added_deeds(deeds.as_slice()),
     }
 }
 
-/// How many rows a deed adds at most: an item of the trash, or a user.
-fn added_deed(deed: &Deed) -> RowCounts
-    ensures { result ≡ added_deed deed.now }
+/// How many rows some deeds add at most: copies, items of the trash, and a user.
+fn added_deeds(deeds: &[Deed]) -> RowCounts
+    ensures { result ≡ added_deeds deeds.now }
 {
-    match deed {
-        Deed::Nothing | Deed::Restore { .. } => RowCounts::only_nodes(0),
-        Deed::Discard(_) => RowCounts {
-            items: 1,
-            ..RowCounts::only_nodes(0)
-        },
-        Deed::Requote(_) => RowCounts {
-            users: 1,
-            ..RowCounts::only_nodes(0)
-        },
+    RowCounts {
+        items: deeds.iter().filter(|deed| discards(deed)).count(),
+        users: deeds.iter().filter(|deed| requotes(deed)).count(),
+        ..RowCounts::only_nodes(nodes_joined(deeds))
     }
+}
+
+fn discards(deed: &Deed) -> bool
+    ensures { result ≡ discards deed.now }
+{
+    matches!(deed, Deed::Discard(_))
+}
+
+fn requotes(deed: &Deed) -> bool
+    ensures { result ≡ requotes deed.now }
+{
+    matches!(deed, Deed::Requote(_))
 }
 
 /// How many rows some changes add at most: nodes of numbers that weren't given yet, and rows of the other kinds.
@@ -549,10 +492,7 @@ pub fn blob_of(act: &Allowed) -> Option<BlobId>
         Allowed::Get { .. }
         | Allowed::List(_)
         | Allowed::Put { .. }
-        | Allowed::Trash { .. }
-        | Allowed::Move { .. }
-        | Allowed::Copy { .. }
-        | Allowed::Cross { .. }
+        | Allowed::Deeds { .. }
         | Allowed::Close => None,
     }
 }
@@ -564,13 +504,9 @@ pub fn hold_of(act: &Allowed) -> Result<Option<Hold>, AllocError>
     match act {
         Allowed::Get { node, .. } => Ok(Some(beside(*node))),
         Allowed::Put { key, .. } => Ok(Some(alone(key)?)),
-        Allowed::List(_)
-        | Allowed::Change { .. }
-        | Allowed::Trash { .. }
-        | Allowed::Move { .. }
-        | Allowed::Copy { .. }
-        | Allowed::Cross { .. }
-        | Allowed::Close => Ok(None),
+        Allowed::List(_) | Allowed::Change { .. } | Allowed::Deeds { .. } | Allowed::Close => Ok(
+            None,
+        ),
     }
 }
 

@@ -1,5 +1,5 @@
 -- What a seat holds at the desk is what it was granted, and how its Begins and Ends are answered.
-use Rattle.std.proofs.Common.{◌≡◌, ◌≢◌, ◌⊎◌, inl, inr, ℕ, ◌+◌, ◌<◌, ◌≤◌, Bool, true, false, List, [], length, Result, Ok, Err, IsNone, refl, sym, ap, subst, ◌∙◌, arith}
+use Rattle.std.proofs.Common.{◌≡◌, ◌⊎◌, inl, inr, ℕ, ◌+◌, ◌<◌, ◌≤◌, Bool, true, false, List, [], length, Result, Ok, Err, IsNone, refl, sym, ap, subst, ◌∙◌, arith}
 use Rattle.std.specs.Prelude.{Option, None, Some, option_map, OnOk, MatchBool}
 use Rattle.sha2.specs.Sha256.{sha256}
 use Rattle.std.specs.Option.{IfSome}
@@ -9,7 +9,7 @@ use Rattle.nf_base.specs.declared.limits.TheConstants.{MAX_BODY, MAX_ENTRIES}
 use Rattle.nf_defs.specs.Prelude.{Access, AreRising, Tables}
 use Rattle.nf_words.specs.Prelude.{access_of, answer_at, answer_to, answered_by, blob_to, decision_of, end_refusal, ends_at, ends_goal, goal_at, IsSound, MayAsk, MayCome, MayEnd, MayWant, reply_to, State, ticket_of, unless_refused}
 use Rattle.nf_words.specs.Endings.{stored_at as stores_at}
-use Rattle.nf_words.proofs.Steps.{put_grants_nothing, reports_nothing}
+use Rattle.nf_words.proofs.Steps.{reports_nothing}
 use Rattle.nf_words.specs.declared.answer.Allowed.{Allowed}
 use Rattle.nf_words.specs.declared.answer.Allowed.TheVariants as allowed
 use Rattle.nf_words.specs.declared.answer.By.{By}
@@ -23,7 +23,7 @@ use Rattle.nf_words.specs.declared.answer.Reply.{Reply}
 use Rattle.nf_words.specs.declared.answer.Reply.TheVariants as reply
 use Rattle.nf_words.specs.declared.history.Entry.{Entry}
 use Rattle.nf_words.specs.declared.history.Event.{Event}
-use Rattle.nf_words.specs.declared.history.Event.TheVariants.{Begin, End}
+use Rattle.nf_words.specs.declared.history.Event.TheVariants.{Begin, End, Sweep}
 use Rattle.nf_words.specs.declared.history.Mark.{Mark}
 use Rattle.nf_words.specs.declared.history.Mark.TheVariants as mark
 use Rattle.nf_words.specs.declared.history.Outcome.{Outcome}
@@ -34,7 +34,7 @@ use Rattle.nf_words.specs.declared.request.Words.{Words}
 use Rattle.nf_words.proofs.Ends.{known_change}
 use Rattle.nf_words.proofs.Known.{Known}
 use Rattle.nf_words.proofs.Marks.{is_failure, never_failed}
-use Rattle.nf_words.proofs.Opens.{begins_open, bodies_open, ends_grant_nothing}
+use Rattle.nf_words.proofs.Opens.{begins_open}
 use Rattle.nf_laws.proofs.Blobs.{blobs_are_new}
 use Rattle.nf_laws.specs.Wholes.{blob_under}
 use Rattle.nf_session.specs.Book.{Answer, Begins, EndsBody, EndsEmpty, IsBook, IsOfBegin, IsOfBody, Passes, Stores, entries_wanted, event_of_body, held, is_unmade, is_unmade_by, state_after}
@@ -42,9 +42,8 @@ use Rattle.nf_session.proofs.Books.{held_is_ticket}
 use Rattle.nf_site.specs.Held.{entries_wanted as site_wanted}
 use Rattle.nf_site.specs.Kept.{Kept, IsHistory, moment_of}
 use Rattle.nf_told.specs.Told.{Told}
-use Rattle.nf_desk.specs.Desk.{IsDesk, Shown, blobs_in, book_at}
+use Rattle.nf_desk.specs.Desk.{IsDesk, Shown, blobs_in, book_at, moved, standing_in}
 use Rattle.nf_desk.specs.Stepping.{Asks, IsEmpty, Makes, Standing, Steps, entry_at, standing}
-use Rattle.nf_desk.proofs.Counting.{moved, standing_in}
 use Rattle.nf_desk.proofs.Entering.{by_step, enters, state_again, step_enters, steps_enter, waits}
 use Rattle.nf_desk.proofs.Tellings.{empty_brings, empty_steps, steps_told, told_after}
 
@@ -69,6 +68,10 @@ pub may_ask : (seat : ℕ) (a : Shown) (words : Words) (request : Request) → I
     → MayAsk a.site.state seat (Begin words request)
 may_ask seat a words request h idle wants = (no_ticket a.site.state seat (sym (held_is seat a h) ∙ idle), wants)
 
+-- or sweep
+pub may_sweep : (seat : ℕ) (a : Shown) → IsHistory a.site → held (book_at seat a) ≡ None → MayAsk a.site.state seat Sweep
+may_sweep seat a h idle = no_ticket a.site.state seat (sym (held_is seat a h) ∙ idle)
+
 -- what may end so of what the seat holds may end so of what it was granted
 pub may_end : (seat : ℕ) (a : Shown) (outcome : Outcome) → IsHistory a.site → MayEnd (held (book_at seat a)) outcome
     → MayAsk a.site.state seat (End outcome)
@@ -79,7 +82,7 @@ may_end seat a outcome h may = subst (λ (goal : Option Goal). MayEnd goal outco
 wanted_is : (seat : ℕ) (a : Shown) → IsHistory a.site → entries_wanted (book_at seat a) ≡ site_wanted a.site
 wanted_is seat a h = ap (λ (s : State). length a.site.history + length s.tickets + 2) (sym h.replayed)
 
-passes : (seat : ℕ) (a : Shown) → Passes (book_at seat a) (book_at seat a)
+pub passes : (seat : ℕ) (a : Shown) → Passes (book_at seat a) (book_at seat a)
 passes seat a = record {
   waits = waits seat a.site a.site (blobs_in a.start.told) a.told a.told (book_at seat a).strikes (book_at seat a).strikes refl refl
       (omega arith);
@@ -126,10 +129,7 @@ put_short : (t : Tables) (now : ℕ) (act : Allowed) (by : By) (key : LockKey) (
 put_short t now (allowed.Put other lock length) by key size known is =
     let same : length ≡ size = cc in subst (λ (n : ℕ). n ≤ MAX_BODY) same known.short
 put_short t now (allowed.Change changes blob report) by key size known is = absurd (reports_nothing report (Store by key size) is)
-put_short t now (allowed.Trash did gone report) by key size known is = absurd (reports_nothing report (Store by key size) is)
-put_short t now (allowed.Move transfer name) by key size known is = absurd (put_grants_nothing transfer.replaced (Store by key size) is)
-put_short t now (allowed.Copy rows replaced) by key size known is = absurd (put_grants_nothing replaced (Store by key size) is)
-put_short t now (allowed.Cross rows replaced node) by key size known is = absurd (put_grants_nothing replaced (Store by key size) is)
+put_short t now (allowed.Deeds deeds report) by key size known is = absurd (reports_nothing report (Store by key size) is)
 put_short t now other by key size known is = absurd (cc)
 
 ok_same : (x y : Reply) → ◌≡◌ {A = Answer} (Ok x) (Ok y) → x ≡ y
@@ -163,7 +163,7 @@ begin_answer seat k now words request mark.Answered answer sound may is = record
 begin_answer seat k now words request mark.Store answer sound may is = subst BeginAnswer (sym is) (record { made = refl; answered = tt })
 begin_answer seat k now words request mark.Memory answer sound may is = absurd may.marked
 
-match_false : (P Q : Type 0) (b : Bool) → b ≡ false → Q → MatchBool b P Q
+pub match_false : (P Q : Type 0) (b : Bool) → b ≡ false → Q → MatchBool b P Q
 match_false P Q b is q = subst (λ (c : Bool). MatchBool c P Q) (sym is) q
 
 begins_made : (seat : ℕ) (a : Shown) (b : Standing) (now : ℕ) (words : Words) (request : Request) (answer : Answer) → IsHistory a.site

@@ -17,7 +17,7 @@ use Rattle.nf_words.specs.Prelude.{access_of, after_mark, blob_to, changes_by, c
 use Rattle.nf_words.specs.declared.answer.Goal.{Goal}
 use Rattle.nf_words.specs.declared.history.Entry.{Entry}
 use Rattle.nf_words.specs.declared.history.Event.{Event}
-use Rattle.nf_words.specs.declared.history.Event.TheVariants.{Begin, End}
+use Rattle.nf_words.specs.declared.history.Event.TheVariants.{Begin, End, Sweep}
 use Rattle.nf_words.specs.declared.history.Mark.{Mark}
 use Rattle.nf_words.specs.declared.history.Mark.TheVariants as mark
 use Rattle.nf_words.specs.declared.history.Outcome.{Outcome}
@@ -126,6 +126,7 @@ steps_told seat a b now event body answer sound steps =
 failed_tables : (s : State) (by now : ℕ) (event : Event) → (failed s by now event).tables ≡ s.tables
 failed_tables s by now (Begin words request) = refl
 failed_tables s by now (End outcome) = refl
+failed_tables s by now Sweep = refl
 
 -- each row after the entry has a spelling, and the rows that are told are those
 record FollowsRows (s : State) (e : Entry) (m : Mark) : Type 0 where

@@ -14,6 +14,7 @@ use Rattle.nf_site.specs.Held.{Held}
 use Rattle.nf_site.specs.Kept.{IsHistory, Kept}
 use Rattle.nf_told.specs.Told.{AreFit, Told, told_of}
 use Rattle.nf_turn.specs.Book.{AddsAlone, Meanings, Shelf}
+use Rattle.nf_desk.specs.Stepping.{Standing, standing}
 use Rattle.nf_words.specs.Prelude.{opened, replay}
 use Rattle.nf_words.specs.declared.history.Entry.{Entry}
 use Rattle.nf_words.specs.declared.history.Mark.{Mark}
@@ -53,6 +54,14 @@ shown k desk = record {
   strikes = desk.strikes;
   start = tale k desk.start.value;
 }
+
+-- the site, what the keeper tells, and how often it failed
+abbrev pub standing_in : Shown → Standing
+standing_in a = standing a.site a.told a.faults
+
+-- the same desk with these behind a step
+abbrev pub moved : Shown → Standing → Shown
+moved a b = record a { site = b.site; told = b.told; faults = b.faults }
 
 -- ---- failures of the keeper
 

@@ -80,6 +80,10 @@ pub record FindsNone (a b : Standing) (answer : Answer) : Type 0 where
   pub why : ((answer ≡ Err denial.RunFull) × (MAX_ENTRIES < entries_wanted a.site))
       ⊎ ((answer ≡ Err denial.Memory) × (entries_wanted a.site ≤ MAX_ENTRIES))
 
--- the step of the Begin was made, or nothing was done
+-- the step of what a seat begins was made, or nothing was done
+abbrev pub Starts : ℕ → Standing → Standing → ℕ → Event → Answer → Type 0
+Starts seat a b now event answer = Steps seat a b now event [] answer ⊎ FindsNone a b answer
+
+-- that of a request
 abbrev pub Asks : ℕ → Standing → Standing → ℕ → Words → Request → Answer → Type 0
-Asks seat a b now words request answer = Steps seat a b now (Begin words request) [] answer ⊎ FindsNone a b answer
+Asks seat a b now words request answer = Starts seat a b now (Begin words request) answer

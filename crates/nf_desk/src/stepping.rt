@@ -2,7 +2,7 @@
 
 ghost use Rattle.std.specs.Prelude.{◌≡◌, ◌≢◌, [], All, IfOk, OnOk, OnErr};
 ghost use Rattle.sha2.specs.Sha256.{sha256};
-ghost use Rattle.nf_desk.specs.Stepping.{Asks, IsEmpty, Makes, Steps, standing, stored_by, told_by};
+ghost use Rattle.nf_desk.specs.Stepping.{Asks, IsEmpty, Makes, Starts, Steps, standing, stored_by, told_by};
 ghost use Rattle.nf_keeper.specs.Keeping.{Counts};
 ghost use Rattle.nf_keeper.specs.Views.{stored_in};
 ghost use Rattle.nf_session.specs.Book.{event_of_body};
@@ -32,16 +32,32 @@ pub(crate) fn begin<K: Keeper>(
     ensures { Asks seat (standing site.old.kept (K.told keeper.old) (K.faults keeper.old))
         (standing site.new.kept (K.told keeper.new) (K.faults keeper.new)) now words request result }
 {
+    start(
+        alloc,
+        site,
+        keeper,
+        seat,
+        now,
+        Event::Begin { words, request },
+    )
+}
+
+/// What a seat begins. Where the run has no room for it or there is no memory, nothing is done.
+#[tactic(auto, using(crate::proofs::Turns::any_room))]
+pub(crate) fn start<K: Keeper>(
+    alloc: Global,
+    site: &mut Site,
+    keeper: &mut K,
+    seat: u64,
+    now: Moment,
+    event: Event,
+) -> Answer
+    requires { MayAsk site.old.kept.state seat event }
+    ensures { Starts seat (standing site.old.kept (K.told keeper.old) (K.faults keeper.old))
+        (standing site.new.kept (K.told keeper.new) (K.faults keeper.new)) now event result }
+{
     match site.room() {
-        Ok(()) => match step(
-            alloc,
-            site,
-            keeper,
-            seat,
-            now,
-            Event::Begin { words, request },
-            &[],
-        ) {
+        Ok(()) => match step(alloc, site, keeper, seat, now, event, &[]) {
             Ok(answer) => answer,
             Err(AllocError) => Err(Denial::Memory),
         },

@@ -1,11 +1,13 @@
 -- What a DELETE, a MKCOL and a PUT change, a MOVE of a mount, and what is asked about the trash.
-use Rattle.std.proofs.Common.{max, ℕ, ◌+◌, ◌-◌, option_map, ◌==◌, ◌&&◌, ◌≡◌, ◌<◌, Bool, true, false, not, List, [], ◌∷◌, ◌++◌, Option, None, Some, Result, Ok, if◌then◌else◌, length, get_or, map, slice_get, unwrap_or, inl, inr, refl, sym, ap, subst, ◌∙◌, arith, length-append}
-use Rattle.std.specs.Prelude.{IsOk}
-use Rattle.std.specs.List.{All}
+use Rattle.std.proofs.Common.{find, max, ℕ, ◌+◌, ◌≤◌, zero, suc, ◌-◌, option_map, ◌==◌, ◌&&◌, ◌≡◌, ◌<◌, Bool, true, false, not, List, [], ◌∷◌, ◌++◌, Option, None, Some, Result, Ok, if◌then◌else◌, length, get_or, map, slice_get, unwrap_or, inl, inr, refl, sym, ap, subst, ◌∙◌, arith, length-append}
+use Rattle.std.specs.Prelude.{is_some, IsOk}
+use Rattle.std.specs.List.{All, Contains, flat_map}
+use Rattle.nf_defs.proofs.ByName.{Contains-filter}
+use Rattle.nf_defs.proofs.Walks.{Contains-from_flat}
 use Rattle.std.specs.Option.{IfSome, option_map_or}
 use Rattle.std.proofs.Math.Seq.{get_or-append_seam}
 use Rattle.std.proofs.lemmas.Bool.{and_parts, cases_Bool, eqb-true, ne_eqb, not-true}
-use Rattle.std.proofs.lemmas.List.Elements.{All-cons, All-weaker}
+use Rattle.std.proofs.lemmas.List.Elements.{All-cons, All-contains, All-contains_itself, All-weaker, Contains-append_left, Contains-append_right}
 use Rattle.std.proofs.lemmas.Option.{unwrap_or-slice_get}
 use Rattle.nf_access.specs.Mounts.{mount_row}
 use Rattle.nf_base.specs.Content.{content_eq}
@@ -25,39 +27,46 @@ use Rattle.nf_defs.specs.declared.Found.{Found}
 use Rattle.nf_defs.specs.declared.Found.TheVariants.{At, Free, Missing}
 use Rattle.nf_defs.specs.declared.Seeker.{Seeker}
 use Rattle.nf_defs.specs.declared.Seeker.TheVariants.{Link, User}
-use Rattle.nf_laws.proofs.Discarding.{beside_own, discard_rows, emptied_own}
+use Rattle.nf_laws.proofs.Acted.{NoNode}
+use Rattle.nf_laws.proofs.Carried.{Kind, leaving_kind, under_alone}
+use Rattle.nf_laws.proofs.Departed.{have_left, kind_changed, others_after, rest_after, unstamped}
+use Rattle.nf_laws.proofs.Discarding.{beside_own, emptied_own}
 use Rattle.nf_laws.proofs.Entries.{step_changed}
 use Rattle.nf_laws.proofs.Going.{item_is}
 use Rattle.nf_laws.proofs.Puts.{put_other}
 use Rattle.nf_laws.proofs.Paths.{found_free, found_leads}
 use Rattle.nf_laws.proofs.Reading.{none_refused}
-use Rattle.nf_laws.proofs.Restoring.{emptied_rows, node_among, own_named, restored_rows}
-use Rattle.nf_laws.proofs.Rows.{finds_none, row_id, row_is}
+use Rattle.nf_laws.proofs.Restoring.{node_among, own_named, restored_rows, taken_rows}
+use Rattle.nf_laws.proofs.Parts.{leaving_stamped}
+use Rattle.nf_laws.proofs.Rows.{finds_none, found_is, row_id, row_is, stamp}
+use Rattle.nf_laws.proofs.Others.{stamp_sound}
 use Rattle.nf_laws.specs.Access.{LeadsBy}
-use Rattle.nf_laws.specs.Acts.{DeletesKeep, DropsKeep, EmptyingKeeps, FoldersAreMade, IsAdded, IsDeleted, IsEmptied, IsFolderMade, IsItemOf, IsMountChanged, IsPut, IsRefilled, IsRestored, ItemsComeBack, LeadsToKeyBy, MountsAreLeft, MountsAreRenamed, PutsAreGranted, PutsKeep}
+use Rattle.nf_laws.specs.Acts.{AreTaken, DeletesKeep, DropsKeep, EmptyingKeeps, FoldersAreMade, IsAdded, IsDeleted, IsFolderMade, IsItemOf, IsMountChanged, IsPut, IsRefilled, IsRestored, ItemsComeBack, LeadsToKeyBy, MountsAreLeft, MountsAreRenamed, PutsAreGranted, PutsKeep, SweepsTake}
 use Rattle.nf_laws.specs.Reads.{LeadsToKey}
 use Rattle.nf_laws.specs.Walks.{LeadsToFree}
-use Rattle.nf_words.proofs.Begins.{only_at, places_at}
+use Rattle.nf_words.proofs.Begins.{delete_leaves, only_at, places_at, wanted_passes, WantedPasses}
 use Rattle.nf_words.proofs.Bodies.{content_decides}
 use Rattle.nf_words.proofs.Ends.{known_change, goal_held}
 use Rattle.nf_words.proofs.Fits.{newest, put_found}
 use Rattle.nf_words.proofs.Found.{free_known, last_more, last_of}
-use Rattle.nf_words.proofs.Known.{Known}
+use Rattle.nf_words.proofs.Known.{Known, KnownLeaving}
 use Rattle.nf_words.proofs.Mounting.{IsOwnMount, mount_found, mount_left_so, not_mount, own_known}
 use Rattle.nf_words.proofs.Passing.{call_passes, Passes, place_passes, PlacePasses}
 use Rattle.nf_words.proofs.Starts.{has_asker, itself_asker, row_of_caller}
-use Rattle.nf_words.proofs.Ways.{node_present, way_there}
-use Rattle.nf_words.specs.Prelude.{access_of, allowed_of, answered_by, AreSound, asked_of, asker_of, behind, blob_after, blob_for, by_of, Call, call_decision, call_of, changed, content_in, decision_of, deleted, discard, end_refusal, ends_at, exists_rule, found, given, gone_beside, IsHeld, IsStorable, item_dropped, item_restored, items_of, last_name, LeadsToRoot, left_row, made_folder, makes, MayAsk, MayEnd, mount_left, mount_of, mount_renamed, moved, named_row, named_rule, new_node, node_at, nothing_done, own_mount, refilled, refusal_of, root_of, seeker_of, source_lost, stored, stored_at, stores, taken, target_lost, transfer_of, unnamed_by, untrashed, user_of, way_by, way_of, with_mount_row}
+use Rattle.nf_words.proofs.Sweeping.{gone_owned, swept_goes}
+use Rattle.nf_words.proofs.Trashing.{back_known, dropped_goes, emptied_goes}
+use Rattle.nf_words.proofs.Ways.{way_there}
+use Rattle.nf_words.specs.Prelude.{access_of, allowed_of, answered_by, AreSound, asked_of, asker_of, behind, beside, blob_after, blob_for, by_of, Call, call_decision, call_of, changed, content_in, decision_of, deleted, discard, deeds_done, done, end_refusal, ends_at, exists_rule, found, given, gone_beside, gone_from, IsHeld, IsStorable, item_dropped, item_restored, items_of, last_name, left_row, made_folder, makes, MayAsk, MayEnd, mount_left, mount_of, mount_renamed, moved, named_row, named_rule, new_node, node_at, nothing_done, own_mount, owners_of, purges, refilled, refusal_of, root_of, seeker_of, row_at, source_lost, stored, stored_at, stores, swept, taken, target_lost, transfer_of, unnamed_by, untrashed, user_of, way_by, way_of, with_mount_row}
 use Rattle.nf_words.specs.declared.answer.Allowed.{Allowed}
 use Rattle.nf_words.specs.declared.answer.Allowed.TheVariants as allowed
-use Rattle.nf_words.specs.declared.answer.Deed.TheVariants as deed
+use Rattle.nf_words.specs.declared.answer.Deed.{Deed}
 use Rattle.nf_words.specs.declared.answer.Denial.{Denial}
 use Rattle.nf_words.specs.declared.answer.Goal.{Goal}
 use Rattle.nf_words.specs.declared.answer.LockKey.{LockKey}
 use Rattle.nf_words.specs.declared.answer.LockKey.TheVariants.{Node, Slot}
 use Rattle.nf_words.specs.declared.answer.Report.{Report}
-use Rattle.nf_words.specs.declared.answer.Report.TheVariants.{Done, Made}
-use Rattle.nf_words.specs.declared.history.Event.TheVariants.{Begin, End}
+use Rattle.nf_words.specs.declared.answer.Report.TheVariants.{Done, Made, Plain}
+use Rattle.nf_words.specs.declared.history.Event.TheVariants.{Begin, End, Sweep}
 use Rattle.nf_words.specs.declared.history.Outcome.TheVariants.{Body}
 use Rattle.nf_words.specs.declared.request.Making.TheVariants as making
 use Rattle.nf_words.specs.declared.request.Spot.{Spot}
@@ -69,25 +78,25 @@ use Rattle.nf_words.specs.declared.request.Wanted.TheVariants as wanted
 -- ---- a call that isn't refused
 
 -- may do what is given, and passes the rules
-accepted : (call : Call) → IsOk (answered_by (call_decision call))
+pub accepted : (call : Call) → IsOk (answered_by (call_decision call))
     → (call_decision call ≡ Ok (allowed_of (access_of call.state) call)) × Passes (access_of call.state) call
 accepted call ok =
     let access = access_of call.state in
     let is = none_refused (refusal_of access call) (allowed_of access call) ok in (is, (call_passes call (allowed_of access call) is).0)
 
 -- what it may do is what is given for what it wants
-given_for : (call : Call) (wanted : Wanted) → call.request.wanted ≡ wanted
+pub given_for : (call : Call) (wanted : Wanted) → call.request.wanted ≡ wanted
     → allowed_of (access_of call.state) call ≡ given (access_of call.state) call (places_at call wanted) wanted
 given_for call wanted asked = ap (λ (w : Wanted). given (access_of call.state) call (places_at call w) w) asked
 
 -- and what it passes of the places is what is asked of them
-placed : (call : Call) (wanted : Wanted) → call.request.wanted ≡ wanted → Passes (access_of call.state) call
+pub placed : (call : Call) (wanted : Wanted) → call.request.wanted ≡ wanted → Passes (access_of call.state) call
     → PlacePasses (access_of call.state) call (asked_of wanted)
 placed call wanted asked passes =
     subst (λ (w : Wanted). PlacePasses (access_of call.state) call (asked_of w)) asked (place_passes (access_of call.state) call passes.place)
 
 -- what is asked for is there, where no rule refuses the place
-there_at : (place : Found) → source_lost place ≡ None → (node : ℕ) × (place ≡ At node)
+pub there_at : (place : Found) → source_lost place ≡ None → (node : ℕ) × (place ≡ At node)
 there_at (At node) none = (node, refl)
 there_at (Free folder) none = absurd (cc)
 there_at (Missing depth) none = absurd (cc)
@@ -101,7 +110,7 @@ module _ (call : Call) (spot : Spot) (sound : AreSound call.state.tables) where
   abbrev lead : Option ℕ → Found
   lead mount = (way_by t.nodes (seeker_of call) (root_of call) spot.path mount).place
 
-  leads_by : (node : ℕ) → found call spot ≡ At node → LeadsBy call spot (mount_of call spot) node
+  pub leads_by : (node : ℕ) → found call spot ≡ At node → LeadsBy call spot (mount_of call spot) node
   leads_by node is = here (mount_of call spot) is
     where
       here : (mount : Option ℕ) → lead mount ≡ At node → LeadsBy call spot mount node
@@ -131,7 +140,7 @@ module _ (call : Call) (spot : Spot) (sound : AreSound call.state.tables) where
   rest_of (User user) (first ∷ []) mount folder leads = absurd (cc)
   rest_of (User user) (first ∷ second ∷ rest) mount folder leads = sym (last_more first second rest)
 
-  frees_by : (folder : ℕ) → found call spot ≡ Free folder
+  pub frees_by : (folder : ℕ) → found call spot ≡ Free folder
       → LeadsToKeyBy call spot (mount_of call spot) (Slot folder (last_name spot)) × (is_folder t.nodes folder ≡ true)
       × (child_of t.nodes folder (last_name spot) ≡ None)
   frees_by folder is = here (mount_of call spot) is
@@ -167,8 +176,41 @@ asks_is call spot passes itself =
 
 -- ---- DELETE
 
+-- a node leaves its place, and what goes beside it
+deleted_rows : (call : Call) (spot : Spot) (row : NodeRow) → AreSound call.state.tables → call.state.tables.meta.last ≤ call.now
+    → KnownLeaving call.state.tables row → LeadsBy call spot (mount_of call spot) row.id
+    → IsDeleted call spot (changed call.state.tables call.now (done (discard call.state.tables call.now row ∷ beside call.state.tables call.now row) Done))
+deleted_rows call spot row sound later known led =
+    subst (λ (made : Tables). IsDeleted call spot made) (sym (kind_changed t call.now deeds _ _ _ _ Done sound later kind)) (record {
+      top = row.id;
+      led = led;
+      tops = kind.gone;
+      left = unstamped t made call.now call.now (row.id ∷ []) kind.gone (have_left all call.now deeds _ _ _ _ fine kind);
+      others = λ node off other.
+          others_after all call.now deeds _ _ _ _ fine kind node (λ none. none) (λ one. off (under_alone t.nodes row.id node one)) other;
+      rest = rest_after all call.now deeds _ _ _ _ fine kind;
+    })
+  where
+    t : Tables
+    t = call.state.tables
+
+    all : Tables
+    all = stamp t call.now
+
+    fine : AreSound all
+    fine = stamp_sound t call.now sound later
+
+    deeds : List Deed
+    deeds = discard t call.now row ∷ beside t call.now row
+
+    kind : Kind all call.now deeds (row.id ∷ []) NoNode (λ u. Unit {0}) all.meta
+    kind = leaving_kind all call.now fine refl row (leaving_stamped t call.now row known)
+
+    made : Tables
+    made = deeds_done (deeds_done all (kind.one ∷ kind.more)) (purges kind.gone)
+
 pub deletes_keep : DeletesKeep
-deletes_keep s seat now words request spot sound may asked other ok =
+deletes_keep s seat now words request spot sound seen may asked other ok =
     let call = call_of s seat now words request in
     let t = s.tables in
     let is = accepted call ok in
@@ -176,19 +218,21 @@ deletes_keep s seat now words request spot sound may asked other ok =
     let at = there_at (found call spot) places.there in
     let asker = has_asker call is.1.token places.linked in
     let row = way_there call spot sound.rows asker at.0 (places.source other) at.1 in
-    let act = discard t now row.0 in
-    let gives : allowed_of (access_of s) call ≡ act =
+    let gives : allowed_of (access_of s) call ≡ done (discard t now row.0 ∷ beside t now row.0) Done =
     given_for call (wanted.Delete spot) asked
     ∙ ap (λ (b : Bool). if b then mount_left call (way_of call spot) else deleted t now (node_at (only_at b (found call spot)).source)) other
     ∙ ap (λ (place : Found). deleted t now (node_at (Some place))) at.1
-    ∙ ap (λ (o : Option NodeRow). option_map_or (discard t now) o nothing_done) row.1 in
-    let decides : decision_of s seat now (Begin words request) ≡ Ok act = is.0 ∙ ap (λ (a : Allowed). Ok a) gives in
-    let id : at.0 ≡ row.0.id = sym (row_id t.nodes at.0 row.0 row.1) in
-    subst (λ (made : Tables). IsDeleted call spot made) (sym (step_changed s seat now (Begin words request) act decides))
-    (discard_rows call spot row.0 sound.rows (ap (node_row t.nodes) (sym id) ∙ row.1)
-    (subst (LeadsToRoot t.nodes) id (node_present call spot sound.rows asker at.0 (places.source other) at.1))
-    (subst (LeadsBy call spot (mount_of call spot)) id (leads_by call spot sound.rows at.0 at.1))
-    (known_change s seat now (Begin words request) act sound may decides))
+    ∙ ap (λ (o : Option NodeRow). done (option_map_or (λ row. discard t now row ∷ []) o [] ++ option_map_or (beside t now) o []) Done) row.1 in
+    let p = subst (WantedPasses call) asked (wanted_passes call may.1 is.1) in
+    let known =
+    delete_leaves call sound.rows asker spot (way_of call spot).itself p.place.source p.fits row.0
+    (ap (λ (b : Bool). row_at t (node_at (only_at b (found call spot)).source)) other ∙ ap (λ (place : Found). row_at t (node_at (Some place))) at.1 ∙ row.1) in
+    let decides : decision_of s seat now (Begin words request) ≡ Ok (done (discard t now row.0 ∷ beside t now row.0) Done) =
+    is.0 ∙ ap (λ (a : Allowed). Ok a) gives in
+    subst (λ (made : Tables). IsDeleted call spot made)
+    (sym (step_changed s seat now (Begin words request) (done (discard t now row.0 ∷ beside t now row.0) Done) decides))
+    (deleted_rows call spot row.0 sound.rows (omega (arith, sound.seen, seen)) known
+    (subst (LeadsBy call spot (mount_of call spot)) (sym (row_id t.nodes at.0 row.0 row.1)) (leads_by call spot sound.rows at.0 at.1)))
 
 -- ---- what is asked about the trash
 
@@ -209,15 +253,17 @@ drops_keep s seat now words request user item sound may asked ok =
     let gives : allowed_of (access_of s) call ≡ act =
     given_for call (wanted.Trash (trash.Drop user item)) asked ∙ ap (λ (o : Option ItemRow). option_map_or (item_dropped t now) o nothing_done) own.1 in
     let decides : decision_of s seat now (Begin words request) ≡ Ok act = is.0 ∙ ap (λ (a : Allowed). Ok a) gives in
-    let known = known_change s seat now (Begin words request) act sound may decides in
     let id = (item_is t item sound.rows own.0 own.2).0 in
     let theirs : All (IsItemOf t (asker_of call)) tops =
     All-cons (IsItemOf t (asker_of call)) own.0.node (gone_beside t now own.0) (own.0, ap (item_row t.items) id ∙ own.2, own.3)
     (subst (λ (user : ℕ). All (IsItemOf t user) (gone_beside t now own.0)) own.3 (beside_own t now own.0 sound.rows)) in (
       tops,
       (0, omega arith, id),
-      subst (λ (made : Tables). IsEmptied call made tops) (sym (step_changed s seat now (Begin words request) act decides))
-          (emptied_rows call tops Done sound.rows theirs known.once),
+      (
+        theirs,
+        subst (λ (made : Tables). AreTaken t made tops) (sym (step_changed s seat now (Begin words request) act decides))
+            (taken_rows t now tops Done sound.rows (dropped_goes t sound.rows now own.0 (ap is_some (theirs 0 0 (omega arith)).1))),
+      ),
     )
 
 pub emptying_keeps : EmptyingKeeps
@@ -226,14 +272,16 @@ emptying_keeps s seat now words request user sound may asked ok =
     let t = s.tables in
     let is = accepted call ok in
     let tops = map (λ (item : ItemRow). item.node) (items_of t (asker_of call)) in
-    let act = allowed.Trash deed.Nothing tops Done in
+    let act = done (purges tops) Done in
     let decides : decision_of s seat now (Begin words request) ≡ Ok act =
-    is.0 ∙ ap (λ (a : Allowed). Ok a) (given_for call (wanted.Trash (trash.Empty user)) asked) in
-    let known = known_change s seat now (Begin words request) act sound may decides in (
+    is.0 ∙ ap (λ (a : Allowed). Ok a) (given_for call (wanted.Trash (trash.Empty user)) asked) in (
       tops,
       λ item among own. node_among (asker_of call) t.items item among own,
-      subst (λ (made : Tables). IsEmptied call made tops) (sym (step_changed s seat now (Begin words request) act decides))
-          (emptied_rows call tops Done sound.rows (emptied_own t (asker_of call) sound.rows) known.once),
+      (
+        emptied_own t (asker_of call) sound.rows,
+        subst (λ (made : Tables). AreTaken t made tops) (sym (step_changed s seat now (Begin words request) act decides))
+            (taken_rows t now tops Done sound.rows (emptied_goes t sound.rows (asker_of call))),
+      ),
     )
 
 pub items_come_back : ItemsComeBack
@@ -248,13 +296,59 @@ items_come_back s seat now words request user node sound may asked ok =
     let gives : allowed_of (access_of s) call ≡ act =
     given_for call (wanted.Trash (trash.Restore user node)) asked ∙ ap (λ (o : Option ItemRow). option_map_or (item_restored t now) o nothing_done) own.1 in
     let decides : decision_of s seat now (Begin words request) ≡ Ok act = is.0 ∙ ap (λ (a : Allowed). Ok a) gives in
-    let known = known_change s seat now (Begin words request) act sound may decides in
+    let p = subst (WantedPasses call) asked (wanted_passes call may.1 is.1) in
+    let back = back_known t sound.rows now (asker_of call) node item own.1 p.few in
     let id = (item_is t node sound.rows item own.2).0 in
     subst (λ (made : Tables). IsRestored call node made) (sym (step_changed s seat now (Begin words request) act decides))
     (subst (λ (n : ℕ). IsRestored call n (changed t now act)) id
-    (restored_rows call item gone sound.rows (ap (item_row t.items) id ∙ own.2) known.known own.3
+    (restored_rows call item gone sound.rows (ap (item_row t.items) id ∙ own.2) back.restore own.3
     (subst (λ (user : ℕ). All (IsItemOf t user) gone) own.3 (beside_own t now item sound.rows))
-    (λ k d within same. known.stays k d within (ap Some same)) known.once))
+    back.others back.goes.once))
+
+-- ---- a sweep
+
+-- what is found is among them
+found_among : (test : ItemRow → Bool) (items : List ItemRow) (item : ItemRow) → find test items ≡ Some item → Contains items item
+found_among test items item is = (found_is (Contains items) test items item (All-contains_itself items) is).1
+
+-- whose item it is is among the owners of items
+owner_among : (items : List ItemRow) (item : ItemRow) → Contains items item → Contains (owners_of items) item.owner
+owner_among [] item (k, within, is) = absurd (omega (arith, within))
+owner_among (first ∷ items) item (zero, within, is) = (0, omega arith, ap (λ (row : ItemRow). row.owner) is)
+owner_among (first ∷ items) item (suc k, within, is) =
+    let rest = owner_among items item (k, omega (arith, within), is) in
+    elim (cases_Bool (item.owner == first.owner)) [
+      | inl same ↦ (0, omega arith, sym (eqb-true item.owner first.owner same))
+      | inr other ↦
+          (let kept = Contains-filter (λ (user : ℕ). not (user == first.owner)) (owners_of items) item.owner rest (ap not other) in
+          (suc kept.0, omega (arith, kept.1), kept.2))
+    ]
+
+-- what is in a list is in the lists of all
+flat_has : (f : ℕ → List ℕ) (xs : List ℕ) (x y : ℕ) → Contains xs x → Contains (f x) y → Contains (flat_map f xs) y
+flat_has f [] x y (k, within, is) has = absurd (omega (arith, within))
+flat_has f (first ∷ xs) x y (zero, within, is) has =
+    Contains-append_left (f first) (flat_map f xs) y (subst (λ (n : ℕ). Contains (f n) y) (sym is) has)
+flat_has f (first ∷ xs) x y (suc k, within, is) has =
+    Contains-append_right (f first) (flat_map f xs) y (flat_has f xs x y (k, omega (arith, within), is) has)
+
+pub sweeps_take : SweepsTake
+sweeps_take s seat now sound =
+    let t = s.tables in
+    let tops = flat_map (gone_from t now) (owners_of t.items) in (
+      tops,
+      λ node. (
+        λ among.
+            let of = Contains-from_flat (gone_from t now) (owners_of t.items) node among in
+            let item = All-contains (IsItemOf t of.0) (gone_from t now of.0) node (gone_owned t sound.rows now of.0) of.2 in
+            (item.0, item.1, subst (λ (user : ℕ). Contains (gone_from t now user) node) (sym item.2) of.2),
+        λ is.
+            flat_has (gone_from t now) (owners_of t.items) is.0.owner node
+            (owner_among t.items is.0 (found_among (λ (item : ItemRow). item.node == node) t.items is.0 is.1)) is.2,
+      ),
+      subst (λ (made : Tables). AreTaken t made tops) (sym (step_changed s seat now Sweep (swept t now) refl))
+          (taken_rows t now tops Plain sound.rows (swept_goes t sound.rows now)),
+    )
 
 -- ---- a mount itself
 

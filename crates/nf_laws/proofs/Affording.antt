@@ -1,28 +1,29 @@
 -- What a Begin that no rule refuses may do passes no quota.
-use Rattle.std.proofs.Common.{ℕ, ◌==◌, ◌≡◌, Bool, true, false, not, List, [], ◌∷◌, filter, Option, None, Some, Ok, if◌then◌else◌, refl, sym, subst}
-use Rattle.std.specs.List.{list_any}
+use Rattle.std.proofs.Common.{ℕ, ◌==◌, ◌≡◌, ◌≤◌, Bool, true, false, List, [], ◌∷◌, ◌++◌, map, Option, None, Some, Ok, if◌then◌else◌, inl, refl, sym, ap, subst, ◌∙◌}
 use Rattle.std.specs.Option.{option_and_then, option_map_or}
 use Rattle.std.proofs.lemmas.Bool.{cond_both, eqb-true}
 use Rattle.nf_base.specs.declared.rows.ItemRow.{ItemRow}
-use Rattle.nf_base.specs.declared.rows.NodeRow.{NodeRow}
 use Rattle.nf_base.specs.declared.rows.ShareRow.{ShareRow}
 use Rattle.nf_base.specs.declared.rows.UserRow.{UserRow}
-use Rattle.nf_defs.specs.Prelude.{content_of, is_folder, item_row, node_row, Tables}
+use Rattle.nf_defs.specs.Prelude.{content_of, is_folder, item_row, Tables, user_row}
 use Rattle.nf_defs.specs.declared.Found.{Found}
 use Rattle.nf_defs.specs.declared.Found.TheVariants.{At, Free, Missing}
+use Rattle.nf_laws.proofs.Recharged.{besides_lower, copies_keep, crossing_keep, discards_lower, KeepsCharge, lower_append, lower_keeps, moves_keep, purges_lower, requoted_charge, restored_keeps, then_keeps}
 use Rattle.nf_words.proofs.Begins.{only_at, places_at, wanted_passes, WantedPasses}
+use Rattle.nf_words.proofs.Fits.{within}
 use Rattle.nf_words.proofs.Found.{found_passes}
 use Rattle.nf_words.proofs.Known.{KnownCopies}
 use Rattle.nf_words.proofs.Passing.{call_passes, no_excess, place_passes}
+use Rattle.nf_words.proofs.Provided.{row_there}
 use Rattle.nf_words.proofs.Starts.{has_asker, IsAsking}
-use Rattle.nf_words.proofs.Transfers.{copies_known}
+use Rattle.nf_words.proofs.Transfers.{copies_known, transfer_known}
 use Rattle.nf_words.proofs.Trashing.{own_there}
-use Rattle.nf_words.specs.Prelude.{access_of, AreSound, asked_of, asked_of_trash, asker_of, by_of, Call, call_decision, carry_excess, carry_limit, copied, copies_to, copy_excess, copy_limit, crosses, deleted, discard, exceeded, found, given, gone_of, IsSound, item_dropped, item_for, item_if_of, item_restored, items_of, last_name, limited, listing_of, made_folder, MayWant, mount_left, mount_renamed, moved, move_limit, node_at, nothing_done, offered, own_item, people_done, perms_after, quota_of, quota_rule, requoted, restore_excess, root_of, row_named, served, shared, share_ended, share_made, share_set, share_shown, share_steered, share_told, stored, transfer_of, trash_done, unfit_between, unreached, until_after, way_of}
+use Rattle.nf_words.specs.Prelude.{access_of, AreSound, asked_of, asked_of_trash, asker_of, besides, by_of, Call, call_decision, carry_excess, carry_limit, copied, copy_excess, copy_limit, crosses, crossing, deed_done, deeds_done, deepest_in, deleted, discards, exceeded, found, given, gone_beside, gone_of, home_of, IsSound, item_dropped, item_if_of, item_restored, items_of, last_name, limited, listing_of, made_folder, MayWant, mount_left, mount_renamed, moved, move_limit, moves, name_back, node_at, nothing_done, offered, own_item, people_done, perms_after, purges, quota_rule, requoted, restored, restore_excess, root_of, row_named, served, shared, share_ended, share_made, share_set, share_shown, share_steered, share_told, stored, transfer_of, trash_done, unfit_between, unreached, until_after, way_of}
 use Rattle.nf_words.specs.declared.answer.Allowed.{Allowed}
 use Rattle.nf_words.specs.declared.answer.Allowed.TheVariants as allowed
 use Rattle.nf_words.specs.declared.answer.By.{By}
-use Rattle.nf_words.specs.declared.answer.Deed.{Deed}
 use Rattle.nf_words.specs.declared.answer.Deed.TheVariants as deed
+use Rattle.nf_words.specs.declared.answer.Report.{Report}
 use Rattle.nf_words.specs.declared.answer.Report.TheVariants as report
 use Rattle.nf_words.specs.declared.request.Making.TheVariants as making
 use Rattle.nf_words.specs.declared.request.PeopleAsk.{PeopleAsk}
@@ -37,27 +38,15 @@ use Rattle.nf_words.specs.declared.request.TrashAsk.TheVariants as trash
 use Rattle.nf_words.specs.declared.request.Wanted.{Wanted}
 use Rattle.nf_words.specs.declared.request.Wanted.TheVariants as wanted
 
--- the copies pass no quota
-pub record AffordsCopies (t : Tables) (now : ℕ) (rows : List NodeRow) (replaced : Option ℕ) : Type 0 where
-  pub known : KnownCopies t now rows replaced
-  pub within : copy_excess t known.transfer ≡ None
-
--- what comes back passes no quota
-abbrev pub AffordsDeed : Tables → Deed → Type 0
-AffordsDeed t (deed.Restore node folder name) = option_and_then (restore_excess t) (item_row t.items node) ≡ None
-AffordsDeed t did = Unit {0}
-
--- no body is stored, and what is copied or comes back passes no quota
-abbrev pub Affords : Tables → ℕ → Allowed → Type 0
-Affords t now (allowed.Change changes blob report) = blob ≡ None
-Affords t now (allowed.Trash did gone report) = AffordsDeed t did
-Affords t now (allowed.Copy rows replaced) = AffordsCopies t now rows replaced
-Affords t now (allowed.Cross rows replaced node) = AffordsCopies t now rows replaced
-Affords t now act = Unit {0}
+-- no body is stored, and what deeds make of charges passes no quota
+abbrev pub Affords : Tables → Allowed → Type 0
+Affords t (allowed.Change changes blob report) = blob ≡ None
+Affords t (allowed.Deeds deeds report) = (user : ℕ) → KeepsCharge t user (deeds_done t deeds)
+Affords t act = Unit {0}
 
 -- ---- what is moved or copied
 
-module _ (call : Call) (source target : Spot) (sound : AreSound call.state.tables) (is : IsAsking call)
+module _ (call : Call) (source target : Spot) (sound : AreSound call.state.tables) (later : call.state.tables.meta.last ≤ call.now) (is : IsAsking call)
     (from_reached : unreached (access_of call.state) call (way_of call source) ≡ None)
     (to_reached : unreached (access_of call.state) call (way_of call target) ≡ None)
     (fits : unfit_between call.state.tables.nodes (root_of call) false (record { source = Some (way_of call source); target = Some (way_of call target) }) ≡ None) where
@@ -70,50 +59,52 @@ module _ (call : Call) (source target : Spot) (sound : AreSound call.state.table
   abbrev name : List ℕ
   name = last_name target
 
-  copies_afford : (transfer : Transfer) → led ≡ Some transfer → copy_limit t transfer ≡ None → copy_excess t transfer ≡ None
-      → AffordsCopies t call.now (copies_to t call.now transfer name) transfer.replaced
-  unfolding copies_known
-  copies_afford transfer e few none = record {
-    known = copies_known call source target sound is from_reached to_reached transfer e fits few;
-    within = none;
-  }
+  copies_are : (transfer : Transfer) → led ≡ Some transfer → copy_limit t transfer ≡ None → KnownCopies t transfer name
+  copies_are transfer e few = copies_known call source target sound is from_reached to_reached transfer e fits few
 
-  copied_affords : option_and_then (copy_limit t) led ≡ None → option_and_then (copy_excess t) led ≡ None → Affords t call.now (copied t call.now name led)
+  copied_affords : option_and_then (copy_limit t) led ≡ None → option_and_then (copy_excess t) led ≡ None → Affords t (copied t call.now name led)
   copied_affords few none = here led refl few none
     where
       here : (o : Option Transfer) → led ≡ o → option_and_then (copy_limit t) o ≡ None → option_and_then (copy_excess t) o ≡ None
-          → Affords t call.now (copied t call.now name o)
+          → Affords t (copied t call.now name o)
       here None e few none = tt
-      here (Some transfer) e few none = copies_afford transfer e few none
+      here (Some transfer) e few none = λ user. copies_keep t call.now user transfer name sound later (copies_are transfer e few) none
 
-  moved_affords : option_and_then (carry_limit t) led ≡ None → option_and_then (carry_excess t) led ≡ None → Affords t call.now (moved t call.now name led)
+  moved_affords : option_and_then (carry_limit t) led ≡ None → option_and_then (carry_excess t) led ≡ None → Affords t (moved t call.now name led)
   moved_affords few none = here led refl few none
     where
-      carries : (transfer : Transfer) → led ≡ Some transfer → (across : Bool) → (if across then copy_limit t transfer else move_limit t transfer) ≡ None
-          → (if across then copy_excess t transfer else None) ≡ None
-          → Affords t call.now (if across then allowed.Cross (copies_to t call.now transfer name) transfer.replaced transfer.node else allowed.Move transfer name)
-      carries transfer e true few none = copies_afford transfer e few none
-      carries transfer e false few none = tt
+      carried : (user : ℕ) (transfer : Transfer) → led ≡ Some transfer → (across : Bool) → crosses t.nodes transfer ≡ across
+          → (if across then copy_limit t transfer else move_limit t transfer) ≡ None → (if across then copy_excess t transfer else None) ≡ None
+          → KeepsCharge t user (deeds_done t (if across then crossing t call.now name transfer else moves t call.now name transfer))
+      carried user transfer e true across few none =
+          crossing_keep t call.now user transfer name sound later (record { copies = copies_are transfer e few; crosses = across }) none
+      carried user transfer e false stays few none =
+          let deep = (within t 0 (deepest_in t.nodes transfer.node transfer.folder) 0 0 few).deep in
+          moves_keep t call.now user transfer name sound later
+          (record { known = transfer_known call source target sound is from_reached to_reached transfer e fits deep; within = stays })
 
       here : (o : Option Transfer) → led ≡ o → option_and_then (carry_limit t) o ≡ None → option_and_then (carry_excess t) o ≡ None
-          → Affords t call.now (moved t call.now name o)
+          → Affords t (moved t call.now name o)
       here None e few none = tt
-      here (Some transfer) e few none = carries transfer e (crosses t.nodes transfer) few none
+      here (Some transfer) e few none = λ user. carried user transfer e (crosses t.nodes transfer) refl few none
 
 -- ---- what is wanted
 
-module _ (call : Call) (sound : AreSound call.state.tables) (is : IsAsking call) where
+module _ (call : Call) (sound : AreSound call.state.tables) (later : call.state.tables.meta.last ≤ call.now) (is : IsAsking call) where
   abbrev all : Tables
   all = call.state.tables
 
   abbrev IsAfforded : Allowed → Type 0
-  IsAfforded act = Affords all call.now act
+  IsAfforded act = Affords all act
 
   -- what is done where something is there
   where_there : {X : Type 0} (act : X → Allowed) (none : Allowed) (o : Option X) → IsAfforded none → ((x : X) → IsAfforded (act x))
       → IsAfforded (option_map_or act o none)
   where_there act none None nothing each = nothing
   where_there act none (Some x) nothing each = each x
+
+  purged_affords : (nodes : List ℕ) (told : Report) → IsAfforded (allowed.Deeds (purges nodes) told)
+  purged_affords nodes told user = lower_keeps all user (purges nodes) (purges_lower nodes)
 
   served_affords : (mount node : Option ℕ) → IsAfforded (served (access_of call.state) call mount node)
   served_affords mount None = tt
@@ -131,18 +122,14 @@ module _ (call : Call) (sound : AreSound call.state.tables) (is : IsAsking call)
   folder_affords last (Free folder) = refl
   folder_affords last (Missing depth) = tt
 
-  discard_affords : (row : NodeRow) → IsAfforded (discard all call.now row)
-  discard_affords row =
-      let gone = gone_of all call.now (quota_of all row.owner) (item_for call.now row ∷ items_of all row.owner) in
-      cond_both (list_any (λ node. node == row.id) gone)
-      (allowed.Trash deed.Nothing (row.id ∷ filter (λ node. not (node == row.id)) gone) report.Done)
-      (allowed.Trash (deed.Discard (item_for call.now row)) gone report.Done) IsAfforded (λ goes. tt) (λ stays. tt)
-
   delete_affords : (spot : Spot) (itself : Bool) → IsAfforded (if itself then mount_left call (way_of call spot)
       else deleted all call.now (node_at (only_at itself (found call spot)).source))
   delete_affords spot true = refl
   delete_affords spot false =
-      where_there (discard all call.now) nothing_done (option_and_then (node_row all.nodes) (node_at (Some (found call spot)))) refl discard_affords
+      let node = node_at (Some (found call spot)) in
+      λ user.
+      lower_keeps all user (discards all call.now node ++ besides all call.now node)
+      (lower_append (discards all call.now node) (besides all call.now node) (discards_lower all call.now node) (besides_lower all call.now node))
 
   move_affords : (source to : Spot) (itself : Bool)
       → (itself ≡ false → unreached (access_of call.state) call (way_of call source) ≡ None)
@@ -155,7 +142,7 @@ module _ (call : Call) (sound : AreSound call.state.tables) (is : IsAsking call)
   move_affords source to true from_reached to_reached fits places at few none = refl
   move_affords source to false from_reached to_reached fits places at few none =
       subst (λ (p : Places). limited all p making.Moved ≡ None → exceeded all p making.Moved ≡ None → IsAfforded (moved all call.now (last_name to) (transfer_of all.nodes p)))
-      (sym at) (moved_affords call source to sound is (from_reached refl) to_reached fits) few none
+      (sym at) (moved_affords call source to sound later is (from_reached refl) to_reached fits) few none
 
   shared_affords : (places : Places) (asked : ShareAsk) → IsAfforded (shared (access_of call.state) call places asked)
   shared_affords places (ask.New spot to perms until) =
@@ -167,15 +154,21 @@ module _ (call : Call) (sound : AreSound call.state.tables) (is : IsAsking call)
       refl (λ row. refl)
   shared_affords places (ask.End share) = where_there share_ended nothing_done (share_steered call share) refl (λ row. refl)
 
-  requoted_affords : (quota : ℕ) (row : UserRow) → IsAfforded (requoted all call.now quota row)
-  requoted_affords quota row =
-      cond_both (row.quota == quota) nothing_done
-      (allowed.Trash (deed.Requote (record row { quota = quota })) (gone_of all call.now quota (items_of all row.id)) report.Plain)
-      IsAfforded (λ same. refl) (λ other. tt)
+  requoted_affords : (quota : ℕ) (row : UserRow) → user_row all.users row.id ≡ Some row → IsAfforded (requoted all call.now quota row)
+  requoted_affords quota row there =
+      let gone = gone_of all call.now quota (items_of all row.id) in
+      let other = deed.Requote (record row { quota = quota }) in
+      cond_both (row.quota == quota) nothing_done (allowed.Deeds (other ∷ purges gone) report.Plain) IsAfforded (λ same. refl)
+      (λ differs user.
+      then_keeps all (deed_done all other) user (purges gone) (purges_lower gone)
+      (inl (requoted_charge all (record row { quota = quota }) row user there refl)))
 
   people_afford : (asked : PeopleAsk) → IsAfforded (people_done all call.now asked)
-  people_afford (people.SetQuota user quota) =
-      where_there (requoted all call.now quota) nothing_done (row_named all user) refl (requoted_affords quota)
+  people_afford (people.SetQuota name quota) = here (row_named all name) refl
+    where
+      here : (o : Option UserRow) → row_named all name ≡ o → IsAfforded (option_map_or (requoted all call.now quota) o nothing_done)
+      here None e = refl
+      here (Some row) e = requoted_affords quota row (row_there all call.now sound name row e)
   people_afford asked = refl
 
   -- an item that comes back passes no quota
@@ -183,15 +176,19 @@ module _ (call : Call) (sound : AreSound call.state.tables) (is : IsAsking call)
       → option_and_then (restore_excess all) (item_row all.items item) ≡ None → IsAfforded (option_map_or (item_restored all call.now) o nothing_done)
   restored_affords user item None is none = refl
   restored_affords user item (Some row) is none =
-      let there = own_there all sound user item row is in
-      let id = eqb-true row.node item (found_passes (λ (row : ItemRow). row.node == item) all.items row there) in
-      subst (λ (n : ℕ). option_and_then (restore_excess all) (item_row all.items n) ≡ None) (sym id) none
+      let found = own_there all sound user item row is in
+      let there : item_row all.items row.node ≡ Some row =
+      ap (item_row all.items) (eqb-true row.node item (found_passes (λ (row : ItemRow). row.node == item) all.items row found)) ∙ found in
+      λ of.
+      then_keeps all (restored all row.node (home_of all row) (name_back all row)) of (purges (gone_beside all call.now row))
+      (purges_lower (gone_beside all call.now row))
+      (restored_keeps all row.node (home_of all row) of (name_back all row) row sound there (sym (ap (option_and_then (restore_excess all)) found) ∙ none))
 
   trash_affords : (places : Places) (asked : TrashAsk) → exceeded all places (asked_of_trash asked).makes ≡ None → IsAfforded (trash_done call asked)
   trash_affords places (trash.List user) none = refl
   trash_affords places (trash.Drop user item) none =
-      where_there (item_dropped all call.now) nothing_done (own_item call item) refl (λ row. tt)
-  trash_affords places (trash.Empty user) none = tt
+      where_there (item_dropped all call.now) nothing_done (own_item call item) refl (λ row. purged_affords (row.node ∷ gone_beside all call.now row) report.Done)
+  trash_affords places (trash.Empty user) none = purged_affords (map (λ item. item.node) (items_of all (asker_of call))) report.Done
   trash_affords places (trash.Restore user item) none = restored_affords (asker_of call) item (own_item call item) refl none
 
   wanted_affords : (wanted : Wanted) → WantedPasses call wanted → exceeded all (places_at call wanted) (asked_of wanted).makes ≡ None
@@ -203,16 +200,16 @@ module _ (call : Call) (sound : AreSound call.state.tables) (is : IsAsking call)
   wanted_affords (wanted.Move source to overwrite) p none =
       move_affords source to (way_of call source).itself p.place.source p.place.target p.fits (places_at call (wanted.Move source to overwrite)) refl p.few none
   wanted_affords (wanted.Copy source to overwrite) p none =
-      copied_affords call source to sound is (p.place.source refl) p.place.target p.fits p.few none
+      copied_affords call source to sound later is (p.place.source refl) p.place.target p.fits p.few none
   wanted_affords (wanted.Share asked) p none = shared_affords (places_at call (wanted.Share asked)) asked
   wanted_affords (wanted.People asked) p none = people_afford asked
   wanted_affords (wanted.Trash asked) p none = trash_affords (places_at call (wanted.Trash asked)) asked none
 
-pub call_affords : (call : Call) (act : Allowed) → IsSound call.state → MayWant call.request → call_decision call ≡ Ok act
-    → Affords call.state.tables call.now act
+pub call_affords : (call : Call) (act : Allowed) → IsSound call.state → call.state.tables.meta.last ≤ call.now → MayWant call.request
+    → call_decision call ≡ Ok act → Affords call.state.tables act
 unfolding quota_rule
-call_affords call act sound may is =
+call_affords call act sound later may is =
     let h = call_passes call act is in
     let asker = has_asker call h.0.token (place_passes (access_of call.state) call h.0.place).linked in
-    subst (λ (a : Allowed). Affords call.state.tables call.now a) h.1
-    (wanted_affords call sound.rows asker call.request.wanted (wanted_passes call may h.0) (no_excess _ h.0.quota))
+    subst (Affords call.state.tables) h.1
+    (wanted_affords call sound.rows later asker call.request.wanted (wanted_passes call may h.0) (no_excess _ h.0.quota))

@@ -1,9 +1,9 @@
 -- The blob that an act stores, and what an event stores in it. Whole blobs stay whole, and what is stored has the next number.
-use Rattle.std.proofs.Common.{◌≡◌, ℕ, ◌<◌, ◌==◌, Bool, true, false, if◌then◌else◌, List, [], ◌∷◌, length, get_or, filter, inl, inr, not, refl, sym, ap, subst, ◌∙◌, arith, ◌&&◌, Result, Ok, Err, ◌⊎◌}
-use Rattle.std.specs.Prelude.{None, Option, option_and_then, option_map, Some}
-use Rattle.std.specs.List.{All, list_any}
+use Rattle.std.proofs.Common.{◌≡◌, ℕ, ◌<◌, ◌≤◌, ◌==◌, Bool, true, false, if◌then◌else◌, List, [], ◌∷◌, length, get_or, inl, inr, refl, sym, ap, subst, ◌∙◌, arith, ◌&&◌, Result, Ok, Err, ◌⊎◌}
+use Rattle.std.specs.Prelude.{None, Option, option_map, Some}
+use Rattle.std.specs.List.{All}
 use Rattle.std.specs.Option.{IfSome, option_map_or}
-use Rattle.std.proofs.lemmas.List.Elements.{All-append, All-cons, All-nil}
+use Rattle.std.proofs.lemmas.List.Elements.{All-append, All-cons, All-filter, All-nil}
 use Rattle.std.proofs.lemmas.Option.{none-some, slice_get-get_or}
 use Rattle.std.proofs.lemmas.Bool.{cases_Bool, cond_both}
 use Rattle.sha2.specs.Sha256.{sha256}
@@ -26,15 +26,14 @@ use Rattle.nf_defs.proofs.Puts.{all_put}
 use Rattle.nf_defs.specs.declared.Found.{Found}
 use Rattle.nf_defs.specs.declared.Found.TheVariants.{At, Free}
 use Rattle.nf_laws.proofs.Contents.{contents_sound, by_kind, others_have}
-use Rattle.nf_laws.proofs.Entries.{entry_has, rest_kept, tickets_left, tickets_with}
-use Rattle.nf_laws.proofs.Gone.{all_cleared}
+use Rattle.nf_laws.proofs.Entries.{deeds_known_have, entry_has, rest_kept, tickets_left, tickets_with}
+use Rattle.nf_laws.proofs.Gone.{is_left}
+use Rattle.nf_laws.proofs.InTurn.{deeds_keep, Fit, Joins}
 use Rattle.nf_laws.proofs.Lists.{AreBuilt, IsBuilt}
-use Rattle.nf_laws.proofs.Mirrored.{mirrored}
 use Rattle.nf_laws.proofs.OneRow.{with_all}
-use Rattle.nf_laws.proofs.Purged.{purged_keeps}
 use Rattle.nf_laws.proofs.Rows.{content_has, found_is, stamped_has}
 use Rattle.nf_laws.specs.Wholes.{BlobsAreNew, Brings, IsGoalHeld, IsHeld, IsThere, StaysWhole, blob_in, blob_under}
-use Rattle.nf_words.specs.Prelude.{access_of, after_mark, allowed_of, altered, AreSound, blob_after, blob_for, blob_of, by_of, Call, call_of, carried, changed, cleared, content_in, contents_of, copies_to, crosses, decision_of, deed_done, deleted, discard, end_refusal, ends_at, ends_goal, given, gone_of, goal_at, goal_of, hold_of, IsGoalSound, IsPieceSound, IsSound, IsTicketSound, item_dropped, item_for, item_restored, items_of, joined, last_name, left_row, listing_of, made_folder, MayAsk, mount_left, mount_renamed, moved, named_row, node_at, own_item, own_mount, people_done, places_of, quota_of, raised, refilled, refusal_of, served, stamped, State, stored, stored_at, told, transfer_of, trash_done, unless_refused, way_of, with_goal, with_mount_row, without, is_member, joined_by, left_by, membership, mounts_for, mounts_joined, nothing_done, share_told, shared, share_made, offered, share_shown, share_set, perms_after, people_changed, put_mounts, requoted, row_named, same_end, set_row, share_steered, share_ended, until_after}
+use Rattle.nf_words.specs.Prelude.{access_of, after_mark, allowed_of, altered, AreSound, blob_after, blob_for, blob_of, by_of, Call, call_of, carries, changed, content_in, contents_of, copies, decision_of, deed_done, deleted, done, end_refusal, ends_at, ends_goal, given, gone_of, goal_at, goal_of, hold_of, IsGoalSound, IsPieceSound, IsSound, IsTicketSound, item_dropped, item_restored, items_of, last_name, left_row, listing_of, made_folder, made_or_done, MayAsk, mount_left, mount_renamed, moved, named_row, node_at, own_item, own_mount, people_done, places_of, purges, raised, refilled, refusal_of, served, stamped, State, stored, stored_at, told, transfer_of, trash_done, unless_refused, way_of, with_goal, with_mount_row, without, is_member, joined_by, left_by, membership, mounts_for, mounts_joined, nothing_done, share_told, shared, share_made, offered, share_shown, share_set, perms_after, people_changed, put_mounts, requoted, row_named, same_end, set_row, share_steered, share_ended, until_after}
 use Rattle.nf_words.specs.declared.answer.Allowed.{Allowed}
 use Rattle.nf_words.specs.declared.answer.Allowed.TheVariants as allowed
 use Rattle.nf_words.specs.declared.answer.Goal.{Goal}
@@ -45,7 +44,7 @@ use Rattle.nf_words.specs.declared.history.Ticket.{Ticket}
 use Rattle.nf_words.proofs.Bodies.{IsOfBody}
 use Rattle.nf_words.proofs.Ends.{known_change}
 use Rattle.nf_words.proofs.Fits.{KnownRow, KnownRows, no_more, one_more, user_more}
-use Rattle.nf_words.proofs.Known.{Known, KnownCopies}
+use Rattle.nf_words.proofs.Known.{Known}
 use Rattle.nf_words.specs.declared.answer.By.{By}
 use Rattle.nf_words.specs.declared.answer.Deed.{Deed}
 use Rattle.nf_words.specs.declared.answer.Deed.TheVariants as deed
@@ -55,7 +54,7 @@ use Rattle.nf_words.specs.declared.answer.Report.{Report}
 use Rattle.nf_words.specs.declared.answer.Report.TheVariants as report
 use Rattle.nf_words.specs.declared.answer.LockKey.TheVariants.{Node, Slot}
 use Rattle.nf_words.specs.declared.history.Event.{Event}
-use Rattle.nf_words.specs.declared.history.Event.TheVariants.{Begin, End}
+use Rattle.nf_words.specs.declared.history.Event.TheVariants.{Begin, End, Sweep}
 use Rattle.nf_words.specs.declared.history.Outcome.{Outcome}
 use Rattle.nf_words.specs.declared.history.Outcome.TheVariants.{Body}
 use Rattle.nf_words.specs.declared.request.PeopleAsk.{PeopleAsk}
@@ -105,15 +104,18 @@ pub act_next : (t : Tables) (now : ℕ) (act : Allowed) → Known t now act → 
 act_next t now (allowed.Change changes blob report) known = changes_next t (raised t now changes blob) changes blob known.rows known.stored
 act_next t now act known = tt
 
+-- no deed takes a number of a blob
+deed_next : (u : Tables) (one : Deed) → (deed_done u one).meta.next_blob ≡ u.meta.next_blob
+deed_next u (deed.Discard item) = refl
+deed_next u (deed.Purge node) = refl
+deed_next u (deed.Restore node folder name) = refl
+deed_next u (deed.Relink node folder name) = refl
+deed_next u (deed.Join copies) = refl
+deed_next u (deed.Requote row) = refl
+
 pub altered_next : (t : Tables) (now : ℕ) (act : Allowed) → (altered t now act).meta.next_blob ≡ blob_after t.meta.next_blob (blob_of act)
-altered_next t now (allowed.Trash did gone report) =
-    purged_keeps (λ (u : Tables). u.meta.next_blob ≡ t.meta.next_blob) (λ u top same. same) (deed_done t did) gone (done did)
-  where
-    done : (did : Deed) → (deed_done t did).meta.next_blob ≡ t.meta.next_blob
-    done deed.Nothing = refl
-    done (deed.Discard item) = refl
-    done (deed.Restore top folder name) = refl
-    done (deed.Requote row) = refl
+altered_next t now (allowed.Deeds deeds report) =
+    deeds_keep (λ (u : Tables). u.meta.next_blob ≡ t.meta.next_blob) (λ u one same. deed_next u one ∙ same) t deeds refl
 altered_next t now allowed.Close = refl
 altered_next t now act = refl
 
@@ -250,7 +252,7 @@ people_alters call (people.SetQuota user quota) =
     let t = call.state.tables in
     found_alters t (requoted t call.now quota) (row_named t user) (λ row.
     if_alters t (row.quota == quota) nothing_done
-    (allowed.Trash (deed.Requote (record row { quota = quota })) (gone_of t call.now quota (items_of t row.id)) report.Plain) (refl, inl tt) tt)
+    (done (deed.Requote (record row { quota = quota }) ∷ purges (gone_of t call.now quota (items_of t row.id))) report.Plain) (refl, inl tt) tt)
 people_alters call (people.NewUser name token quota) =
     (refl, inl (people_of call.state.tables call.now (people.NewUser name token quota)))
 people_alters call (people.NewGroup name) = (refl, inl (people_of call.state.tables call.now (people.NewGroup name)))
@@ -259,13 +261,6 @@ people_alters call (people.DropMember user group) = (refl, inl (people_of call.s
 people_alters call (people.AddToken user token) = (refl, inl (people_of call.state.tables call.now (people.AddToken user token)))
 
 -- what is put in the trash, goes or comes back has its content
-deleted_alters : (t : Tables) (now : ℕ) (node : Option ℕ) → Alters t (deleted t now node)
-deleted_alters t now node =
-    found_alters t (discard t now) (option_and_then (node_row t.nodes) node) (λ row.
-    let gone = gone_of t now (quota_of t row.owner) (item_for now row ∷ items_of t row.owner) in
-    if_alters t (list_any (λ node. node == row.id) gone) (allowed.Trash deed.Nothing (row.id ∷ filter (λ node. not (node == row.id)) gone) report.Done)
-    (allowed.Trash (deed.Discard (item_for now row)) gone report.Done) tt tt)
-
 trash_alters : (call : Call) (asked : TrashAsk) → Alters call.state.tables (trash_done call asked)
 trash_alters call (trash.List user) = (refl, inl tt)
 trash_alters call (trash.Drop user item) =
@@ -283,20 +278,20 @@ given_alters call places (wanted.Delete spot) =
     let t = call.state.tables in
     let way = way_of call spot in
     inr (if_alters t way.itself (mount_left call way) (deleted t call.now (node_at places.source))
-    (mount_alters t (option_map left_row (own_mount call way.mount)) report.Done) (deleted_alters t call.now (node_at places.source)))
+    (mount_alters t (option_map left_row (own_mount call way.mount)) report.Done) tt)
 given_alters call places (wanted.Move source target overwrite) =
     let t = call.state.tables in
     let way = way_of call source in
     let name = last_name target in
     inr (if_alters t way.itself (mount_renamed call way name) (moved t call.now name (transfer_of t.nodes places))
     (mount_alters t (option_map (named_row name) (own_mount call way.mount)) report.Made)
-    (either_alters t (carried t call.now name) (transfer_of t.nodes places)
-    (λ transfer. if_alters t (crosses t.nodes transfer) (allowed.Cross (copies_to t call.now transfer name) transfer.replaced transfer.node)
-    (allowed.Move transfer name) tt tt)))
+    (either_alters t (λ transfer. done (carries t call.now name transfer) (made_or_done transfer.replaced)) (transfer_of t.nodes places)
+    (λ transfer. tt)))
 given_alters call places (wanted.Copy source target overwrite) =
     let t = call.state.tables in
-    inr (either_alters t (λ transfer. allowed.Copy (copies_to t call.now transfer (last_name target)) transfer.replaced)
-    (transfer_of t.nodes places) (λ transfer. tt))
+    let name = last_name target in
+    inr (either_alters t (λ transfer. done (copies t call.now name transfer) (made_or_done transfer.replaced)) (transfer_of t.nodes places)
+    (λ transfer. tt))
 given_alters call places (wanted.Share asked) = inr (shared_alters call places asked)
 given_alters call places (wanted.People asked) = inr (people_alters call asked)
 given_alters call places (wanted.Trash asked) = inr (trash_alters call asked)
@@ -357,6 +352,7 @@ decision_stores s seat now (Begin words request) body brings =
     let call = call_of s seat now words request in
     unless_stores s.tables body (refusal_of (access_of s) call) (allowed_of (access_of s) call) (given_stores call body (places_of call) request.wanted)
 decision_stores s seat now (End outcome) body brings = at_stores (access_of s) s.tables now outcome (goal_at s seat) body brings
+decision_stores s seat now Sweep body brings = tt
 
 -- ---- pieces whose bytes stay
 
@@ -438,38 +434,34 @@ of_have P t content (change ∷ changes) of has all =
     of_have P (made t change) content changes of.1 has (one_has P t content change of.0 has all)
 
 -- a copy has the content of a node that is there
-copies_held : (t : Tables) (now : ℕ) (copies : List NodeRow) (replaced : Option ℕ) (opening : List Row)
-    (start blobs : Blobs)
-    → AreSound t → KnownCopies t now copies replaced → All (IsRowHeld opening start blobs) t.nodes
-    → All (IsRowHeld opening start blobs) copies
-copies_held t now copies replaced opening start blobs sound known kept k d within =
-    let copy = (mirrored t now copies replaced sound known).each k (get_or copies k d) (slice_get-get_or copies k d within) in
+copies_held : (u : Tables) (now : ℕ) (copies : List NodeRow) (opening : List Row) (start blobs : Blobs) → Joins u now copies
+    → All (IsRowHeld opening start blobs) u.nodes → All (IsRowHeld opening start blobs) copies
+copies_held u now copies opening start blobs joins kept k d within =
+    let copy = joins.mirrors.each k (get_or copies k d) (slice_get-get_or copies k d within) in
     subst (All (IsHeld opening start blobs)) (sym copy.content)
-    (found_is (IsRowHeld opening start blobs) (λ row. row.id == copy.node) t.nodes copy.of kept copy.there).1
+    (found_is (IsRowHeld opening start blobs) (λ row. row.id == copy.node) u.nodes copy.of kept copy.there).1
 
-joined_held : (t : Tables) (now : ℕ) (copies : List NodeRow) (replaced : Option ℕ) (opening : List Row) (start blobs : Blobs)
-    → AreSound t → KnownCopies t now copies replaced → All (IsRowHeld opening start blobs) t.nodes
-    → All (IsRowHeld opening start blobs) (joined t copies replaced).nodes
-joined_held t now copies replaced opening start blobs sound known kept =
-    All-append (IsRowHeld opening start blobs) (cleared t.nodes replaced) copies
-    (all_cleared (IsRowHeld opening start blobs) t.nodes replaced kept)
-    (copies_held t now copies replaced opening start blobs sound known kept)
-
--- what is put in the trash or comes back keeps its content
-done_held : (t : Tables) (did : Deed) (opening : List Row) (start blobs : Blobs) → All (IsRowHeld opening start blobs) t.nodes
-    → All (IsRowHeld opening start blobs) (deed_done t did).nodes
-done_held t deed.Nothing opening start blobs kept = kept
-done_held t (deed.Discard item) opening start blobs kept = with_all (IsRowHeld opening start blobs) t.nodes item.node trashed (λ row held. held) kept
-done_held t (deed.Restore top folder name) opening start blobs kept =
-    with_all (IsRowHeld opening start blobs) t.nodes top (relinked folder name) (λ row held. held) kept
-done_held t (deed.Requote row) opening start blobs kept = kept
+-- what is moved, put in the trash or comes back keeps its content
+deed_held : (u : Tables) (now : ℕ) (one : Deed) (opening : List Row) (start blobs : Blobs) → Fit u now one
+    → All (IsRowHeld opening start blobs) u.nodes → All (IsRowHeld opening start blobs) (deed_done u one).nodes
+deed_held u now (deed.Discard item) opening start blobs fit kept =
+    with_all (IsRowHeld opening start blobs) u.nodes item.node trashed (λ row held. held) kept
+deed_held u now (deed.Purge node) opening start blobs fit kept =
+    All-filter (λ row. is_left u.nodes node row.id) (IsRowHeld opening start blobs) u.nodes kept
+deed_held u now (deed.Restore node folder name) opening start blobs fit kept =
+    with_all (IsRowHeld opening start blobs) u.nodes node (relinked folder name) (λ row held. held) kept
+deed_held u now (deed.Relink node folder name) opening start blobs fit kept =
+    with_all (IsRowHeld opening start blobs) u.nodes node (relinked folder name) (λ row held. held) kept
+deed_held u now (deed.Join copies) opening start blobs joins kept =
+    All-append (IsRowHeld opening start blobs) u.nodes copies kept (copies_held u now copies opening start blobs joins kept)
+deed_held u now (deed.Requote row) opening start blobs fit kept = kept
 
 -- where the old nodes' pieces are held with the body, the new nodes' are
 altered_held : (t : Tables) (now : ℕ) (act : Allowed) (opening : List Row) (start blobs : Blobs) (body : List ℕ)
-    → AreSound t → Known t now act
+    → AreSound t → t.meta.last ≤ now → Known t now act
     → All (IsRowHeld opening start (with_blob blobs (blob_of act) body)) t.nodes → StoresBody t body act
     → All (IsRowHeld opening start (with_blob blobs (blob_of act) body)) (altered t now act).nodes
-altered_held t now (allowed.Change changes blob report) opening start blobs body sound known kept stores =
+altered_held t now (allowed.Change changes blob report) opening start blobs body sound later known kept stores =
     let more = with_blob blobs blob body in
     let Held : NodeRow → Type 0 = IsRowHeld opening start more in
     elim stores [
@@ -488,32 +480,23 @@ altered_held t now (allowed.Change changes blob report) opening start blobs body
           of_have Held t (content_in (blob_for t.meta.next_blob (length body)) (sha256 body) (length body)) changes some.1
           (λ row is. stored_held t.meta.next_blob opening start blobs body blob row.content some.0 is) kept
     ]
-altered_held t now (allowed.Trash did gone report) opening start blobs body sound known kept stores =
-    purged_keeps (λ (u : Tables). All (IsRowHeld opening start blobs) u.nodes)
-    (λ u top held. all_cleared (IsRowHeld opening start blobs) u.nodes (Some top) held) (deed_done t did) gone (done_held t did opening start blobs kept)
-altered_held t now (allowed.Move transfer name) opening start blobs body sound known kept stores =
-    with_all (IsRowHeld opening start blobs) (cleared t.nodes transfer.replaced) transfer.node (relinked transfer.folder name)
-    (λ row held. held)
-    (all_cleared (IsRowHeld opening start blobs) t.nodes transfer.replaced kept)
-altered_held t now (allowed.Copy copies replaced) opening start blobs body sound known kept stores =
-    joined_held t now copies replaced opening start blobs sound known kept
-altered_held t now (allowed.Cross copies replaced node) opening start blobs body sound known kept stores =
-    all_cleared (IsRowHeld opening start blobs) (joined t copies replaced).nodes (Some node)
-    (joined_held t now copies replaced opening start blobs sound known.copies kept)
-altered_held t now act opening start blobs body sound known kept stores = kept
+altered_held t now (allowed.Deeds deeds report) opening start blobs body sound later known kept stores =
+    deeds_known_have (λ (u : Tables). All (IsRowHeld opening start blobs) u.nodes) t now deeds sound later known
+    (λ u one fine at fit. deed_held u now one opening start blobs fit) kept
+altered_held t now act opening start blobs body sound later known kept stores = kept
 
 changed_held : (t : Tables) (now : ℕ) (act : Allowed) (opening : List Row) (start blobs : Blobs) (body : List ℕ)
-    → AreSound t → Known t now act
+    → AreSound t → t.meta.last ≤ now → Known t now act
     → AreHeld opening start (with_blob blobs (blob_of act) body) t → StoresBody t body act
     → AreHeld opening start (with_blob blobs (blob_of act) body) (changed t now act)
-changed_held t now act opening start blobs body sound known kept stores =
+changed_held t now act opening start blobs body sound later known kept stores =
     let more = with_blob blobs (blob_of act) body in
     let Held : List Piece → Type 0 = All (IsHeld opening start more) in
     let each = by_kind Held t kept in
     let rest = rest_kept t now act sound known in
     stamped_has (AreHeld opening start more) t (altered t now act) now (told t act) kept
     (others_have Held t (altered t now act) (ap (λ (u : Tables). u.versions) rest) (ap (λ (u : Tables). u.chunks) rest) each
-    (altered_held t now act opening start blobs body sound known each.nodes stores))
+    (altered_held t now act opening start blobs body sound later known each.nodes stores))
 
 -- ---- the tickets
 
@@ -546,14 +529,14 @@ Holds opening start blobs t tickets = AreHeld opening start blobs t × All (HasG
 -- so blobs are whole after an act
 act_whole : (t : Tables) (tickets : List Ticket) (seat now : ℕ) (act : Allowed) (opening : List Row)
     (start blobs : Blobs) (body : List ℕ)
-    → AreSound t → All (IsTicketSound t) tickets → Known t now act → StoresBody t body act
+    → AreSound t → t.meta.last ≤ now → All (IsTicketSound t) tickets → Known t now act → StoresBody t body act
     → Holds opening start blobs t tickets
     → Holds opening start (with_blob blobs (blob_of act) body) (changed t now act) (with_goal tickets seat (goal_of act) (hold_of act))
-act_whole t tickets seat now act opening start blobs body sound goals known stores whole =
+act_whole t tickets seat now act opening start blobs body sound later goals known stores whole =
     let more = with_blob blobs (blob_of act) body in
     let keeps = given_kept t.meta.next_blob blobs (blob_of act) body (act_next t now act known) in
     let kept = contents_kept t opening start blobs more keeps sound whole.0 in (
-      changed_held t now act opening start blobs body sound known kept stores,
+      changed_held t now act opening start blobs body sound later known kept stores,
       tickets_with (HasGoalHeld opening start more) tickets seat (goal_of act) (hold_of act)
           (tickets_kept t opening start blobs more tickets keeps goals whole.1)
           (granted_held t now act opening start more known kept),
@@ -566,7 +549,8 @@ stays_whole n s e body opening start blobs sound may brings whole =
     let goals = tickets_left (IsTicketSound s.tables) s e.seat e.event sound.tickets in
     let h = entry_has (λ t tickets blob. Holds opening start (with_blob blobs blob body) t tickets) s e e.mark first
     (λ act is.
-    act_whole s.tables (without s e.seat e.event).tickets e.seat e.moment act opening start blobs body sound.rows goals
+    act_whole s.tables (without s e.seat e.event).tickets e.seat e.moment act opening start blobs body sound.rows
+    (omega (arith, sound.seen, may.not_before)) goals
     (known_change s e.seat e.moment e.event act sound may.asked is)
     (subst (Decides s.tables body) is (decision_stores s e.seat e.moment e.event body brings)) first) in
     record { rows = h.0; tickets = h.1 }

@@ -1,5 +1,5 @@
 -- The tables with copies more are sound.
-use Rattle.std.proofs.Common.{ℕ, zero, suc, ◌+◌, ◌≡◌, ◌≢◌, ◌<◌, ◌≤◌, ◌&&◌, bytes_eq, true, false, List, [], ◌∷◌, ◌++◌, Option, Some, get_or, length, refl, sym, ap, subst, ◌∙◌, arith, le_refl, length-append}
+use Rattle.std.proofs.Common.{ℕ, zero, suc, ◌+◌, ◌≡◌, ◌≢◌, ◌<◌, ◌≤◌, ◌&&◌, bytes_eq, true, List, [], ◌∷◌, ◌++◌, Option, Some, get_or, length, refl, sym, ap, subst, ◌∙◌, arith, le_refl, length-append, None}
 use Rattle.std.specs.List.{All, AllPairs, slice_get, sum_by}
 use Rattle.std.specs.Option.{option_and_then, option_map_or}
 use Rattle.std.proofs.lemmas.Bool.{and_parts, eqb-true, false_from_ne_true}
@@ -13,22 +13,18 @@ use Rattle.nf_base.specs.declared.content.Piece.{Piece}
 use Rattle.nf_base.specs.declared.rows.NodeRow.{NodeRow}
 use Rattle.nf_base.specs.declared.rows.Place.{Place}
 use Rattle.nf_base.specs.declared.rows.Place.TheVariants.{Inside}
-use Rattle.nf_defs.specs.Prelude.{child_of, climb, content_of, depth, is_folder, is_folder_kind, is_in, is_place_in, is_root, is_root_place, node_row, owner_of, piece_count, Tables, walk_of, walk_within}
+use Rattle.nf_defs.specs.Prelude.{child_of, climb, content_of, depth, is_folder, is_folder_kind, is_in, is_place_in, node_row, owner_of, piece_count, Tables, walk_of, walk_within}
 use Rattle.nf_laws.proofs.Added.{new_apart}
 use Rattle.nf_laws.proofs.Climbs.{node_row_each, parent_at}
-use Rattle.nf_laws.proofs.Gone.{cleared_all, cleared_leads, clearing_sound, counts_cleared, folder_stays, free_cleared, left_sound, row_cleared}
-use Rattle.nf_laws.proofs.Mirrored.{mirrored}
-use Rattle.nf_laws.proofs.Moved.{depth_cleared, unmounted_cleared}
 use Rattle.nf_laws.proofs.Others.{all_off, IsOff, kept_present, new_off, others_still, root_row, Still, trash_kept, was_same, WasThere}
 use Rattle.nf_laws.proofs.Paths.{child_there}
-use Rattle.nf_laws.proofs.Present.{kept_leads}
 use Rattle.nf_laws.proofs.Rows.{child_folder, climb_kept, counters_up, folder_kept, folder_there, kept_joined, node_kept, parent_there, pieces_kept, root_kept, row_is, row_joined, stamp, top_kept}
 use Rattle.nf_laws.proofs.Upwards.{climbs_depth, deepest_among, depth_up}
-use Rattle.nf_laws.proofs.Walked.{AllPairs-append, walks_take}
+use Rattle.nf_laws.proofs.Walked.{AllPairs-append}
 use Rattle.nf_laws.specs.Numbers.{AreHigher}
-use Rattle.nf_laws.specs.Transfers.{IsCopyOf, Mirrors, is_replaced}
-use Rattle.nf_words.proofs.Known.{KnownCopies, KnownCross, KnownTransfer}
-use Rattle.nf_words.specs.Prelude.{AreApart, AreSound, cleared, HasRoot, IsNodeSound, IsPieceSound, IsPlaceSound, IsTop, IsUnmounted, joined, LeadsToRoot, pieces_in, removed, stored_pieces}
+use Rattle.nf_laws.specs.Transfers.{IsCopyOf, Mirrors}
+use Rattle.nf_words.proofs.Known.{KnownTransfer}
+use Rattle.nf_words.specs.Prelude.{AreApart, AreSound, HasRoot, IsNodeSound, IsPieceSound, IsPlaceSound, IsTop, IsUnmounted, joined, pieces_in, stored_pieces}
 use Rattle.nf_words.specs.declared.request.Transfer.{Transfer}
 
 -- ---- lists
@@ -138,42 +134,32 @@ module _ (t : Tables) (now : ℕ) (transfer : Transfer) (name : List ℕ) (rows 
 -- ---- the tables with the copies
 
 module _ (t : Tables) (now : ℕ) (transfer : Transfer) (name : List ℕ) (rows : List NodeRow)
-    (mirrors : Mirrors t now transfer name rows) (sound : AreSound t) (known : KnownTransfer t transfer name) where
-  abbrev left : Tables
-  left = cleared_all t transfer.replaced
-
+    (mirrors : Mirrors t now transfer name rows) (sound : AreSound t) (known : KnownTransfer t transfer name) (alone : transfer.replaced ≡ None) where
   abbrev made : Tables
-  made = stamp (joined t rows transfer.replaced) now
-
-  -- the transfer's folder hasn't to go
-  stays : is_replaced t.nodes transfer.replaced transfer.folder ≡ false
-  stays = folder_stays t transfer.replaced transfer.folder name sound known.there
-
-  left_fine : AreSound left
-  left_fine = clearing_sound t transfer name sound known
+  made = stamp (joined t rows) now
 
   copy : (k : ℕ) (d : NodeRow) → k < length rows → IsCopyOf t now transfer name k (get_or rows k d)
   copy = copy_at t now transfer name rows mirrors
 
-  -- the copies come after all that is left
+  -- the copies come after all that was there
   pub joined_rises : AllPairs (λ (a b : NodeRow). a.id < b.id) made.nodes
   joined_rises =
-      AllPairs-append (λ (a b : NodeRow). a.id < b.id) left.nodes rows left_fine.rising (copies_rise t now transfer name rows mirrors)
-      (λ i d within k e also. omega (arith, (left_fine.nodes i d within).given, (copy k e also).id))
+      AllPairs-append (λ (a b : NodeRow). a.id < b.id) t.nodes rows sound.rising (copies_rise t now transfer name rows mirrors)
+      (λ i d within k e also. omega (arith, (sound.nodes i d within).given, (copy k e also).id))
 
   pub copy_there : (d : NodeRow) (k : ℕ) → k < length rows → node_row made.nodes (t.meta.next_node + k) ≡ Some (get_or rows k d)
   copy_there d k within =
-      let same = get_or-append-add left.nodes rows k d in
-      let there = node_row_each made.nodes joined_rises (length left.nodes + k) d (omega (arith, length-append left.nodes rows)) in
+      let same = get_or-append-add t.nodes rows k d in
+      let there = node_row_each made.nodes joined_rises (length t.nodes + k) d (omega (arith, length-append t.nodes rows)) in
       ap (node_row made.nodes) (sym (copy k d within).id)
       ∙ subst (λ (row : NodeRow). node_row made.nodes row.id ≡ Some row) same there
 
   -- each is found by its number
-  pub copies_there : (k : ℕ) (row : NodeRow) → slice_get rows k ≡ Some row → node_row (cleared t.nodes transfer.replaced ++ rows) row.id ≡ Some row
+  pub copies_there : (k : ℕ) (row : NodeRow) → slice_get rows k ≡ Some row → node_row (t.nodes ++ rows) row.id ≡ Some row
   copies_there k row is =
       let within = slice_get_within rows k row is in
       let same = get_or_from_slice_get rows k row row is in
-      subst (λ (copy : NodeRow). node_row (cleared t.nodes transfer.replaced ++ rows) copy.id ≡ Some copy) same
+      subst (λ (copy : NodeRow). node_row (t.nodes ++ rows) copy.id ≡ Some copy) same
       (ap (node_row made.nodes) (copy k row within).id ∙ copy_there row k within)
 
   -- the folder is there as before
@@ -181,11 +167,7 @@ module _ (t : Tables) (now : ℕ) (transfer : Transfer) (name : List ℕ) (rows 
   folder_row = folder_there t.nodes transfer.folder known.in_folder
 
   folder_made : (is_folder made.nodes transfer.folder ≡ true) × (owner_of made.nodes transfer.folder ≡ owner_of t.nodes transfer.folder)
-  folder_made =
-      let same = row_cleared t.nodes transfer.replaced transfer.folder stays in
-      let h = folder_kept left.nodes made.nodes transfer.folder (kept_joined left.nodes rows)
-      (rw same known.in_folder) in
-      (h.0, h.1 ∙ rw same refl)
+  folder_made = folder_kept t.nodes made.nodes transfer.folder (kept_joined t.nodes rows) known.in_folder
 
   folder_given : transfer.folder < t.meta.next_node
   folder_given = let h = row_is t transfer.folder folder_row.0 sound folder_row.1 in omega (arith, h.0, h.1.given)
@@ -193,14 +175,11 @@ module _ (t : Tables) (now : ℕ) (transfer : Transfer) (name : List ℕ) (rows 
   -- and climbs to a top
   folder_climbs : (top : ℕ) × (climb made.nodes (depth t.nodes transfer.folder) transfer.folder ≡ Some top) × IsTop made.nodes top
   folder_climbs =
-      let kept = kept_joined left.nodes rows in
-      let there = row_cleared t.nodes transfer.replaced transfer.folder stays ∙ folder_row.1 in
-      let over = climbs_depth left transfer.folder folder_row.0 left_fine there in
-      let deep = depth_cleared t transfer.replaced transfer.folder folder_row.0 sound left_fine there in (
+      let kept = kept_joined t.nodes rows in
+      let over = climbs_depth t transfer.folder folder_row.0 sound folder_row.1 in (
         over.0,
-        climb_kept (depth t.nodes transfer.folder) left.nodes made.nodes transfer.folder over.0 kept
-            (subst (λ (n : ℕ). climb left.nodes n transfer.folder ≡ Some over.0) deep over.1),
-        top_kept left.nodes made.nodes over.0 kept over.2,
+        climb_kept (depth t.nodes transfer.folder) t.nodes made.nodes transfer.folder over.0 kept over.1,
+        top_kept t.nodes made.nodes over.0 kept over.2,
       )
 
   -- ---- each copy is sound
@@ -252,16 +231,16 @@ module _ (t : Tables) (now : ℕ) (transfer : Transfer) (name : List ℕ) (rows 
   -- ---- names
 
   -- what was there is in no copy, and the first copy's name is free
-  old_apart : All (λ (old : NodeRow). All (AreApart old) rows) left.nodes
+  old_apart : All (λ (old : NodeRow). All (AreApart old) rows) t.nodes
   old_apart i d within zero e also folder place other =
       let c = copy 0 e also in
-      new_apart left.nodes transfer.folder (get_or rows 0 e) c.placed.0
-      (ap (child_of left.nodes transfer.folder) c.placed.1 ∙ free_cleared t transfer.replaced transfer.folder name sound known.there) i d within folder place other
+      new_apart t.nodes transfer.folder (get_or rows 0 e) c.placed.0
+      (ap (child_of t.nodes transfer.folder) c.placed.1 ∙ known.there ∙ alone) i d within folder place other
   old_apart i d within (suc k) e also folder place other =
-      let old : NodeRow = get_or left.nodes i d in
+      let old : NodeRow = get_or t.nodes i d in
       let c = copy_in t now transfer name rows mirrors sound k e also in
-      let above = folder_there left.nodes folder (child_folder left old old.place folder (left_fine.nodes i d within).place place) in
-      let h = row_is left folder above.0 left_fine above.1 in
+      let above = folder_there t.nodes folder (child_folder t old old.place folder (sound.nodes i d within).place place) in
+      let h = row_is t folder above.0 sound above.1 in
       let same : folder ≡ t.meta.next_node + c.at = cc (c.place) in
       absurd (omega (arith, h.0, h.1.given))
 
@@ -300,115 +279,64 @@ module _ (t : Tables) (now : ℕ) (transfer : Transfer) (name : List ℕ) (rows 
   up : AreHigher t.meta made.meta
   up = record { users = le_refl _; groups = le_refl _; nodes = omega arith; shares = le_refl _; blobs = le_refl _ }
 
-  -- what is left is as it was, also for shares and mounts
-  left_was : (node : ℕ) → node < t.meta.next_node → WasThere left.nodes made.nodes node
+  -- what was there is as it was, also for shares and mounts
+  left_was : (node : ℕ) → node < t.meta.next_node → WasThere t.nodes made.nodes node
   left_was node given row there =
-      was_same left.nodes node row
-      (sym (row_joined left.nodes rows node (λ k d within same. absurd (omega (arith, given, same, (copy k d within).id)))) ∙ there)
+      was_same t.nodes node row
+      (sym (row_joined t.nodes rows node (λ k d within same. absurd (omega (arith, given, same, (copy k d within).id)))) ∙ there)
 
   -- no copy has a mount's name in a user's root
-  copies_off : All (IsOff left) rows
+  copies_off : All (IsOff t) rows
   copies_off zero d within i e among shown =
       let c = copy 0 d within in
-      let at = row_cleared t.nodes transfer.replaced transfer.folder stays in
-      new_off left (get_or rows 0 d) transfer.folder left_fine c.placed.0
-      (subst (IsUnmounted left transfer.folder) (sym c.placed.1) (unmounted_cleared t transfer.replaced transfer.folder name at known.unmounted))
+      new_off t (get_or rows 0 d) transfer.folder sound c.placed.0 (subst (IsUnmounted t transfer.folder) (sym c.placed.1) known.unmounted)
       i e among shown
   copies_off (suc k) d within i e among shown =
-      let mount = get_or left.mounts i e in
+      let mount = get_or t.mounts i e in
       let root = root_folder t.users mount.user in
       let c = copy_in t now transfer name rows mirrors sound k d within in
-      let of = root_row left mount.user left_fine (left_fine.others.mounts i e among).user in
-      let h = row_is left root of.row left_fine of.there in
+      let of = root_row t mount.user sound (sound.others.mounts i e among).user in
+      let h = row_is t root of.row sound of.there in
       false_from_ne_true (is_in root (get_or rows (suc k) d) && bytes_eq (get_or rows (suc k) d).name mount.name) (λ both.
       let inside = (and_parts (is_in root (get_or rows (suc k) d)) (bytes_eq (get_or rows (suc k) d).name mount.name) both).0 in
       let same : t.meta.next_node + c.at ≡ root = eqb-true (t.meta.next_node + c.at) root (ap (is_place_in root) (sym c.place) ∙ inside) in
       absurd (omega (arith, same, h.0, h.1.given)))
 
-  still : Still left made.nodes
+  still : Still t made.nodes
   still = record {
-    of_shares = λ k d within. left_was (get_or left.shares k d).node (left_fine.others.shares k d within).node;
-    of_mounts = λ k d within. left_was (get_or left.mounts k d).node (left_fine.others.mounts k d within).node;
-    present = kept_present left made.nodes left_fine (kept_joined left.nodes rows);
-    off = All-append (IsOff left) left.nodes rows (all_off left left_fine) copies_off;
-    trashed = trash_kept left.nodes made.nodes (kept_joined left.nodes rows);
+    of_shares = λ k d within. left_was (get_or t.shares k d).node (sound.others.shares k d within).node;
+    of_mounts = λ k d within. left_was (get_or t.mounts k d).node (sound.others.mounts k d within).node;
+    present = kept_present t made.nodes sound (kept_joined t.nodes rows);
+    off = All-append (IsOff t) t.nodes rows (all_off t sound) copies_off;
+    trashed = trash_kept t.nodes made.nodes (kept_joined t.nodes rows);
   }
 
   -- ---- all rows
 
-  joined_sound : t.meta.last ≤ now → AllPairs (λ (a b : ℕ). a ≢ b) (walk_of t.nodes transfer.node)
+  pub joined_sound : t.meta.last ≤ now → AllPairs (λ (a b : ℕ). a ≢ b) (walk_of t.nodes transfer.node)
       → length t.nodes + length (walk_of t.nodes transfer.node) ≤ MAX_NODES
       → stored_pieces t + pieces_in t.nodes (walk_of t.nodes transfer.node) ≤ MAX_STORED_PIECES → AreSound made
   joined_sound later once few_nodes few_pieces =
-      let kept = kept_joined left.nodes rows in
-      let counts = counts_cleared t.nodes transfer.replaced in
+      let kept = kept_joined t.nodes rows in
       record {
         counters = counters_up t.meta made.meta sound.counters up;
         rising = joined_rises;
-        nodes = All-append (IsNodeSound made) left.nodes rows
-            (All-weaker (IsNodeSound left) (IsNodeSound made)
-            (λ row. node_kept left made.meta made.nodes row kept (omega arith) (omega arith) later) left.nodes left_fine.nodes)
+        nodes = All-append (IsNodeSound made) t.nodes rows
+            (All-weaker (IsNodeSound t) (IsNodeSound made)
+            (λ row. node_kept t made.meta made.nodes row kept (omega arith) (omega arith) later) t.nodes sound.nodes)
             copies_sound;
-        names = AllPairs-append AreApart left.nodes rows left_fine.names (copies_apart once) old_apart;
-        roots = All-weaker (HasRoot left) (HasRoot made) (root_kept left made.meta made.nodes kept) t.users left_fine.roots;
+        names = AllPairs-append AreApart t.nodes rows sound.names (copies_apart once) old_apart;
+        roots = All-weaker (HasRoot t) (HasRoot made) (root_kept t made.meta made.nodes kept) t.users sound.roots;
         users_given = sound.users_given;
         members_there = sound.members_there;
         groups_given = sound.groups_given;
-        few_nodes = omega (arith, few_nodes, counts.0, mirrors.all, length-append left.nodes rows);
+        few_nodes = omega (arith, few_nodes, mirrors.all, length-append t.nodes rows);
         few_pieces = omega (
           arith,
           few_pieces,
-          counts.1,
           same_pieces t now transfer name rows mirrors,
-          sum_by-append (λ row. length row.content) left.nodes rows,
+          sum_by-append (λ row. length row.content) t.nodes rows,
         );
         later = sound.later;
-        others = others_still left made.meta made.nodes left_fine up later still;
+        others = others_still t made.meta made.nodes sound up later still;
       }
-
-pub copied_sound : (t : Tables) (now : ℕ) (rows : List NodeRow) (replaced : Option ℕ)
-    → AreSound t → t.meta.last ≤ now → KnownCopies t now rows replaced → AreSound (stamp (joined t rows replaced) now)
-copied_sound t now rows replaced sound later copies =
-    subst (λ (o : Option ℕ). AreSound (stamp (joined t rows o) now)) (sym copies.replaced_is)
-    (joined_sound t now copies.transfer copies.name rows (mirrored t now rows replaced sound copies) sound copies.known later
-    (walks_take.once t copies.transfer.node sound) copies.nodes copies.pieces)
-
--- ---- what goes to another owner
-
--- the source hasn't to go with what is replaced
-crossed_left : (t : Tables) (now : ℕ) (rows : List NodeRow) (replaced : Option ℕ) (node : ℕ) → KnownCross t now rows replaced node
-    → is_replaced t.nodes replaced node ≡ false
-crossed_left t now rows replaced node cross =
-    subst (λ (n : ℕ). is_replaced t.nodes replaced n ≡ false) (sym cross.node_is)
-    (subst (λ (o : Option ℕ). is_replaced t.nodes o cross.copies.transfer.node ≡ false) (sym cross.copies.replaced_is) cross.copies.known.apart)
-
--- it is there with the copies, as it was
-pub crossed_row : (t : Tables) (now : ℕ) (rows : List NodeRow) (replaced : Option ℕ) (node : ℕ) → AreSound t → KnownCross t now rows replaced node
-    → node_row (joined t rows replaced).nodes node ≡ node_row t.nodes node
-crossed_row t now rows replaced node sound cross =
-    let copies = cross.copies in
-    let transfer = copies.transfer in
-    let source = row_is t transfer.node copies.known.source.0 sound copies.known.source.1 in
-    let given : node < t.meta.next_node = omega (arith, cross.node_is, source.0, source.1.given) in
-    old_joined t now transfer copies.name rows (mirrored t now rows replaced sound copies) (cleared t.nodes replaced) node given
-    ∙ row_cleared t.nodes replaced node (crossed_left t now rows replaced node cross)
-
-pub crossed_no_root : (t : Tables) (now : ℕ) (rows : List NodeRow) (replaced : Option ℕ) (node : ℕ) → AreSound t → KnownCross t now rows replaced node
-    → is_root (joined t rows replaced).nodes node ≡ false
-crossed_no_root t now rows replaced node sound cross =
-    ap (λ (o : Option NodeRow). option_map_or (λ row. is_root_place row.place) o false) (crossed_row t now rows replaced node sound cross)
-    ∙ ap (is_root t.nodes) cross.node_is ∙ cross.copies.known.no_root
-
--- and present
-pub crossed_present : (t : Tables) (now : ℕ) (rows : List NodeRow) (replaced : Option ℕ) (node : ℕ) → AreSound t → KnownCross t now rows replaced node
-    → LeadsToRoot (joined t rows replaced).nodes node
-crossed_present t now rows replaced node sound cross =
-    kept_leads (cleared t.nodes replaced) (joined t rows replaced).nodes node (kept_joined (cleared t.nodes replaced) rows)
-    (cleared_leads t replaced node sound (crossed_left t now rows replaced node cross)
-    (subst (LeadsToRoot t.nodes) (sym cross.node_is) cross.copies.known.present))
-
-pub crossed_sound : (t : Tables) (now : ℕ) (rows : List NodeRow) (replaced : Option ℕ) (node : ℕ)
-    → AreSound t → t.meta.last ≤ now → KnownCross t now rows replaced node → AreSound (stamp (removed (joined t rows replaced) node) now)
-crossed_sound t now rows replaced node sound later cross =
-    left_sound (stamp (joined t rows replaced) now) node (copied_sound t now rows replaced sound later cross.copies)
-    (crossed_no_root t now rows replaced node sound cross) (crossed_present t now rows replaced node sound cross)

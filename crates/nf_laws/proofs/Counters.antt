@@ -1,10 +1,10 @@
 -- Counters never fall.
-use Rattle.std.proofs.Common.{ℕ, ◌+◌, ◌≤◌, List, [], ◌∷◌, ◌++◌, length, arith, le_refl}
+use Rattle.std.proofs.Common.{ℕ, ◌≤◌, List, [], ◌∷◌, ◌++◌, arith, le_refl}
 use Rattle.nf_base.specs.declared.rows.MetaRow.{MetaRow}
 use Rattle.nf_defs.specs.Tables.{Tables}
 use Rattle.nf_laws.proofs.Entries.{entry_has}
 use Rattle.nf_laws.proofs.Lists.{raised_higher}
-use Rattle.nf_laws.proofs.Purged.{purged_keeps}
+use Rattle.nf_laws.proofs.InTurn.{deeds_keep}
 use Rattle.nf_laws.proofs.Rows.{stamp, stamped_has}
 use Rattle.nf_laws.specs.Numbers.{AreHigher, CountersRise}
 use Rattle.nf_words.specs.Prelude.{after, after_mark, altered, changed, deed_done, replay, State, told}
@@ -21,19 +21,21 @@ up meta now nodes more = record { users = le_refl _; groups = le_refl _; nodes =
 same : (meta : MetaRow) → AreHigher meta meta
 same meta = up meta meta.last meta.next_node (le_refl _)
 
--- no deed of the trash changes one
-done_up : (t : Tables) (now : ℕ) (did : Deed) → AreHigher t.meta (stamp (deed_done t did) now).meta
-done_up t now deed.Nothing = up t.meta now t.meta.next_node (le_refl _)
-done_up t now (deed.Discard item) = up t.meta now t.meta.next_node (le_refl _)
-done_up t now (deed.Restore top folder name) = up t.meta now t.meta.next_node (le_refl _)
-done_up t now (deed.Requote row) = up t.meta now t.meta.next_node (le_refl _)
+-- copies alone take numbers of nodes
+deed_up : (first : MetaRow) (now : ℕ) (u : Tables) (one : Deed) → AreHigher first (record u.meta { last = now })
+    → AreHigher first (record (deed_done u one).meta { last = now })
+deed_up first now u (deed.Join rows) h =
+    record { users = h.users; groups = h.groups; nodes = omega (arith, h.nodes); shares = h.shares; blobs = h.blobs }
+deed_up first now u (deed.Discard item) h = h
+deed_up first now u (deed.Purge node) h = h
+deed_up first now u (deed.Restore node folder name) h = h
+deed_up first now u (deed.Relink node folder name) h = h
+deed_up first now u (deed.Requote row) h = h
 
 altered_up : (t : Tables) (now : ℕ) (act : Allowed) → AreHigher t.meta (stamp (altered t now act) now).meta
 altered_up t now (allowed.Change changes blob report) = raised_higher t now changes blob
-altered_up t now (allowed.Copy rows replaced) = up t.meta now (t.meta.next_node + length rows) (omega arith)
-altered_up t now (allowed.Cross rows replaced node) = up t.meta now (t.meta.next_node + length rows) (omega arith)
-altered_up t now (allowed.Trash did gone report) =
-    purged_keeps (λ (u : Tables). AreHigher t.meta (record u.meta { last = now })) (λ u top h. h) (deed_done t did) gone (done_up t now did)
+altered_up t now (allowed.Deeds deeds report) =
+    deeds_keep (λ (u : Tables). AreHigher t.meta (record u.meta { last = now })) (deed_up t.meta now) t deeds (up t.meta now t.meta.next_node (le_refl _))
 altered_up t now act = up t.meta now t.meta.next_node (le_refl _)
 
 pub changed_up : (t : Tables) (now : ℕ) (act : Allowed) → AreHigher t.meta (changed t now act).meta

@@ -3,12 +3,10 @@ use Rattle.std.proofs.Common.{◌≡◌, ℕ, ◌||◌, Bool, true, false, List,
 use Rattle.std.specs.Prelude.{None, Some}
 use Rattle.std.specs.Option.{IfSome}
 use Rattle.nf_access.specs.Shares.{share_row}
-use Rattle.nf_base.specs.declared.rows.NodeRow.{NodeRow}
 use Rattle.nf_base.specs.declared.rows.ShareRow.{ShareRow}
 use Rattle.nf_laws.proofs.Others.{row_ended, unless_gone}
 use Rattle.nf_laws.specs.Acts.{AreEnded}
-use Rattle.nf_laws.specs.Transfers.{is_replaced}
-use Rattle.nf_words.specs.Prelude.{ended_for, ended_row}
+use Rattle.nf_words.specs.Prelude.{ended_row}
 
 is_ended : (gone : ℕ → Bool) (share : ShareRow) → gone share.node ≡ true → unless_gone gone share ≡ ended_row share
 is_ended gone share is = ap (λ (b : Bool). if b then ended_row share else share) is
@@ -48,10 +46,3 @@ module _ (p q : ℕ → Bool) where
   ended_twice (share ∷ shares) =
       ap (λ (row : ShareRow). row ∷ map (unless_gone q) (map (unless_gone p) shares)) (one_twice share)
       ∙ ap (λ (rows : List ShareRow). unless_gone any share ∷ rows) (ended_twice shares)
-
--- so with what is replaced
-pub replaced_ended : (rows : List NodeRow) (replaced : Option ℕ) (shares : List ShareRow)
-    → ended_for rows replaced shares ≡ map (unless_gone (is_replaced rows replaced)) shares
-replaced_ended rows None [] = refl
-replaced_ended rows None (share ∷ shares) = ap (λ (others : List ShareRow). share ∷ others) (replaced_ended rows None shares)
-replaced_ended rows (Some top) shares = refl

@@ -1,17 +1,19 @@
 -- What a state is after an entry: as before it but for what an event takes, or as an act made it of which its Known is known.
-use Rattle.std.proofs.Common.{ℕ, ◌==◌, ◌≡◌, not, List, Option, None, Some, Result, Ok, Err, refl, sym, ap, subst}
+use Rattle.std.proofs.Common.{ℕ, ◌==◌, ◌≡◌, ◌≤◌, not, List, Option, None, Some, Result, Ok, Err, refl, sym, ap, subst}
 use Rattle.std.specs.List.{All}
 use Rattle.std.specs.Option.{IfSome}
 use Rattle.std.proofs.lemmas.List.Elements.{All-filter, All-push}
 use Rattle.nf_defs.specs.Prelude.{made, Tables}
+use Rattle.nf_laws.proofs.InTurn.{deeds_have, deeds_keep, Fit}
 use Rattle.nf_laws.proofs.Lists.{changes_have, with_born, with_filled, with_remounted, with_share}
+use Rattle.nf_laws.proofs.Others.{stamp_sound}
+use Rattle.nf_laws.proofs.Parts.{deeds_stamped, step_turn}
 use Rattle.nf_laws.proofs.Peopled.{people_alone, with_rooted}
-use Rattle.nf_laws.proofs.Purged.{purged_keeps}
 use Rattle.nf_laws.proofs.Rows.{stamp, stamped_has}
 use Rattle.nf_laws.specs.Wholes.{blob_under}
 use Rattle.nf_words.proofs.Ends.{known_change}
-use Rattle.nf_words.proofs.Known.{Known}
-use Rattle.nf_words.specs.Prelude.{after, after_mark, altered, AreSound, blob_by, blob_of, changed, decided, decision_of, deed_done, goal_of, hold_of, IsSound, MayCome, purged, State, step, ticket_for, told, with_goal, without}
+use Rattle.nf_words.proofs.Known.{Known, KnownDeeds}
+use Rattle.nf_words.specs.Prelude.{after, after_mark, altered, AreSound, blob_by, blob_of, changed, decided, decision_of, deed_done, deeds_done, goal_of, hold_of, IsSound, MayCome, State, step, ticket_for, told, with_goal, without}
 use Rattle.nf_words.specs.declared.answer.Allowed.{Allowed}
 use Rattle.nf_words.specs.declared.answer.Allowed.TheVariants as allowed
 use Rattle.nf_words.specs.declared.answer.Deed.{Deed}
@@ -21,7 +23,7 @@ use Rattle.nf_words.specs.declared.answer.Goal.{Goal}
 use Rattle.nf_words.specs.declared.answer.Hold.{Hold}
 use Rattle.nf_words.specs.declared.history.Entry.{Entry}
 use Rattle.nf_words.specs.declared.history.Event.{Event}
-use Rattle.nf_words.specs.declared.history.Event.TheVariants.{Begin, End}
+use Rattle.nf_words.specs.declared.history.Event.TheVariants.{Begin, End, Sweep}
 use Rattle.nf_words.specs.declared.history.Mark.{Mark}
 use Rattle.nf_words.specs.declared.history.Mark.TheVariants as mark
 use Rattle.nf_words.specs.declared.history.Ticket.{Ticket}
@@ -32,6 +34,7 @@ use Rattle.nf_words.specs.declared.history.Ticket.{Ticket}
 pub tickets_left : (P : Ticket → Type 0) (s : State) (seat : ℕ) (event : Event) → All P s.tickets → All P (without s seat event).tickets
 tickets_left P s seat (Begin words request) all = all
 tickets_left P s seat (End outcome) all = All-filter (λ ticket. not (ticket.seat == seat)) P s.tickets all
+tickets_left P s seat Sweep all = all
 
 -- and those with the one that is granted, which has it
 pub tickets_with : (P : Ticket → Type 0) (tickets : List Ticket) (seat : ℕ) (goal : Option Goal) (hold : Option Hold)
@@ -45,6 +48,7 @@ tickets_with P tickets seat (Some goal) hold all one = All-push P tickets _ all 
 same_tables : (s : State) (seat : ℕ) (event : Event) → s.tables ≡ (without s seat event).tables
 same_tables s seat (Begin words request) = refl
 same_tables s seat (End outcome) = refl
+same_tables s seat Sweep = refl
 
 -- what holds with a refusal, and of each act that is decided on, holds after the step
 pub step_has : (P : Tables → List Ticket → Result Allowed Denial → Type 0) (s : State) (seat now : ℕ) (event : Event)
@@ -70,6 +74,14 @@ pub step_changed : (s : State) (seat now : ℕ) (event : Event) (act : Allowed) 
 step_changed s seat now event act =
     step_has (λ t tickets decision. decision ≡ Ok act → t ≡ changed s.tables now act) s seat now event (λ refusal is. absurd (cc))
     (λ other decides is. let same : other ≡ act = cc in ap (changed s.tables now) same)
+
+-- what the tables have before known deeds, and each deed keeps where it is done, they have after them
+pub deeds_known_have : (P : Tables → Type 0) (t : Tables) (now : ℕ) (deeds : List Deed) → AreSound t → t.meta.last ≤ now → KnownDeeds t now deeds
+    → ((u : Tables) (one : Deed) → AreSound u → u.meta.last ≡ now → Fit u now one → P u → P (deed_done u one))
+    → P (stamp t now) → P (stamp (deeds_done t deeds) now)
+deeds_known_have P t now deeds sound later known keeps has =
+    subst P (deeds_stamped t now deeds)
+    (deeds_have P now keeps (stamp t now) deeds (stamp_sound t now sound later) refl (step_turn t now deeds sound later known) has)
 
 -- ---- an entry
 
@@ -106,12 +118,14 @@ RestKept t u =
       items = u.items;
     }
 
--- no deed of the trash makes other rows of other kinds
-rest_done : (t : Tables) (did : Deed) → RestKept t (deed_done t did)
-rest_done t deed.Nothing = refl
-rest_done t (deed.Discard item) = refl
-rest_done t (deed.Restore top folder name) = refl
-rest_done t (deed.Requote row) = refl
+-- no deed makes other rows of other kinds
+rest_done : (t u : Tables) (one : Deed) → RestKept t u → RestKept t (deed_done u one)
+rest_done t u (deed.Discard item) same = ap (λ (v : Tables). deed_done v (deed.Discard item)) same
+rest_done t u (deed.Purge node) same = ap (λ (v : Tables). deed_done v (deed.Purge node)) same
+rest_done t u (deed.Restore node folder name) same = ap (λ (v : Tables). deed_done v (deed.Restore node folder name)) same
+rest_done t u (deed.Relink node folder name) same = ap (λ (v : Tables). deed_done v (deed.Relink node folder name)) same
+rest_done t u (deed.Join rows) same = ap (λ (v : Tables). deed_done v (deed.Join rows)) same
+rest_done t u (deed.Requote row) same = ap (λ (v : Tables). deed_done v (deed.Requote row)) same
 
 -- nor does any act
 pub rest_kept : (t : Tables) (now : ℕ) (act : Allowed) → AreSound t → Known t now act
@@ -125,7 +139,6 @@ rest_kept t now (allowed.Change changes blob report) sound known =
     subst (RestKept t) (sym (people_alone u change it))
     (ap (λ (v : Tables). record v { users = by.users; tokens = by.tokens; groups = by.groups; members = by.members }) same))
     (λ u row root same it. ap (λ (v : Tables). with_rooted v row root) same) refl
-rest_kept t now (allowed.Trash did gone report) sound known =
-    purged_keeps (RestKept t) (λ u top same. ap (λ (v : Tables). purged v top) same) (deed_done t did) gone (rest_done t did)
+rest_kept t now (allowed.Deeds deeds report) sound known = deeds_keep (RestKept t) (rest_done t) t deeds refl
 rest_kept t now allowed.Close sound known = refl
 rest_kept t now act sound known = refl

@@ -1,18 +1,19 @@
--- What fits what is needed: what becomes of nodes, shares and mounts where nothing of the trash is asked.
+-- What fits what is needed: what becomes of nodes, shares, mounts and items, but by what is asked about users, groups and the trash.
 use Rattle.std.proofs.Common.{ℕ, ◌==◌, ◌≡◌, ◌≢◌, ◌⊎◌, ◌≤◌, suc, Bool, true, false, not, List, [], ◌∷◌, ◌++◌, Option, None, Some, option_map, if◌then◌else◌, map, inl, inr, refl, sym, ap, subst, ◌∙◌, arith}
 use Rattle.std.specs.Prelude.{is_some}
 use Rattle.std.specs.List.{All}
-use Rattle.std.specs.Option.{IfSome, option_and_then, option_map_or, option_or}
+use Rattle.std.specs.Option.{option_and_then, option_map_or, option_or}
 use Rattle.std.specs.declared.cmp.Ordering.{Ordering}
 use Rattle.std.specs.declared.cmp.Ordering.TheVariants.{Equal, Less}
-use Rattle.std.proofs.lemmas.Bool.{both_ways, cases_Bool, cond_both, eq-eqb, eqb-true, false≢true}
+use Rattle.std.proofs.lemmas.Bool.{both_ways, cases_Bool, cases_lt, cond_both, eq-eqb, eqb-true, false≢true}
 use Rattle.std.proofs.lemmas.Cmp.{tied_itself}
-use Rattle.std.proofs.lemmas.List.Elements.{All-head, All-tail, Contains-append_right}
+use Rattle.std.proofs.lemmas.List.Elements.{All-cons, All-contains, All-head, All-nil, All-tail, Contains-append_right}
 use Rattle.std.proofs.lemmas.Option.{none-some, same_Some}
 use Rattle.nf_access.specs.Mounts.{is_mount_of, mount_at, mount_row}
 use Rattle.nf_base.specs.declared.content.Piece.{Piece}
 use Rattle.nf_base.specs.declared.perms.Act.{Act}
 use Rattle.nf_base.specs.declared.perms.Act.TheVariants as act
+use Rattle.nf_base.specs.declared.rows.MetaRow.{MetaRow}
 use Rattle.nf_base.specs.declared.rows.MountRow.{MountRow}
 use Rattle.nf_base.specs.declared.rows.NodeKind.{NodeKind}
 use Rattle.nf_base.specs.declared.rows.NodeKind.TheVariants.{File, Folder}
@@ -24,26 +25,35 @@ use Rattle.nf_defs.specs.declared.Found.{Found}
 use Rattle.nf_defs.specs.declared.Found.TheVariants.{At, Free, Missing}
 use Rattle.nf_defs.specs.declared.Seeker.{Seeker}
 use Rattle.nf_laws.proofs.Acting.{added_rows}
+use Rattle.nf_laws.proofs.Acted.{IsNew, NoNode}
 use Rattle.nf_laws.proofs.Asking.{asks_share, OneShare}
-use Rattle.nf_laws.proofs.Following.{AllFollow, added_follow, copied_follow, copied_shares, crossed_follow, crossed_shares, kept_shares, moved_follow, moved_shares, refilled_follow, shares_gone}
+use Rattle.nf_laws.proofs.Carried.{AreJoined, copying_kind, crossing_kind, IsRelinked, Kind, leaving_kind, meta_with, moving_kind}
+use Rattle.nf_laws.proofs.Following.{AllFollow, added_follow, copy_follows, kept_shares, refilled_follow, shares_gone}
+use Rattle.nf_laws.proofs.InTurn.{deeds_append}
+use Rattle.nf_laws.proofs.Leaving.{acted_follow, acted_items, acted_shares, IsBesideOne, same_items}
+use Rattle.nf_laws.proofs.Mirrored.{mirrored}
+use Rattle.nf_laws.proofs.Others.{stamp_sound}
+use Rattle.nf_laws.proofs.Parts.{deeds_stamped}
+use Rattle.nf_laws.proofs.Parts.{copies_stamped, leaving_stamped, transfer_stamped}
 use Rattle.nf_laws.proofs.Reaching.{way_mount}
-use Rattle.nf_laws.proofs.Remaining.{added_present, copied_present, crossed_keeps, KeepsPresent, moved_present, refilled_present}
-use Rattle.nf_laws.proofs.Rows.{found_is, inside_folder, parent_there, stamped_has}
-use Rattle.nf_laws.proofs.Transferred.{moved_rows}
+use Rattle.nf_laws.proofs.Remaining.{added_present, gone_present, KeepsPresent, refilled_present}
+use Rattle.nf_laws.proofs.Rows.{found_is, inside_folder, parent_there, row_id, stamp, stamped_has}
 use Rattle.nf_laws.proofs.Upwards.{climbs_is_under}
 use Rattle.nf_laws.specs.Acts.{IsAdded, IsPut, IsRefilled}
-use Rattle.nf_laws.specs.Access.{Follows, IsNeeded, IsOwnPath, Remounts, is_left, is_moved, is_renamed, is_updated}
-use Rattle.nf_words.proofs.Begins.{only_at, places_at, WantedPasses}
+use Rattle.nf_laws.specs.Access.{Follows, IsNeeded, IsOwnPath, ItemsFollow, KeepsShares, Remounts, is_left, is_moved, is_renamed, is_updated}
+use Rattle.nf_laws.specs.Transfers.{replaced_by}
+use Rattle.nf_words.proofs.Begins.{delete_leaves, only_at, places_at, WantedPasses}
 use Rattle.nf_words.proofs.Fits.{within}
-use Rattle.nf_words.proofs.Known.{KnownCopies, KnownTransfer}
+use Rattle.nf_words.proofs.Known.{KnownCopies, KnownLeaving, KnownTransfer}
 use Rattle.nf_words.proofs.Mounting.{mounts_differ, own_known, same_key, shown_mount}
 use Rattle.nf_words.proofs.Starts.{IsAsking, itself_seeks}
 use Rattle.nf_words.proofs.Transfers.{copies_known, no_mount, no_starts, transfer_known, transfer_parts}
 use Rattle.nf_words.proofs.Ways.{free_no_mount, slot_known}
 use Rattle.nf_words.specs.Needed.{source_act, target_needs}
-use Rattle.nf_words.specs.Prelude.{access_of, AreSound, asked_of, asker_of, by_of, Call, carry_limit, changed, copied, copies_to, copy_limit, crosses, deepest_in, deleted, fault_of_ask, folder_at, found, given, is_itself, is_one, is_start, is_within, joined, last_name, LeadsToRoot, left_row, limited, listing_of, made_folder, mount_for, mount_left, mount_of, mount_renamed, mounted, move_limit, moved, named_row, Need, needed, needed_by, needs, needs_at, needs_between, needs_in, node_at, node_found, own_mount, removed, root_of, seeker_of, served, shared, stored, told, transfer_of, transferred, unfit_between, unreached, Way, way_by, way_of, with_mount_row}
+use Rattle.nf_words.specs.Prelude.{access_of, AreSound, asked_of, asker_of, by_of, beside, Call, carry_limit, changed, copied, copies, copies_to, copy_limit, crosses, crossing, deeds_done, deepest_in, deleted, discard, fault_of_ask, folder_at, found, given, is_itself, is_one, is_start, is_within, last_name, LeadsToRoot, left_row, limited, listing_of, made_folder, made_or_done, mount_for, mount_left, mount_of, mount_renamed, mounted, move_limit, moved, moves, named_row, Need, needed, needed_by, needs, needs_at, needs_between, needs_in, node_at, node_found, own_mount, purges, root_of, row_at, seeker_of, served, shared, stored, told, transfer_of, unfit_between, unreached, Way, way_by, way_of, with_mount_row}
 use Rattle.nf_words.specs.declared.answer.Allowed.TheVariants as allowed
 use Rattle.nf_words.specs.declared.answer.By.{By}
+use Rattle.nf_words.specs.declared.answer.Deed.{Deed}
 use Rattle.nf_words.specs.declared.answer.LockKey.{LockKey}
 use Rattle.nf_words.specs.declared.answer.LockKey.TheVariants.{Node, Slot}
 use Rattle.nf_words.specs.declared.answer.Report.{Report}
@@ -58,52 +68,71 @@ use Rattle.nf_words.specs.declared.request.Wanted.TheVariants.{Get, Put, Mkcol, 
 
 -- ---- what fits
 
--- but for the meta row, nodes, shares and mounts all is as it was
+-- but for the meta row, nodes, shares, mounts and items all is as it was
 abbrev pub KeepsRest : Tables → Tables → Type 0
-KeepsRest t made = made ≡ record t { meta = made.meta; nodes = made.nodes; shares = made.shares; mounts = made.mounts }
+KeepsRest t made = made ≡ record t { meta = made.meta; nodes = made.nodes; shares = made.shares; mounts = made.mounts; items = made.items }
 
--- so it is where the nodes alone are others
-rest_of : (t made : Tables) → made ≡ record t { meta = made.meta; nodes = made.nodes } → KeepsRest t made
-rest_of t made is = subst (KeepsRest t) (sym is) refl
+-- between, what became of each node and item whose row is another follows from what is needed. Just the shares end of nodes that aren't
+-- present any more, and mounts are as they were, or both are as something else has it. Then items go, of the owners of what is deleted
+pub record Fits (t : Tables) (now : ℕ) (needs : List Need) (Other : Tables → Type 0) (made : Tables) : Type 0 where
+  pub between : Tables
+  pub follow : AllFollow needs t.nodes between.nodes
+  pub others : (AreSound made → KeepsShares t between) ⊎ Other between
+  pub items : ItemsFollow needs now t.items between.items
+  pub rest : KeepsRest t between
+  pub gone : List ℕ
+  pub beside : All (IsBesideOne t needs) gone
+  pub made_is : made ≡ deeds_done between (purges gone)
 
--- the shares of nodes that are gone end, and the mounts are as they were
-pub record KeepsGone (t made : Tables) : Type 0 where
-  pub shares : made.shares ≡ shares_gone t.nodes made.nodes t.shares
-  pub mounts : made.mounts ≡ t.mounts
+-- ---- where nothing leaves its place
 
--- where a row is another what became of the node follows from what is needed, and what is present and there stays present. Shares end
--- with their nodes and mounts are as they were, or both are as something else has it
-pub record Fits (t : Tables) (needs : List Need) (Other : Tables → Type 0) (made : Tables) : Type 0 where
-  pub follow : AllFollow needs t.nodes made.nodes
-  pub present : KeepsPresent t.nodes made.nodes
-  pub others : KeepsGone t made ⊎ Other made
-  pub rest : KeepsRest t made
+-- where a row is another what became of the node follows from what is needed, and what is present and there stays present. The shares of
+-- nodes that are gone end and mounts are as they were, or both are as something else has it
+record FitsAlone (t : Tables) (needs : List Need) (Other : Tables → Type 0) (made : Tables) : Type 0 where
+  follow : AllFollow needs t.nodes made.nodes
+  present : KeepsPresent t.nodes made.nodes
+  others : ((made.shares ≡ shares_gone t.nodes made.nodes t.shares) × (made.mounts ≡ t.mounts)) ⊎ Other made
+  rest : made ≡ record t { meta = made.meta; nodes = made.nodes; shares = made.shares; mounts = made.mounts }
+
+alone_fits : (t made : Tables) (now : ℕ) (needs : List Need) (Other : Tables → Type 0) → AreSound t → FitsAlone t needs Other made
+    → Fits t now needs Other made
+alone_fits t made now needs Other sound alone = record {
+  between = made;
+  follow = alone.follow;
+  others = elim alone.others [
+    | inl keeps ↦ inl (λ fine. record { shares = keeps.0 ∙ gone_present t made sound fine alone.present; mounts = keeps.1 })
+    | inr one ↦ inr one
+  ];
+  items = subst (ItemsFollow needs now t.items) (sym (ap (λ (u : Tables). u.items) alone.rest)) (same_items needs now t.items);
+  rest = subst (KeepsRest t) (sym alone.rest) refl;
+  gone = [];
+  beside = All-nil (IsBesideOne t needs);
+  made_is = refl;
+}
 
 same_follow : (needs : List Need) (rows : List NodeRow) → AllFollow needs rows rows
 same_follow needs rows node differs = absurd (differs refl)
 
-same_fits : (t : Tables) (needs : List Need) (Other : Tables → Type 0) → AreSound t → Fits t needs Other t
-same_fits t needs Other sound =
-    record {
+same_fits : (t : Tables) (now : ℕ) (needs : List Need) (Other : Tables → Type 0) → AreSound t → Fits t now needs Other t
+same_fits t now needs Other sound =
+    alone_fits t t now needs Other sound (record {
       follow = same_follow needs t.nodes;
       present = λ node up there. up;
-      others = inl (record { shares = kept_shares t t.nodes sound (λ node there. there); mounts = refl });
+      others = inl (kept_shares t.nodes t.nodes t.shares (λ node there. there), refl);
       rest = refl;
-    }
+    })
 
 -- where a node is added, or refilled
 added_fits : (t made : Tables) (now folder : ℕ) (name : List ℕ) (kind : NodeKind) (content : List Piece) (needs : List Need)
     (Other : Tables → Type 0) → AreSound t → IsAdded t made now folder name kind content → IsNeeded needs act.Create folder
-    → Fits t needs Other made
-added_fits t made now folder name kind content needs Other sound is needed = record {
-  follow = added_follow t made now folder name kind content needs is needed;
-  present = added_present t made now folder name kind content sound is;
-  others = inl (record {
-    shares = ap (λ (u : Tables). u.shares) is.rest ∙ kept_shares t made.nodes sound stay;
-    mounts = ap (λ (u : Tables). u.mounts) is.rest;
-  });
-  rest = subst (KeepsRest t) (sym is.rest) refl;
-}
+    → Fits t now needs Other made
+added_fits t made now folder name kind content needs Other sound is needed =
+    alone_fits t made now needs Other sound (record {
+      follow = added_follow t made now folder name kind content needs is needed;
+      present = added_present t made now folder name kind content sound is;
+      others = inl (ap (λ (u : Tables). u.shares) is.rest ∙ kept_shares t.nodes made.nodes t.shares stay, ap (λ (u : Tables). u.mounts) is.rest);
+      rest = subst (λ (u : Tables). u ≡ record t { meta = u.meta; nodes = u.nodes; shares = u.shares; mounts = u.mounts }) (sym is.rest) refl;
+    })
   where
     stay : (node : ℕ) → is_some (node_row t.nodes node) ≡ true → is_some (node_row made.nodes node) ≡ true
     stay node there =
@@ -113,16 +142,14 @@ added_fits t made now folder name kind content needs Other sound is needed = rec
         ]
 
 refilled_fits : (t made : Tables) (now node : ℕ) (content : List Piece) (needs : List Need) (Other : Tables → Type 0) → AreSound t
-    → IsRefilled t made now node content → IsNeeded needs act.Update node → Fits t needs Other made
-refilled_fits t made now node content needs Other sound is needed = record {
-  follow = refilled_follow t made now node content needs is needed;
-  present = refilled_present t made now node content is;
-  others = inl (record {
-    shares = ap (λ (u : Tables). u.shares) is.rest ∙ kept_shares t made.nodes sound stay;
-    mounts = ap (λ (u : Tables). u.mounts) is.rest;
-  });
-  rest = subst (KeepsRest t) (sym is.rest) refl;
-}
+    → IsRefilled t made now node content → IsNeeded needs act.Update node → Fits t now needs Other made
+refilled_fits t made now node content needs Other sound is needed =
+    alone_fits t made now needs Other sound (record {
+      follow = refilled_follow t made now node content needs is needed;
+      present = refilled_present t made now node content is;
+      others = inl (ap (λ (u : Tables). u.shares) is.rest ∙ kept_shares t.nodes made.nodes t.shares stay, ap (λ (u : Tables). u.mounts) is.rest);
+      rest = subst (λ (u : Tables). u ≡ record t { meta = u.meta; nodes = u.nodes; shares = u.shares; mounts = u.mounts }) (sym is.rest) refl;
+    })
   where
     stay : (other : ℕ) → is_some (node_row t.nodes other) ≡ true → is_some (node_row made.nodes other) ≡ true
     stay other there =
@@ -130,6 +157,39 @@ refilled_fits t made now node content needs Other sound is needed = record {
           | inl same ↦ ap is_some (ap (node_row made.nodes) (eqb-true other node same) ∙ is.itself)
           | inr differs ↦ ap is_some (is.others other (λ e. both_ways (other == node) differs (eq-eqb other node e))) ∙ there
         ]
+
+-- ---- where nodes leave their places
+
+module _ (t : Tables) (now : ℕ) (deeds : List Deed) (leave : List ℕ) (IsPut : ℕ → Type 0) (Put : Tables → Type 0) (meta : MetaRow)
+    (sound : AreSound t) (later : t.meta.last ≤ now) (kind : Kind (stamp t now) now deeds leave IsPut Put meta) (needs : List Need)
+    (needed : All (IsNeeded needs act.Delete) leave) (Other : Tables → Type 0) where
+  abbrev acts : Tables
+  acts = deeds_done (stamp t now) (kind.one ∷ kind.more)
+
+  then_goes : stamp (deeds_done t deeds) now ≡ deeds_done acts (purges kind.gone)
+  then_goes =
+      sym (deeds_stamped t now deeds) ∙ ap (deeds_done (stamp t now)) kind.are ∙ deeds_append (stamp t now) (kind.one ∷ kind.more) (purges kind.gone)
+
+  -- where what becomes of what is put somewhere follows from what is needed
+  kind_fits : ((node : ℕ) → (IsPut node → ⊥) ⊎ (node_row acts.nodes node ≢ node_row t.nodes node → Follows needs t.nodes acts.nodes node))
+      → Fits t now needs Other (stamp (deeds_done t deeds) now)
+  kind_fits puts =
+      let fine = stamp_sound t now sound later in
+      record {
+        between = acts;
+        follow = acted_follow (stamp t now) acts now leave IsPut needs fine kind.acted needed puts;
+        others = inl (λ any. record {
+          shares = acted_shares (stamp t now) acts now leave IsPut needs fine kind.acted needed;
+          mounts = ap (λ (u : Tables). u.mounts) kind.rest;
+        });
+        items = acted_items (stamp t now) acts now leave IsPut needs fine kind.acted needed;
+        rest = subst (KeepsRest t) (sym kind.rest) refl;
+        gone = kind.gone;
+        beside = λ k d within.
+            let one = kind.beside k d within in
+            (one.0, All-contains (IsNeeded needs act.Delete) leave one.0 needed one.1, one.2);
+        made_is = then_goes;
+      }
 
 -- the first of what is needed
 pub first_needed : (need : Need) (others : List Need) → IsNeeded (need ∷ others) need.act need.node
@@ -245,12 +305,15 @@ copy_needs : (rows : List NodeRow) (root : ℕ) (source target : Spot) (overwrit
     → needs_between rows root (asked_of (Copy source target overwrite)) (Some from) (Some to) ≡ copied_needs from.mount to.mount transfer
 copy_needs rows root source target overwrite from to transfer is other on = rw (other, on, is.source, is.replaced, is.folder) refl
 
--- what has to go is deleted, whatever else is needed
+-- what is replaced is deleted, whatever else is needed
 replaced_needed : (front : List Need) (replaced to : Option ℕ)
-    → IfSome replaced (IsNeeded (front ++ needs act.Delete replaced to) act.Delete)
-replaced_needed front None to = tt
+    → All (IsNeeded (front ++ needs act.Delete replaced to) act.Delete) (option_map_or (λ node. node ∷ []) replaced [])
+replaced_needed front None to = All-nil (IsNeeded (front ++ []) act.Delete)
 replaced_needed front (Some top) to =
+    let all = front ++ need_of act.Delete top to ∷ [] in
+    All-cons (IsNeeded all act.Delete) top []
     (to, Contains-append_right front (need_of act.Delete top to ∷ []) (need_of act.Delete top to) (0, omega arith, refl))
+    (All-nil (IsNeeded all act.Delete))
 
 -- a node that is moved within its folder is in the target's
 within_folder : (t : Tables) (root : ℕ) (from to : Way) (transfer : Transfer) → AreSound t → is_under t.nodes transfer.folder transfer.node ≡ false
@@ -279,12 +342,11 @@ within_owner t transfer row sound there above =
 
 -- ---- a Begin
 
--- something is asked about users, groups or the trash, or a node is deleted
-abbrev pub is_apart : Call → Wanted → Bool
-is_apart call (Delete spot) = not (way_of call spot).itself
-is_apart call (People asked) = true
-is_apart call (Trash asked) = true
-is_apart call wanted = false
+-- something is asked about users, groups or the trash
+abbrev pub is_apart : Wanted → Bool
+is_apart (People asked) = true
+is_apart (Trash asked) = true
+is_apart wanted = false
 
 -- that who is there makes
 module _ (call : Call) (sound : AreSound call.state.tables) (later : call.state.tables.meta.last ≤ call.now) (is : IsAsking call) where
@@ -295,7 +357,7 @@ module _ (call : Call) (sound : AreSound call.state.tables) (later : call.state.
   root = root_of call
 
   abbrev pub FitsCall : List Need → Tables → Type 0
-  FitsCall needs made = Fits t needs (OneOther call) made
+  FitsCall needs made = Fits t call.now needs (OneOther call) made
 
   abbrev Reached : Spot → Type 0
   Reached spot = unreached (access_of call.state) call (way_of call spot) ≡ None
@@ -326,7 +388,7 @@ module _ (call : Call) (sound : AreSound call.state.tables) (later : call.state.
       (λ i. mount_row t.mounts (user old i) (node old i)) ∙ there in
       subst (λ (o : Option MountRow). FitsCall needs (changed t call.now (with_mount_row (option_map change o) told)))
       (sym (ap (own_mount call) own.by ∙ own.there))
-      (record {
+      (alone_fits t _ call.now needs (OneOther call) sound (record {
         follow = same_follow needs t.nodes;
         present = λ node up there. up;
         others = inr (inl (record {
@@ -339,7 +401,26 @@ module _ (call : Call) (sound : AreSound call.state.tables) (later : call.state.
           shares = refl;
         }));
         rest = refl;
-      })
+      }))
+
+  -- ---- deeds
+
+  -- the tables at the call's moment
+  abbrev dated : Tables
+  dated = stamp t call.now
+
+  fine : AreSound dated
+  fine = stamp_sound t call.now sound later
+
+  kinds_fit : (deeds : List Deed) (answered : Report) (leave : List ℕ) (IsThere : ℕ → Type 0) (Holds : Tables → Type 0) (meta : MetaRow)
+      (asked : List Need) (kind : Kind dated call.now deeds leave IsThere Holds meta) → All (IsNeeded asked act.Delete) leave
+      → ((node : ℕ) → (IsThere node → ⊥) ⊎ (node_row (deeds_done dated (kind.one ∷ kind.more)).nodes node ≢ node_row t.nodes node
+      → Follows asked t.nodes (deeds_done dated (kind.one ∷ kind.more)).nodes node))
+      → FitsCall asked (changed t call.now (allowed.Deeds deeds answered))
+  kinds_fit deeds answered leave IsThere Holds meta asked kind deleted_so puts =
+      stamped_has (FitsCall asked) t (deeds_done t deeds) call.now (told t (allowed.Deeds deeds answered))
+      (same_fits t call.now asked (OneOther call) sound)
+      (kind_fits t call.now deeds leave IsThere Holds meta sound later kind asked deleted_so (OneOther call) puts)
 
   -- ---- MOVE and COPY
 
@@ -348,40 +429,53 @@ module _ (call : Call) (sound : AreSound call.state.tables) (later : call.state.
     abbrev going : List Need
     going = needs act.Delete transfer.replaced to
 
-    moved_gone : (b : Bool) → IfSome transfer.replaced (IsNeeded (moved_needs b from to transfer) act.Delete)
+    moved_gone : (b : Bool) → All (IsNeeded (moved_needs b from to transfer) act.Delete) (replaced_by transfer)
     moved_gone true = replaced_needed (need_of act.Update transfer.node from ∷ []) transfer.replaced to
     moved_gone false = replaced_needed (need_of act.Delete transfer.node from ∷ need_of act.Create transfer.folder to ∷ []) transfer.replaced to
 
     abbrev source_row : NodeRow
     source_row = known.source.0
 
-    moved_row : node_row (transferred t transfer name).nodes transfer.node ≡ Some (relinked transfer.folder name source_row)
-    moved_row = (moved_rows t transfer name sound known).itself ∙ ap (option_map (relinked transfer.folder name)) known.source.1
-
-    moved_itself : (b : Bool) → (b ≡ true → parent_of t.nodes transfer.node ≡ Some transfer.folder)
-        → Follows (moved_needs b from to transfer) t.nodes (transferred t transfer name).nodes transfer.node
-    moved_itself true within =
+    moved_itself : (u : Tables) → IsRelinked dated transfer name u → (b : Bool) → (b ≡ true → parent_of t.nodes transfer.node ≡ Some transfer.folder)
+        → Follows (moved_needs b from to transfer) t.nodes u.nodes transfer.node
+    moved_itself u put true within =
+        let row = put ∙ ap (option_map (relinked transfer.folder name)) known.source.1 in
         let place = inside_folder source_row.place transfer.folder (rw known.source.1 at (within refl)) in
         let needed = first_needed (need_of act.Update transfer.node from) going in
-        is_updated source_row (relinked transfer.folder name source_row) needed known.source.1 moved_row
+        is_updated source_row (relinked transfer.folder name source_row) needed known.source.1 row
         (ap (λ (p : Place). record source_row { place = p; name = name }) (sym place))
-    moved_itself false within =
+    moved_itself u put false within =
+        let row = put ∙ ap (option_map (relinked transfer.folder name)) known.source.1 in
         let first = need_of act.Delete transfer.node from in
         let second = need_of act.Create transfer.folder to in
         is_moved transfer.folder source_row (relinked transfer.folder name source_row) (first_needed first (second ∷ going))
-        (second_needed first second going) known.source.1 moved_row refl
+        (second_needed first second going) known.source.1 row refl
 
-    moved_fits : (b : Bool) → (b ≡ true → parent_of t.nodes transfer.node ≡ Some transfer.folder) → crosses t.nodes transfer ≡ false
-        → FitsCall (moved_needs b from to transfer) (changed t call.now (allowed.Move transfer name))
-    moved_fits b within stays =
-        let needs = moved_needs b from to transfer in
-        stamped_has (FitsCall needs) t (transferred t transfer name) call.now (told t (allowed.Move transfer name))
-        (same_fits t needs (OneOther call) sound) (record {
-          follow = moved_follow t transfer name needs sound known (moved_gone b) (moved_itself b within);
-          present = moved_present t transfer name sound (record { known = known; within = stays });
-          others = inl (record { shares = moved_shares t transfer name sound known; mounts = refl });
-          rest = refl;
-        })
+    moved_fits : (b : Bool) (answered : Report) → (b ≡ true → parent_of t.nodes transfer.node ≡ Some transfer.folder) → crosses t.nodes transfer ≡ false
+        → FitsCall (moved_needs b from to transfer) (changed t call.now (allowed.Deeds (moves t call.now name transfer) answered))
+    moved_fits b answered within stays =
+        let kind = moving_kind dated call.now fine refl transfer name (record { known = transfer_stamped t call.now transfer name known; within = stays }) in
+        kinds_fit (moves t call.now name transfer) answered (replaced_by transfer) (λ node. node ≡ transfer.node) (IsRelinked dated transfer name) dated.meta
+        (moved_needs b from to transfer) kind (moved_gone b) (λ node.
+        elim (cases_Bool (node == transfer.node)) [
+          | inl same ↦
+              inr (λ differs.
+              subst (Follows (moved_needs b from to transfer) t.nodes (deeds_done dated (kind.one ∷ kind.more)).nodes)
+              (sym (eqb-true node transfer.node same)) (moved_itself (deeds_done dated (kind.one ∷ kind.more)) kind.put b within))
+          | inr other ↦ inl (λ e. both_ways (node == transfer.node) other (eq-eqb node transfer.node e))
+        ])
+
+    -- of copies each is made in the folder
+    joined_follow : (needs : List Need) (u : Tables) → IsNeeded needs act.Create transfer.folder
+        → AreJoined dated (copies_to t call.now transfer name) u
+        → (node : ℕ) → (IsNew dated node → ⊥) ⊎ (node_row u.nodes node ≢ node_row t.nodes node → Follows needs t.nodes u.nodes node)
+    joined_follow needs u in_folder joined node =
+        elim (cases_lt node t.meta.next_node) [
+          | inl old ↦ inl (λ new. omega (arith, old, new))
+          | inr new ↦
+              inr (copy_follows t call.now transfer name (copies_to t call.now transfer name) u.nodes sound
+              (mirrored t call.now transfer name sound known.source) (record { there = joined.there; new = joined.new }) needs in_folder node new)
+        ]
 
   -- ---- what each may ask for
 
@@ -395,14 +489,14 @@ module _ (call : Call) (sound : AreSound call.state.tables) (later : call.state.
   served_fits mount (At node) needs =
       cond_both (is_folder t.nodes node) (allowed.List (listing_of (access_of call.state) call mount node))
       (allowed.Get node (content_of t.nodes node))
-      (λ act. FitsCall needs (changed t call.now act)) (λ folder. same_fits t needs (OneOther call) sound)
-      (λ file. same_fits t needs (OneOther call) sound)
-  served_fits mount nowhere needs = same_fits t needs (OneOther call) sound
+      (λ act. FitsCall needs (changed t call.now act)) (λ folder. same_fits t call.now needs (OneOther call) sound)
+      (λ file. same_fits t call.now needs (OneOther call) sound)
+  served_fits mount nowhere needs = same_fits t call.now needs (OneOther call) sound
 
   stored_fits : (by : By) (name : List ℕ) (size : ℕ) (place : Found) (needs : List Need)
       → FitsCall needs (changed t call.now (stored by name size (Some place)))
-  stored_fits by name size (Missing depth) needs = same_fits t needs (OneOther call) sound
-  stored_fits by name size place needs = same_fits t needs (OneOther call) sound
+  stored_fits by name size (Missing depth) needs = same_fits t call.now needs (OneOther call) sound
+  stored_fits by name size place needs = same_fits t call.now needs (OneOther call) sound
 
   made_fits : (spot : Spot) (place : Found) → Reached spot → found call spot ≡ place
       → FitsCall (needs_in t.nodes root (way_of call spot)) (changed t call.now (made_folder t call.now (last_name spot) (Some place)))
@@ -416,15 +510,36 @@ module _ (call : Call) (sound : AreSound call.state.tables) (later : call.state.
       subst (λ (needs : List Need). FitsCall needs made) (sym asked)
       (added_fits t made call.now folder name Folder [] (need ∷ []) (OneOther call) sound
       (added_rows t call.now folder name Folder [] None sound slot.folds slot.free (omega arith)) (first_needed need []))
-  made_fits spot nowhere reached leads = same_fits t (needs_in t.nodes root (way_of call spot)) (OneOther call) sound
+  made_fits spot nowhere reached leads = same_fits t call.now (needs_in t.nodes root (way_of call spot)) (OneOther call) sound
 
-  -- a DELETE of a mount's own path
-  leaves_fit : (spot : Spot) (b : Bool) → call.request.wanted ≡ Delete spot → (way_of call spot).itself ≡ b → not b ≡ false
+  -- a DELETE of a node, if it is there
+  deleted_fits : (node mount : Option ℕ) → ((row : NodeRow) → row_at t node ≡ Some row → KnownLeaving t row)
+      → FitsCall (needs act.Delete node mount ++ []) (changed t call.now (deleted t call.now node))
+  deleted_fits None mount leaves = same_fits t call.now [] (OneOther call) sound
+  deleted_fits (Some top) mount leaves = here (row_at t (Some top)) refl
+    where
+      need : Need
+      need = need_of act.Delete top mount
+
+      here : (o : Option NodeRow) → row_at t (Some top) ≡ o
+          → FitsCall (need ∷ []) (changed t call.now
+          (allowed.Deeds (option_map_or (λ row. discard t call.now row ∷ []) o [] ++ option_map_or (beside t call.now) o []) report.Done))
+      here None e = same_fits t call.now (need ∷ []) (OneOther call) sound
+      here (Some row) e =
+          let known = leaving_stamped t call.now row (leaves row e) in
+          let needed = subst (IsNeeded (need ∷ []) act.Delete) (sym (row_id t.nodes top row e)) (first_needed need []) in
+          kinds_fit (discard t call.now row ∷ beside t call.now row) report.Done (row.id ∷ []) NoNode (λ u. Unit {0}) dated.meta (need ∷ [])
+          (leaving_kind dated call.now fine refl row known)
+          (All-cons (IsNeeded (need ∷ []) act.Delete) row.id [] needed (All-nil (IsNeeded (need ∷ []) act.Delete))) (λ node. inl (λ none. none))
+
+  -- or of a mount's own path
+  deletes_fit : (spot : Spot) (b : Bool) → call.request.wanted ≡ Delete spot → (way_of call spot).itself ≡ b
+      → ((row : NodeRow) → row_at t (node_at (only_at b (found call spot)).source) ≡ Some row → KnownLeaving t row)
       → FitsCall (if b then [] else needs_at act.Delete (way_of call spot) ++ [])
       (changed t call.now (if b then mount_left call (way_of call spot) else deleted t call.now (node_at (only_at b (found call spot)).source)))
-  leaves_fit spot true wanted itself other =
+  deletes_fit spot true wanted itself leaves =
       mount_fits spot left_row report.Done [] itself (λ old. refl) (λ old. refl) (λ old own. is_left spot wanted own)
-  leaves_fit spot false wanted itself other = absurd (false≢true (sym other))
+  deletes_fit spot false wanted itself leaves = deleted_fits (node_found (found call spot)) (way_of call spot).mount leaves
 
   -- what is moved or copied, by a caller who is reached
   module _ (source target : Spot) (from_reached : Reached source) (to_reached : Reached target)
@@ -444,68 +559,61 @@ module _ (call : Call) (sound : AreSound call.state.tables) (later : call.state.
     abbrev target_other : (way_of call target).itself ≡ false
     target_other = no_mount call source target sound is from_reached to_reached fits
 
-    abbrev copies : Transfer → List NodeRow
-    copies transfer = copies_to t call.now transfer name
-
-    abbrev copies_are : (transfer : Transfer) → transfer_of t.nodes places ≡ Some transfer → copy_limit t transfer ≡ None
-        → KnownCopies t call.now (copies transfer) transfer.replaced
+    copies_are : (transfer : Transfer) → transfer_of t.nodes places ≡ Some transfer → copy_limit t transfer ≡ None → KnownCopies t transfer name
     copies_are transfer e some = copies_known call source target sound is from_reached to_reached transfer e fits some
 
-    copied_fits : (transfer : Transfer) → transfer_of t.nodes places ≡ Some transfer → copy_limit t transfer ≡ None
-        → FitsCall (copied_needs from to transfer) (changed t call.now (copied t call.now name (Some transfer)))
-    unfolding copies_known
-    copied_fits transfer e some =
+    -- the tables' meta row with the copies
+    abbrev meta_then : Transfer → MetaRow
+    meta_then transfer = meta_with dated call.now fine refl (copies_to t call.now transfer name)
+
+    copied_fits : (transfer : Transfer) (answered : Report) → transfer_of t.nodes places ≡ Some transfer → copy_limit t transfer ≡ None
+        → FitsCall (copied_needs from to transfer) (changed t call.now (allowed.Deeds (copies t call.now name transfer) answered))
+    copied_fits transfer answered e some =
         let known = copies_are transfer e some in
         let first = need_of act.Read transfer.node from in
         let second = need_of act.Create transfer.folder to in
         let going = needs act.Delete transfer.replaced to in
-        let needs = copied_needs from to transfer in
-        stamped_has (FitsCall needs) t (joined t (copies transfer) transfer.replaced) call.now
-        (told t (allowed.Copy (copies transfer) transfer.replaced)) (same_fits t needs (OneOther call) sound)
-        (record {
-          follow = copied_follow t call.now (copies transfer) transfer.replaced sound known needs
-              (replaced_needed (first ∷ second ∷ []) transfer.replaced to) (second_needed first second going);
-          present = copied_present t call.now (copies transfer) transfer.replaced sound known;
-          others = inl (record { shares = copied_shares t call.now (copies transfer) transfer.replaced sound known; mounts = refl });
-          rest = refl;
-        })
+        let rows = copies_to t call.now transfer name in
+        let kind = copying_kind dated call.now fine refl transfer name (copies_stamped t call.now transfer name known) in
+        kinds_fit (copies t call.now name transfer) answered (replaced_by transfer) (IsNew dated) (AreJoined dated rows) (meta_then transfer)
+        (copied_needs from to transfer) kind (replaced_needed (first ∷ second ∷ []) transfer.replaced to)
+        (joined_follow transfer name known.known from to (copied_needs from to transfer) (deeds_done dated (kind.one ∷ kind.more))
+        (second_needed first second going) kind.put)
 
-    crossed_fits : (transfer : Transfer) → transfer_of t.nodes places ≡ Some transfer → copy_limit t transfer ≡ None
-        → FitsCall (moved_needs false from to transfer)
-        (changed t call.now (allowed.Cross (copies transfer) transfer.replaced transfer.node))
-    unfolding copies_known
-    crossed_fits transfer e some =
+    crossed_fits : (transfer : Transfer) (answered : Report) → transfer_of t.nodes places ≡ Some transfer → crosses t.nodes transfer ≡ true
+        → copy_limit t transfer ≡ None
+        → FitsCall (moved_needs false from to transfer) (changed t call.now (allowed.Deeds (crossing t call.now name transfer) answered))
+    crossed_fits transfer answered e across some =
         let known = copies_are transfer e some in
         let first = need_of act.Delete transfer.node from in
         let second = need_of act.Create transfer.folder to in
         let going = needs act.Delete transfer.replaced to in
-        let needs = moved_needs false from to transfer in
-        stamped_has (FitsCall needs) t (removed (joined t (copies transfer) transfer.replaced) transfer.node) call.now
-        (told t (allowed.Cross (copies transfer) transfer.replaced transfer.node)) (same_fits t needs (OneOther call) sound)
-        (record {
-          follow = crossed_follow t call.now (copies transfer) transfer.replaced sound known needs
-              (replaced_needed (first ∷ second ∷ []) transfer.replaced to) (first_needed first (second ∷ going)) (second_needed first second going);
-          present = crossed_keeps t call.now (copies transfer) transfer.replaced transfer.node sound later known;
-          others = inl (record { shares = crossed_shares t call.now (copies transfer) transfer.replaced sound known; mounts = refl });
-          rest = refl;
-        })
+        let asked = moved_needs false from to transfer in
+        let rows = copies_to t call.now transfer name in
+        let kind = crossing_kind dated call.now fine refl transfer name
+        (record { copies = copies_stamped t call.now transfer name known; crosses = across }) in
+        kinds_fit (crossing t call.now name transfer) answered (transfer.node ∷ replaced_by transfer) (IsNew dated) (AreJoined dated rows)
+        (meta_then transfer) asked kind
+        (All-cons (IsNeeded asked act.Delete) transfer.node (replaced_by transfer) (first_needed first (second ∷ going))
+        (replaced_needed (first ∷ second ∷ []) transfer.replaced to))
+        (joined_follow transfer name known.known from to asked (deeds_done dated (kind.one ∷ kind.more)) (second_needed first second going) kind.put)
 
     -- a transfer stays with its owner, or goes to another
-    carried_fits : (transfer : Transfer) (b across : Bool) → (way_of call source).itself ≡ false → transfer_of t.nodes places ≡ Some transfer
+    carried_fits : (transfer : Transfer) (answered : Report) (b across : Bool) → (way_of call source).itself ≡ false
+        → transfer_of t.nodes places ≡ Some transfer
         → is_within t.nodes root (Some (way_of call source)) (Some (way_of call target)) ≡ b → crosses t.nodes transfer ≡ across
         → (if across then copy_limit t transfer else move_limit t transfer) ≡ None
         → FitsCall (moved_needs b from to transfer)
-        (changed t call.now (if across then allowed.Cross (copies transfer) transfer.replaced transfer.node else allowed.Move transfer name))
-    unfolding copies_known
-    carried_fits transfer b false other e inside owner some =
+        (changed t call.now (allowed.Deeds (if across then crossing t call.now name transfer else moves t call.now name transfer) answered))
+    carried_fits transfer answered b false other e inside owner some =
         let deep = (within t 0 (deepest_in t.nodes transfer.node transfer.folder) 0 0 some).deep in
         let known = transfer_known call source target sound is from_reached to_reached transfer e fits deep in
         let it = between t.nodes (found call source) (found call target) transfer e in
-        moved_fits transfer name known from to b (λ same.
+        moved_fits transfer name known from to b answered (λ same.
         within_folder t root (way_of call source) (way_of call target) transfer sound known.outside it other target_other
         (no_starts call source target sound is from_reached to_reached transfer.node it.source fits) (inside ∙ same)) owner
-    carried_fits transfer false true other e inside owner some = crossed_fits transfer e some
-    carried_fits transfer true true other e inside owner some =
+    carried_fits transfer answered false true other e inside owner some = crossed_fits transfer answered e owner some
+    carried_fits transfer answered true true other e inside owner some =
         let known = (copies_are transfer e some).known in
         let it = between t.nodes (found call source) (found call target) transfer e in
         let above = within_folder t root (way_of call source) (way_of call target) transfer sound known.outside it other target_other
@@ -528,13 +636,13 @@ module _ (call : Call) (sound : AreSound call.state.tables) (later : call.state.
 
         here : (o : Option Transfer) → transfer_of t.nodes places ≡ o → option_and_then (carry_limit t) o ≡ None
             → FitsCall asked (changed t call.now (moved t call.now name o))
-        here None e some = same_fits t asked (OneOther call) sound
+        here None e some = same_fits t call.now asked (OneOther call) sound
         here (Some transfer) e some =
             let it = between t.nodes (found call source) (found call target) transfer e in
             subst (λ (needs : List Need). FitsCall needs (changed t call.now (moved t call.now name (Some transfer))))
             (sym (move_needs t.nodes root source target overwrite (way_of call source) (way_of call target) transfer within it target_other
             (no_starts call source target sound is from_reached to_reached transfer.node it.source fits).1 refl))
-            (carried_fits transfer within (crosses t.nodes transfer) other e refl refl some)
+            (carried_fits transfer (made_or_done transfer.replaced) within (crosses t.nodes transfer) other e refl refl some)
 
     copies_fit : (overwrite : Bool) → option_and_then (copy_limit t) (transfer_of t.nodes places) ≡ None
         → FitsCall (needed_for (Copy source target overwrite)) (changed t call.now (copied t call.now name (transfer_of t.nodes places)))
@@ -542,13 +650,13 @@ module _ (call : Call) (sound : AreSound call.state.tables) (later : call.state.
       where
         here : (o : Option Transfer) → transfer_of t.nodes places ≡ o → option_and_then (copy_limit t) o ≡ None
             → FitsCall (needed_for (Copy source target overwrite)) (changed t call.now (copied t call.now name o))
-        here None e some = same_fits t (needed_for (Copy source target overwrite)) (OneOther call) sound
+        here None e some = same_fits t call.now (needed_for (Copy source target overwrite)) (OneOther call) sound
         here (Some transfer) e some =
             let it = between t.nodes (found call source) (found call target) transfer e in
             subst (λ (needs : List Need). FitsCall needs (changed t call.now (copied t call.now name (Some transfer))))
             (sym (copy_needs t.nodes root source target overwrite (way_of call source) (way_of call target) transfer it target_other
             (no_starts call source target sound is from_reached to_reached transfer.node it.source fits).1))
-            (copied_fits transfer e some)
+            (copied_fits transfer (made_or_done transfer.replaced) e some)
 
   move_fits : (source target : Spot) (overwrite b : Bool) → call.request.wanted ≡ Move source target overwrite → (way_of call source).itself ≡ b
       → (b ≡ false → Reached source) → Reached target
@@ -572,22 +680,23 @@ module _ (call : Call) (sound : AreSound call.state.tables) (later : call.state.
       → FitsCall needs (changed t call.now (shared (access_of call.state) call places asked))
   asks_fit places asked needs wanted fits =
       elim (asks_share call sound places asked wanted fits) [
-        | inl same ↦ subst (FitsCall needs) (sym same) (same_fits t needs (OneOther call) sound)
-        | inr one ↦ record {
+        | inl same ↦ subst (FitsCall needs) (sym same) (same_fits t call.now needs (OneOther call) sound)
+        | inr one ↦ alone_fits t _ call.now needs (OneOther call) sound (record {
           follow = λ node differs. absurd (differs (ap (λ (rows : List NodeRow). node_row rows node) one.nodes));
           present = λ node up there. subst (λ (rows : List NodeRow). LeadsToRoot rows node) (sym one.nodes) up;
           others = inr (inr one);
           rest = one.rest;
-        }
+        })
       ]
 
-  -- what isn't asked about users, groups and the trash, and is no DELETE of a node
-  pub begin_fits : (wanted : Wanted) → call.request.wanted ≡ wanted → is_apart call wanted ≡ false → WantedPasses call wanted
+  -- what isn't asked about users, groups and the trash
+  pub begin_fits : (wanted : Wanted) → call.request.wanted ≡ wanted → is_apart wanted ≡ false → WantedPasses call wanted
       → FitsCall (needed_for wanted) (changed t call.now (given (access_of call.state) call (places_at call wanted) wanted))
   begin_fits (Get spot) asked other p = served_fits (way_of call spot).mount (found call spot) (needed_for (Get spot))
   begin_fits (Put spot size) asked other p = stored_fits (by_of call spot) (last_name spot) size (found call spot) (needed_for (Put spot size))
   begin_fits (Mkcol spot) asked other p = made_fits spot (found call spot) p.place.target refl
-  begin_fits (Delete spot) asked other p = leaves_fit spot (way_of call spot).itself asked refl other
+  begin_fits (Delete spot) asked other p =
+      deletes_fit spot (way_of call spot).itself asked refl (delete_leaves call sound is spot (way_of call spot).itself p.place.source p.fits)
   begin_fits (Move source target overwrite) asked other p =
       move_fits source target overwrite (way_of call source).itself asked refl p.place.source p.place.target p.fits p.few
   begin_fits (Copy source target overwrite) asked other p =
@@ -599,7 +708,7 @@ module _ (call : Call) (sound : AreSound call.state.tables) (later : call.state.
 -- ---- an End
 
 pub put_fits : (t made : Tables) (now : ℕ) (by : By) (key : LockKey) (content : List Piece) (Other : Tables → Type 0) → AreSound t
-    → IsPut t made now key content → Fits t (needed_by by key) Other made
+    → IsPut t made now key content → Fits t now (needed_by by key) Other made
 put_fits t made now by (Node node) content Other sound is =
     let need = need_of act.Update node by.mount in
     refilled_fits t made now node content (need ∷ []) Other sound is (first_needed need [])

@@ -10,9 +10,9 @@ use Rattle.nf_base.specs.declared.rows.ShareRow.{ShareRow}
 use Rattle.nf_defs.proofs.Climbs.{under_climb}
 use Rattle.nf_defs.specs.Prelude.{climb, dropped, folder_of, is_under, item_key, item_row, node_row, parent_of, Tables, without_under}
 use Rattle.nf_laws.proofs.Climbs.{climbs_no_further}
-use Rattle.nf_laws.proofs.Gone.{climb_cleared, row_cleared, row_gone}
+use Rattle.nf_laws.proofs.Gone.{climb_left, row_gone, row_left}
+use Rattle.nf_laws.proofs.InTurn.{item_outside, item_stays}
 use Rattle.nf_laws.proofs.Others.{item_gone, item_other}
-use Rattle.nf_laws.proofs.Purged.{item_outside, purged_items}
 use Rattle.nf_laws.proofs.Rows.{found_is}
 use Rattle.nf_laws.proofs.Trashed.{item_top, purged_sound}
 use Rattle.nf_laws.proofs.Upwards.{climbed, climbs_is_under, derived}
@@ -21,7 +21,7 @@ use Rattle.nf_laws.specs.Acts.{IsGoneWith, IsUnderOne}
 use Rattle.nf_laws.specs.Tree.{Under}
 use Rattle.nf_words.proofs.Known.{IsItem}
 use Rattle.nf_words.specs.Others.{IsItemSound}
-use Rattle.nf_words.specs.Prelude.{AreSound, ended_row, ended_under, LeadsToRoot, purged, purged_all}
+use Rattle.nf_words.specs.Prelude.{AreSound, deeds_done, ended_row, ended_under, LeadsToRoot, purged, purges}
 
 -- an item that is found is of that node, and sound
 pub item_is : (t : Tables) (node : ℕ) → AreSound t → (item : ItemRow) → item_row t.items node ≡ Some item → (item.node ≡ node) × IsItemSound t item
@@ -85,19 +85,19 @@ module _ (t : Tables) (top : ℕ) (sound : AreSound t) where
   under_left : (other node : ℕ) → is_under t.nodes node top ≡ false → Under t.nodes other node → Under (without_under t.nodes top) other node
   under_left other node stays under =
       let c = climbed t.nodes other node under in
-      derived c.0 (without_under t.nodes top) other node (climb_cleared t (Some top) c.0 node sound stays ∙ c.1)
+      derived c.0 (without_under t.nodes top) other node (climb_left t top c.0 node sound stays ∙ c.1)
 
   under_was : (other node : ℕ) → is_under t.nodes node top ≡ false → Under (without_under t.nodes top) other node → Under t.nodes other node
   under_was other node stays under =
       let c = climbed (without_under t.nodes top) other node under in
-      derived c.0 t.nodes other node (sym (climb_cleared t (Some top) c.0 node sound stays) ∙ c.1)
+      derived c.0 t.nodes other node (sym (climb_left t top c.0 node sound stays) ∙ c.1)
 
 -- where there is no node, there is none after
 row_empty : (rows : List NodeRow) (top node : ℕ) → node_row rows node ≡ None → node_row (without_under rows top) node ≡ None
 row_empty rows top node none =
     elim (cases_Bool (is_under rows node top)) [
-      | inl goes ↦ row_gone rows (Some top) node goes
-      | inr stays ↦ row_cleared rows (Some top) node stays ∙ none
+      | inl goes ↦ row_gone rows top node goes
+      | inr stays ↦ row_left rows top node stays ∙ none
     ]
 
 -- nor an item
@@ -138,13 +138,13 @@ pub purged_before : (t after : Tables) (top : ℕ) (tops : List ℕ) → AreSoun
     → ArePurged t after (top ∷ tops)
 purged_before t after top tops sound apart h = record {
   gone = All-cons (IsGoneWith t.nodes after.nodes) top tops
-      (λ node under. h.no_nodes node (row_gone t.nodes (Some top) node (under_is t top node sound under)))
+      (λ node under. h.no_nodes node (row_gone t.nodes top node (under_is t top node sound under)))
       (λ k d within node under.
       let other = get_or tops k d in h.gone k d within node (under_left t top sound other node (apart k d within node under) under));
   others = λ node outside.
       let stays = outside_is t.nodes top node (λ under. outside (top, (0, omega arith, refl), under)) in
       h.others node (λ one. outside (one.0, more_among tops top one.0 one.1, under_was t top sound one.0 node stays one.2))
-      ∙ row_cleared t.nodes (Some top) node stays;
+      ∙ row_left t.nodes top node stays;
   none = All-cons (λ (other : ℕ). item_row after.items other ≡ None) top tops (h.no_items top (item_gone top t.items)) h.none;
   items = λ node off.
       h.items node (λ among. off (more_among tops top node among))
@@ -155,7 +155,7 @@ purged_before t after top tops sound apart h = record {
 
 -- and no other row of the tables is another
 pub purged_rest : (t : Tables) (tops : List ℕ)
-    → purged_all t tops ≡ record t { nodes = (purged_all t tops).nodes; shares = (purged_all t tops).shares; items = (purged_all t tops).items }
+    → deeds_done t (purges tops) ≡ record t { nodes = (deeds_done t (purges tops)).nodes; shares = (deeds_done t (purges tops)).shares; items = (deeds_done t (purges tops)).items }
 purged_rest t [] = refl
 purged_rest t (top ∷ tops) = purged_rest (purged t top) tops
 
@@ -169,14 +169,14 @@ pub rest_distinct : (top : ℕ) (tops : List ℕ) → AreDistinct (top ∷ tops)
 rest_distinct top tops once i j d before within = once (suc i) (suc j) d (omega (arith, before)) (omega (arith, within))
 
 -- items that go are gone one after the other
-pub items_purged : (t : Tables) (tops : List ℕ) → AreSound t → All (IsItem t) tops → AreDistinct tops → ArePurged t (purged_all t tops) tops
+pub items_purged : (t : Tables) (tops : List ℕ) → AreSound t → All (IsItem t) tops → AreDistinct tops → ArePurged t (deeds_done t (purges tops)) tops
 items_purged t [] sound items once = none_purged t
 items_purged t (top ∷ tops) sound items once =
     let one = All-head (IsItem t) top tops items in
     let more = All-tail (IsItem t) top tops items in
-    purged_before t (purged_all (purged t top) tops) top tops sound
+    purged_before t (deeds_done (purged t top) (purges tops)) top tops sound
     (λ k d within. items_apart t top (get_or tops k d) sound one (more k d within) (first_differs top tops once k d within))
-    (items_purged (purged t top) tops (purged_sound t top sound (inl one)) (purged_items t top tops once more) (rest_distinct top tops once))
+    (items_purged (purged t top) tops (purged_sound t top sound (inl one)) (item_stays t top tops once more) (rest_distinct top tops once))
 
 -- the shares of what is under an item were ended, so that no share is another
 same_shares : (rows : List NodeRow) (top : ℕ) (shares : List ShareRow)
@@ -193,11 +193,11 @@ same_shares rows top (share ∷ shares) all =
     here true is = ap (λ (b : Bool). record share { ended = b }) (sym (is refl))
     here false is = refl
 
-pub shares_purged : (t : Tables) (tops : List ℕ) → AreSound t → All (IsItem t) tops → AreDistinct tops → (purged_all t tops).shares ≡ t.shares
+pub shares_purged : (t : Tables) (tops : List ℕ) → AreSound t → All (IsItem t) tops → AreDistinct tops → (deeds_done t (purges tops)).shares ≡ t.shares
 shares_purged t [] sound items once = refl
 shares_purged t (top ∷ tops) sound items once =
     let one = All-head (IsItem t) top tops items in
-    shares_purged (purged t top) tops (purged_sound t top sound (inl one)) (purged_items t top tops once (All-tail (IsItem t) top tops items))
+    shares_purged (purged t top) tops (purged_sound t top sound (inl one)) (item_stays t top tops once (All-tail (IsItem t) top tops items))
     (rest_distinct top tops once)
     ∙ same_shares t.nodes top t.shares (λ k d within under.
     let share = get_or t.shares k d in

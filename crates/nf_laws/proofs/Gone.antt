@@ -1,8 +1,6 @@
 -- The tables without what is removed are sound.
 use Rattle.std.proofs.Common.{inl, inr, ℕ, suc, ◌==◌, ◌≡◌, ◌<◌, ◌≤◌, Bool, true, false, not, List, Option, None, Some, length, refl, sym, ap, subst, ◌∙◌, arith, le_refl}
-use Rattle.std.specs.List.{All}
-use Rattle.std.specs.Option.{IfSome, option_map_or}
-use Rattle.std.proofs.lemmas.Bool.{both_ways, cases_Bool, false_from_ne_true, false≢true, ne_eqb, not-true, not_from_false}
+use Rattle.std.proofs.lemmas.Bool.{both_ways, cases_Bool, false_from_ne_true, ne_eqb, not-true, not_from_false}
 use Rattle.std.proofs.lemmas.List.Elements.{All-filter, All-weaker, filter_passes}
 use Rattle.std.proofs.lemmas.List.Filters.{length-filter_both, sum_by-filter_both}
 use Rattle.std.proofs.lemmas.List.Kept.{AllPairs-filter}
@@ -13,19 +11,14 @@ use Rattle.nf_base.specs.declared.rows.Place.{Place}
 use Rattle.nf_base.specs.declared.rows.Place.TheVariants.{Inside, Root, Trash}
 use Rattle.nf_base.specs.declared.rows.UserRow.{UserRow}
 use Rattle.nf_defs.proofs.Climbs.{climb_under, under_climb}
-use Rattle.nf_defs.specs.Prelude.{child_of, climb, folder_of, is_root, is_root_place, is_under, node_row, parent_of, piece_count, Tables}
+use Rattle.nf_defs.specs.Prelude.{child_of, climb, folder_of, is_root, is_root_place, is_under, node_row, parent_of, piece_count, Tables, without_under}
 use Rattle.nf_laws.proofs.Climbs.{climb_passes, climb_those, climbs_no_further, IsClosed, node_row_each, parent_at, row_of_those, those}
-use Rattle.nf_laws.proofs.Others.{all_off, IsOff, items_all, items_left, ItemsLeft, others_ended, those_were, was_same, without}
+use Rattle.nf_laws.proofs.Others.{all_off, IsOff, items_left, ItemsLeft, others_ended, those_were, was_same, without}
 use Rattle.nf_laws.proofs.Paths.{child_is, child_there}
-use Rattle.nf_laws.proofs.Present.{those_leads, trash_outside}
+use Rattle.nf_laws.proofs.Present.{those_leads}
 use Rattle.nf_laws.proofs.Rows.{finds_none, kept_row, node_still, root_still}
-use Rattle.nf_laws.proofs.Upwards.{never_climbs, no_rings}
-use Rattle.nf_laws.specs.Transfers.{is_replaced}
-use Rattle.nf_words.proofs.Found.{child_parent}
-use Rattle.nf_words.proofs.Known.{KnownTransfer}
-use Rattle.nf_words.proofs.Ways.{inside_no_root, inside_present}
-use Rattle.nf_words.specs.Prelude.{AreApart, AreSound, cleared, ended_for, HasRoot, IsNodeSound, IsPlaceSound, LeadsToRoot, removed}
-use Rattle.nf_words.specs.declared.request.Transfer.{Transfer}
+use Rattle.nf_laws.proofs.Upwards.{never_climbs}
+use Rattle.nf_words.specs.Prelude.{AreApart, AreSound, HasRoot, IsNodeSound, IsPlaceSound, LeadsToRoot}
 
 -- ---- the tables without the nodes that go
 
@@ -121,130 +114,62 @@ root_left t top no_root user root =
     let is : is_root t.nodes user.root ≡ true = rw root.there (ap is_root_place root.place) in
     both_ways (is_root t.nodes top) no_root (subst (λ (n : ℕ). is_root t.nodes n ≡ true) same is)))
 
--- and so is what is in the trash, where the top is present
-trash_left : (rows : List NodeRow) (top : ℕ) → LeadsToRoot rows top → (node : ℕ) (row : NodeRow) → node_row rows node ≡ Some row
-    → row.place ≡ Trash → is_left rows top node ≡ true
-trash_left rows top present node row there place =
-    not_from_false (is_under rows node top) (false_from_ne_true (is_under rows node top) (λ under.
-    let c = under_climb rows node top under in trash_outside c.0 rows node top row present there place c.2))
-
-pub left_sound : (t : Tables) (top : ℕ) → AreSound t → is_root t.nodes top ≡ false → LeadsToRoot t.nodes top → AreSound (removed t top)
-left_sound t top sound no_root present =
-    let gone : ℕ → Bool = λ node. is_under t.nodes node top in
-    those_sound t gone t.items sound (folder_left t top sound) (items_all t gone sound (trash_left t.nodes top present)) (root_left t top no_root)
-
 -- what is present and isn't under the top is present without it
 pub left_leads : (t : Tables) (top node : ℕ) → AreSound t → is_under t.nodes node top ≡ false → LeadsToRoot t.nodes node
-    → LeadsToRoot (removed t top).nodes node
+    → LeadsToRoot (without_under t.nodes top) node
 left_leads t top node sound outside = those_leads (is_left t.nodes top) t.nodes node (folder_left t top sound) (ap not outside)
 
--- ---- the tables without what has to go, if anything has
+-- ---- the nodes that are left
 
-abbrev pub cleared_all : Tables → Option ℕ → Tables
-cleared_all t replaced = record t { nodes = cleared t.nodes replaced; shares = ended_for t.nodes replaced t.shares }
+-- a node that is left has its row as before
+pub row_left : (rows : List NodeRow) (top node : ℕ) → is_under rows node top ≡ false → node_row (without_under rows top) node ≡ node_row rows node
+row_left rows top node outside = row_of_those (is_left rows top) rows node (ap not outside)
 
-pub cleared_sound : (t : Tables) (replaced : Option ℕ) → AreSound t → option_map_or (is_root t.nodes) replaced false ≡ false
-    → IfSome replaced (LeadsToRoot t.nodes) → AreSound (cleared_all t replaced)
-cleared_sound t None sound no_root present = sound
-cleared_sound t (Some top) sound no_root present = left_sound t top sound no_root present
-
--- what is present and hasn't to go is present
-pub cleared_leads : (t : Tables) (replaced : Option ℕ) (node : ℕ) → AreSound t → is_replaced t.nodes replaced node ≡ false
-    → LeadsToRoot t.nodes node → LeadsToRoot (cleared t.nodes replaced) node
-cleared_leads t None node sound stays up = up
-cleared_leads t (Some top) node sound stays up = left_leads t top node sound stays up
-
--- a node that hasn't to go has its row as before
-pub row_cleared : (rows : List NodeRow) (replaced : Option ℕ) (node : ℕ) → is_replaced rows replaced node ≡ false
-    → node_row (cleared rows replaced) node ≡ node_row rows node
-row_cleared rows None node stays = refl
-row_cleared rows (Some top) node stays = row_of_those (is_left rows top) rows node (ap not stays)
-
--- one that has to go has none
-pub row_gone : (rows : List NodeRow) (replaced : Option ℕ) (node : ℕ) → is_replaced rows replaced node ≡ true
-    → node_row (cleared rows replaced) node ≡ None
-row_gone rows None node goes = absurd (false≢true goes)
-row_gone rows (Some top) node goes =
-    finds_none (λ row. row.id == node) (cleared rows (Some top)) (λ k d within.
+-- one that isn't has none
+pub row_gone : (rows : List NodeRow) (top node : ℕ) → is_under rows node top ≡ true → node_row (without_under rows top) node ≡ None
+row_gone rows top node under =
+    finds_none (λ row. row.id == node) (without_under rows top) (λ k d within.
     ne_eqb _ node (λ same.
     let left = subst (λ (n : ℕ). is_left rows top n ≡ true) same (filter_passes (λ row. is_left rows top row.id) rows k d within) in
-    both_ways (is_under rows node top) (not-true (is_under rows node top) left) goes))
+    both_ways (is_under rows node top) (not-true (is_under rows node top) left) under))
 
--- a node that is there hasn't to go, and was there
-pub kept_cleared : (rows : List NodeRow) (replaced : Option ℕ) (node : ℕ) (row : NodeRow) → node_row (cleared rows replaced) node ≡ Some row
-    → (is_replaced rows replaced node ≡ false) × (node_row rows node ≡ Some row)
-kept_cleared rows replaced node row there =
-    elim (cases_Bool (is_replaced rows replaced node)) [
-      | inl goes ↦ absurd (none-some row (sym (row_gone rows replaced node goes) ∙ there))
-      | inr stays ↦ (stays, sym (row_cleared rows replaced node stays) ∙ there)
+-- a node that is there is left, and was there
+pub kept_left : (rows : List NodeRow) (top node : ℕ) (row : NodeRow) → node_row (without_under rows top) node ≡ Some row
+    → (is_under rows node top ≡ false) × (node_row rows node ≡ Some row)
+kept_left rows top node row there =
+    elim (cases_Bool (is_under rows node top)) [
+      | inl under ↦ absurd (none-some row (sym (row_gone rows top node under) ∙ there))
+      | inr outside ↦ (outside, sym (row_left rows top node outside) ∙ there)
     ]
 
 -- it climbs as before
-pub climb_cleared : (t : Tables) (replaced : Option ℕ) (k node : ℕ) → AreSound t → is_replaced t.nodes replaced node ≡ false
-    → climb (cleared t.nodes replaced) k node ≡ climb t.nodes k node
-climb_cleared t None k node sound stays = refl
-climb_cleared t (Some top) k node sound stays =
-    climb_those (is_left t.nodes top) t.nodes (folder_left t top sound) k node (ap not stays)
+pub climb_left : (t : Tables) (top k node : ℕ) → AreSound t → is_under t.nodes node top ≡ false
+    → climb (without_under t.nodes top) k node ≡ climb t.nodes k node
+climb_left t top k node sound outside = climb_those (is_left t.nodes top) t.nodes (folder_left t top sound) k node (ap not outside)
 
 -- the number of nodes and of their pieces doesn't grow
-pub counts_cleared : (rows : List NodeRow) (replaced : Option ℕ)
-    → (length (cleared rows replaced) ≤ length rows) × (piece_count (cleared rows replaced) ≤ piece_count rows)
-counts_cleared rows None = (omega arith, omega arith)
-counts_cleared rows (Some top) =
+pub counts_left : (rows : List NodeRow) (top : ℕ)
+    → (length (without_under rows top) ≤ length rows) × (piece_count (without_under rows top) ≤ piece_count rows)
+counts_left rows top =
     let passes : NodeRow → Bool = λ row. is_left rows top row.id in (
       omega (arith, length-filter_both passes (λ row. not (passes row)) (λ row. refl) rows),
       omega (arith, sum_by-filter_both passes (λ row. not (passes row)) (λ row. refl) (λ row. length row.content) rows),
     )
 
--- what all rows have, all that stay have
-pub all_cleared : (P : NodeRow → Type 0) (rows : List NodeRow) (replaced : Option ℕ) → All P rows → All P (cleared rows replaced)
-all_cleared P rows None all = all
-all_cleared P rows (Some top) all = All-filter (λ row. is_left rows top row.id) P rows all
-
--- ---- what something is put at
-
--- where the folder's child of the name has to go, the name is free then
-pub free_cleared : (t : Tables) (replaced : Option ℕ) (folder : ℕ) (name : List ℕ) → AreSound t → child_of t.nodes folder name ≡ replaced
-    → child_of (cleared t.nodes replaced) folder name ≡ None
-free_cleared t None folder name sound is = is
-free_cleared t (Some top) folder name sound is = here (child_of rows folder name) refl
+-- where a folder's child of the name goes, the name is free then
+pub free_left : (t : Tables) (top folder : ℕ) (name : List ℕ) → AreSound t → child_of t.nodes folder name ≡ Some top
+    → child_of (without_under t.nodes top) folder name ≡ None
+free_left t top folder name sound is = here (child_of rows folder name) refl
   where
     rows : List NodeRow
-    rows = cleared t.nodes (Some top)
+    rows = without_under t.nodes top
 
     here : (o : Option ℕ) → child_of rows folder name ≡ o → o ≡ None
     here None e = refl
     here (Some node) e =
         let child = child_is rows folder name node (AllPairs-filter (λ a b. a.id < b.id) (λ row. is_left t.nodes top row.id) t.nodes sound.rising) e in
-        let kept = kept_cleared t.nodes (Some top) child.row.id child.row child.there in
+        let kept = kept_left t.nodes top child.row.id child.row child.there in
         let same : child.row.id ≡ top =
         same_Some child.row.id top
         (sym (child_there t.nodes folder child.row sound.names kept.1 child.place) ∙ ap (child_of t.nodes folder) child.named ∙ is) in
         absurd (both_ways (is_under t.nodes child.row.id top) kept.0 (climb_under 0 t.nodes child.row.id top (omega arith) (ap Some same)))
-
--- what is there is no root, as it is in a folder
-pub replaced_no_root : (t : Tables) (replaced : Option ℕ) (folder : ℕ) (name : List ℕ) → AreSound t → child_of t.nodes folder name ≡ replaced
-    → option_map_or (is_root t.nodes) replaced false ≡ false
-replaced_no_root t None folder name sound is = refl
-replaced_no_root t (Some top) folder name sound is =
-    inside_no_root t.nodes top folder (child_parent t.nodes folder name top sound.rising is)
-
--- where its folder is present, it is
-replaced_present : (t : Tables) (replaced : Option ℕ) (folder : ℕ) (name : List ℕ) → AreSound t → LeadsToRoot t.nodes folder
-    → child_of t.nodes folder name ≡ replaced → IfSome replaced (LeadsToRoot t.nodes)
-replaced_present t None folder name sound up is = tt
-replaced_present t (Some top) folder name sound up is =
-    inside_present t.nodes top folder (child_parent t.nodes folder name top sound.rising is) up
-
--- and its folder hasn't to go
-pub folder_stays : (t : Tables) (replaced : Option ℕ) (folder : ℕ) (name : List ℕ) → AreSound t → child_of t.nodes folder name ≡ replaced
-    → is_replaced t.nodes replaced folder ≡ false
-folder_stays t None folder name sound is = refl
-folder_stays t (Some top) folder name sound is = no_rings t top folder sound (child_parent t.nodes folder name top sound.rising is)
-
--- so the tables that something is moved or copied in are sound
-pub clearing_sound : (t : Tables) (transfer : Transfer) (name : List ℕ) → AreSound t → KnownTransfer t transfer name
-    → AreSound (cleared_all t transfer.replaced)
-clearing_sound t transfer name sound known =
-    cleared_sound t transfer.replaced sound (replaced_no_root t transfer.replaced transfer.folder name sound known.there)
-    (replaced_present t transfer.replaced transfer.folder name sound known.folder_present known.there)

@@ -1,36 +1,37 @@
 -- What is held stays as it is by each step that leaves it alone.
-use Rattle.std.proofs.Common.{◌≡◌, ◌≢◌, inl, inr, ℕ, zero, ◌<◌, ◌≤◌, ◌++◌, ◌&&◌, bytes_eq, get_or, not, suc, ◌+◌, true, false, List, [], ◌∷◌, Option, None, Some, refl, sym, ap, subst, ◌∙◌, arith}
-use Rattle.std.specs.Prelude.{find, is_some, option_map, slice_get}
+use Rattle.std.proofs.Common.{◌≡◌, ◌≢◌, inl, inr, ℕ, zero, ◌<◌, ◌≤◌, ◌++◌, ◌&&◌, ◌==◌, ◌-◌, bytes_eq, get_or, not, suc, ◌+◌, true, false, List, [], ◌∷◌, Option, None, Some, refl, sym, ap, subst, ◌∙◌, arith}
+use Rattle.std.specs.Prelude.{find, is_some, option_and_then, option_map}
 use Rattle.std.specs.List.{All}
-use Rattle.std.specs.Option.{IfSome, option_map_or}
-use Rattle.std.proofs.lemmas.Bool.{and_parts, both_ways, false_from_ne_true, ne_eqb}
-use Rattle.std.proofs.lemmas.List.Elements.{All-append, All-cons, All-head, All-nil}
+use Rattle.std.specs.Option.{option_map_or, option_or}
+use Rattle.std.proofs.lemmas.Bool.{and_parts, both_ways, cond_both, false_from_ne_true, ne_eqb}
+use Rattle.std.proofs.lemmas.List.Elements.{All-append, All-cons, All-filter, All-head, All-map, All-nil, All-tail}
+use Rattle.std.proofs.lemmas.List.Folds.{find-append}
 use Rattle.std.proofs.lemmas.Slice.Eq.{bytes_eq-Decides}
 use Rattle.nf_base.specs.declared.rows.NodeRow.{NodeRow}
 use Rattle.nf_base.specs.declared.rows.Place.TheVariants.{Inside, Root, Trash}
-use Rattle.nf_defs.proofs.Climbs.{climb_under}
+use Rattle.nf_defs.proofs.Climbs.{under_climb}
 use Rattle.nf_defs.proofs.Walks.{inside_of}
-use Rattle.nf_defs.specs.Prelude.{child_of, filled, is_folder_kind, is_in, is_under, node_row, relinked, Tables, with_node}
+use Rattle.nf_defs.specs.Prelude.{child_of, climb, filled, folder_of, is_folder_kind, is_in, is_root_place, is_under, node_row, relinked, Tables, with_node, without_under}
 use Rattle.nf_defs.specs.Tree.{trashed}
-use Rattle.nf_laws.proofs.Crossed.{crossed_under}
-use Rattle.nf_laws.proofs.Copied.{copied_sound, copy_at}
-use Rattle.nf_laws.proofs.Gone.{all_cleared, cleared_leads, left_leads, row_cleared}
+use Rattle.nf_laws.proofs.Climbs.{climb_on, climb_rest, climb_same, climbs_no_further}
+use Rattle.nf_laws.proofs.Copied.{copy_at}
+use Rattle.nf_laws.proofs.Gone.{row_left}
+use Rattle.nf_laws.proofs.InTurn.{item_outside}
 use Rattle.nf_laws.proofs.Lists.{nodes_have, with_filled}
 use Rattle.nf_laws.proofs.Mirrored.{mirrored}
-use Rattle.nf_laws.proofs.Moved.{outside_leads, transferred_leads}
 use Rattle.nf_laws.proofs.OneRow.{KeepsId, row_other, with_all}
-use Rattle.nf_laws.proofs.Others.{stamp_sound}
-use Rattle.nf_laws.proofs.Present.{kept_leads}
-use Rattle.nf_laws.proofs.Purged.{item_outside, trash_keeps}
+use Rattle.nf_laws.proofs.Present.{kept_leads, root_ends}
 use Rattle.nf_laws.proofs.Replaced.{kept_replaced}
-use Rattle.nf_laws.proofs.Rows.{each_fails, finds_none, folder_there, kept_joined, no_value, row_is, row_joined, stamp, stamped_has}
+use Rattle.nf_laws.proofs.Rows.{each_fails, finds_none, folder_there, kept_joined, no_value, row_is, row_joined, stamped_has}
 use Rattle.nf_laws.proofs.Upwards.{never_climbs}
 use Rattle.nf_laws.specs.Locks.{IsFree, KeyStays}
-use Rattle.nf_laws.specs.Transfers.{is_replaced, IsPlacedCopy, Mirrors}
+use Rattle.nf_laws.specs.Transfers.{IsPlacedCopy}
 use Rattle.nf_words.proofs.Fits.{KnownFilled}
-use Rattle.nf_words.proofs.Known.{Known, KnownCopies, KnownCross, KnownDeed, KnownGone, KnownTrash}
-use Rattle.nf_words.proofs.Spared.{Spares, SparesChange, SparesDeed, SparesGone, SparesRow, SparesTarget, SparesUnder}
-use Rattle.nf_words.specs.Prelude.{altered, AreSound, changed, cleared, deed_done, IsHeld, joined, LeadsToRoot, node_of_key, purged, purged_all, removed, told, transferred}
+use Rattle.nf_words.proofs.Known.{IsItem, Known, KnownDeeds}
+use Rattle.nf_words.proofs.Known.KnownDeeds.{by_copying, by_crossing, by_going, by_leaving, by_moving, by_requoting, by_restoring}
+use Rattle.nf_words.proofs.Spared.{Spares, SparesChange, SparesDeed, SparesRow, SparesUnder}
+use Rattle.nf_words.proofs.Ways.{HasRow, present_row}
+use Rattle.nf_words.specs.Prelude.{altered, AreSound, beside, besides, changed, copies_to, copies_within, deed_done, deeds_done, discard, discards, goes_itself, IsHeld, item_for, LeadsToRoot, node_of_key, purges, row_at, told}
 use Rattle.nf_words.specs.declared.answer.Allowed.{Allowed}
 use Rattle.nf_words.specs.declared.answer.Allowed.TheVariants as allowed
 use Rattle.nf_words.specs.declared.answer.Deed.{Deed}
@@ -113,6 +114,53 @@ held_free t (Slot folder name) held = held.1
 pub stays_there : (t : Tables) (key : LockKey) → IsHeld t key → KeyStays t t key
 stays_there t key held = record { row = refl; free = held_free t key held }
 
+-- ---- what comes back
+
+-- it is an item
+module _ (t : Tables) (now : ℕ) where
+  abbrev IsBack : Deed → Type 0
+  IsBack (deed.Restore node folder name) = IsItem t node
+  IsBack other = Unit {0}
+
+  purges_back : (nodes : List ℕ) → All IsBack (purges nodes)
+  purges_back nodes = All-map IsBack (λ (node : ℕ). deed.Purge node) nodes (λ k d within. tt)
+
+  discard_back : (row : NodeRow) → IsBack (discard t now row)
+  discard_back row =
+      cond_both (goes_itself t now row) (deed.Purge row.id) (deed.Discard (item_for now row)) IsBack (λ e. tt) (λ e. tt)
+
+  -- what leaves its place, and what else goes then, if anything does
+  discards_back : (o : Option NodeRow) → All IsBack (option_map_or (λ row. discard t now row ∷ []) o [])
+  discards_back None = All-nil IsBack
+  discards_back (Some row) = All-cons IsBack (discard t now row) [] (discard_back row) (All-nil IsBack)
+
+  besides_back : (o : Option NodeRow) → All IsBack (option_map_or (beside t now) o [])
+  besides_back None = All-nil IsBack
+  besides_back (Some row) = purges_back _
+
+  put_back : (replaced : Option ℕ) (one : Deed) → IsBack one → All IsBack (discards t now replaced ++ one ∷ besides t now replaced)
+  put_back replaced one back =
+      All-append IsBack (discards t now replaced) (one ∷ besides t now replaced) (discards_back (row_at t replaced))
+      (All-cons IsBack one (besides t now replaced) back (besides_back (row_at t replaced)))
+
+  known_back : (deeds : List Deed) → KnownDeeds t now deeds → All IsBack deeds
+  known_back _ (by_going nodes goes) = purges_back nodes
+  known_back _ (by_leaving row known) = All-cons IsBack (discard t now row) (beside t now row) (discard_back row) (purges_back _)
+  known_back _ (by_restoring node folder name gone known goes others) =
+      All-cons IsBack (deed.Restore node folder name) (purges gone) (ap is_some known.there) (purges_back gone)
+  known_back _ (by_requoting row gone known goes) = All-cons IsBack (deed.Requote row) (purges gone) tt (purges_back gone)
+  known_back _ (by_moving transfer name known) = put_back transfer.replaced (deed.Relink transfer.node transfer.folder name) tt
+  known_back _ (by_copying transfer name known) = put_back transfer.replaced (deed.Join (copies_to t now transfer name)) tt
+  known_back _ (by_crossing transfer name known) =
+      let from = Some transfer.node in
+      let rest = besides t now transfer.replaced ++ besides t now from in
+      let join = deed.Join (copies_to t now transfer name) in
+      All-append IsBack (discards t now transfer.replaced) (join ∷ (discards t now from ++ rest)) (discards_back (row_at t transfer.replaced))
+      (All-cons IsBack join (discards t now from ++ rest) tt
+      (All-append IsBack (discards t now from) rest (discards_back (row_at t from))
+      (All-append IsBack (besides t now transfer.replaced) (besides t now from) (besides_back (row_at t transfer.replaced))
+      (besides_back (row_at t from)))))
+
 -- ---- what is held stays
 
 module _ (t : Tables) (hold : Hold) (sound : AreSound t) (held : IsHeld t hold.key) where
@@ -162,180 +210,192 @@ module _ (t : Tables) (hold : Hold) (sound : AreSound t) (held : IsHeld t hold.k
     with_all (Spared key) u.nodes row.id (filled row.content row.changed) (λ old. spared_filled key row old) stays.1,
   )
 
-  -- without what has to go
-  not_replaced : (replaced : Option ℕ) → IfSome replaced (SparesUnder t key) → is_replaced t.nodes replaced node ≡ false
-  not_replaced None spares = refl
-  not_replaced (Some top) spares = spares
-
-  cleared_stays : (replaced : Option ℕ) → IfSome replaced (SparesUnder t key) → Stays (cleared t.nodes replaced)
-  cleared_stays replaced spares = (
-    row_cleared t.nodes replaced node (not_replaced replaced spares),
-    all_cleared (Spared key) t.nodes replaced first.1,
-  )
-
-  -- what is moved isn't held
-  not_moved : (top : ℕ) → SparesUnder t key top → node ≢ top
-  not_moved top spares = λ same. both_ways (is_under t.nodes node top) spares
-      (subst (λ (n : ℕ). is_under t.nodes node n ≡ true) same (climb_under 0 t.nodes node node (omega arith) refl))
-
-  moved_stays : (transfer : Transfer) (name : List ℕ) → SparesUnder t key transfer.node → SparesTarget t key transfer name
-      → Stays (transferred t transfer name).nodes
-  moved_stays transfer name spares target =
-      let left = cleared_stays transfer.replaced target.replaced in (
-        row_other (cleared t.nodes transfer.replaced) transfer.node (relinked transfer.folder name) (λ r. refl) node
-            (ne_eqb node transfer.node (not_moved transfer.node spares))
-            ∙ left.0,
-        with_all (Spared key) (cleared t.nodes transfer.replaced) transfer.node (relinked transfer.folder name)
-            (λ old h. spared_row key (relinked transfer.folder name old) (λ folder place same.
-            target.slot (same ∙ ap (λ (n : ℕ). Slot n name) (sym (inside transfer.folder folder place))))) left.1,
-      )
-    where
-      inside : (a b : ℕ) → Inside a ≡ Inside b → a ≡ b
-      inside a b same = cc
-
   -- no copy is put under a name that is held
-  copies_spared : (now : ℕ) (transfer : Transfer) (name : List ℕ) (rows : List NodeRow) → Mirrors t now transfer name rows
-      → key ≢ Slot transfer.folder name → All (Spared key) rows
-  copies_spared now transfer name rows mirrors other k d within = here k (copy_at t now transfer name rows mirrors k d within).placed
+  copies_spared : (now : ℕ) (transfer : Transfer) (name : List ℕ) → key ≢ Slot transfer.folder name
+      → All (Spared key) (copies_to t now transfer name)
+  unfolding copies_within
+  copies_spared now transfer name other = here (node_row t.nodes transfer.node) refl
     where
-      copy : NodeRow
-      copy = get_or rows k d
+      rows : List NodeRow
+      rows = copies_to t now transfer name
 
       inside : (a b : ℕ) → Inside a ≡ Inside b → a ≡ b
       inside a b same = cc
 
-      here : (j : ℕ) → IsPlacedCopy t transfer name j (copy_at t now transfer name rows mirrors k d within).of copy → Spared key copy
-      here zero placed =
+      one : (j : ℕ) (of copy : NodeRow) → IsPlacedCopy t transfer name j of copy → Spared key copy
+      one zero of copy placed =
           spared_row key copy (λ folder place same.
           other (same ∙ ap (λ (n : ℕ). Slot n copy.name) (inside folder transfer.folder (sym place ∙ placed.0)) ∙ ap (Slot transfer.folder) placed.1))
-      here (suc j) placed =
+      one (suc j) of copy placed =
           spared_row key copy (λ folder place same.
           absurd (omega (arith, given, ap node_of_key same, inside folder (t.meta.next_node + placed.1.1) (sym place ∙ placed.1.5))))
 
-  copied_stays : (now : ℕ) (rows : List NodeRow) (replaced : Option ℕ) (known : KnownCopies t now rows replaced)
-      → SparesTarget t key known.transfer known.name → Stays (joined t rows replaced).nodes
-  copied_stays now rows replaced known target =
-      let mirrors = mirrored t now rows replaced sound known in
-      let left = cleared_stays replaced (subst (λ (o : Option ℕ). IfSome o (SparesUnder t key)) (sym known.replaced_is) target.replaced) in (
-        row_joined (cleared t.nodes replaced) rows node (λ k d within same.
-            absurd (omega (arith, given, same, (copy_at t now known.transfer known.name rows mirrors k d within).id)))
-            ∙ left.0,
-        All-append (Spared key) (cleared t.nodes replaced) rows left.1 (copies_spared now known.transfer known.name rows mirrors target.slot),
-      )
+      here : (o : Option NodeRow) → node_row t.nodes transfer.node ≡ o → All (Spared key) rows
+      here None e = rw e (All-nil (Spared key))
+      here (Some row) e =
+          let mirrors = mirrored t now transfer name sound (row, e) in
+          λ k d within. let copy = copy_at t now transfer name rows mirrors k d within in one k copy.of (get_or rows k d) copy.placed
 
-  -- what goes to another owner isn't held, nor is anything under it
-  crossed_stays : (now : ℕ) (rows : List NodeRow) (replaced : Option ℕ) (top : ℕ) (known : KnownCross t now rows replaced top)
-      → (copies : KnownCopies t now rows replaced) × SparesTarget t key copies.transfer copies.name × SparesUnder t key top
-      → Stays (removed (joined t rows replaced) top).nodes
-  crossed_stays now rows replaced top known spares =
-      let beside = copied_stays now rows replaced spares.0 spares.1 in
-      let under = crossed_under t now rows replaced top sound known node ∙ spares.2 in (
-        row_cleared (joined t rows replaced).nodes (Some top) node under ∙ beside.0,
-        all_cleared (Spared key) (joined t rows replaced).nodes (Some top) beside.1,
-      )
+  -- ---- what is held and present
 
-  -- ---- what the trash takes and gives back
+  module _ (up : LeadsToRoot t.nodes node) where
+    -- each node that it climbs to is there
+    above_there : (j other : ℕ) → climb t.nodes j node ≡ Some other → HasRow t.nodes other
+    above_there j other climbs =
+        let few = climbs_no_further up.steps j t.nodes node up.top other (root_ends t.nodes up.top up.root) up.climbs climbs in
+        present_row t.nodes other (record {
+          steps = up.steps - j;
+          top = up.top;
+          climbs = climb_rest j (up.steps - j) up.steps t.nodes node other up.top (omega (arith, few)) climbs up.climbs;
+          root = up.root;
+        })
 
-  -- it stays in tables, and is present there
-  abbrev Stands : Tables → Type 0
-  Stands u = Stays u.nodes × LeadsToRoot u.nodes node
+    -- it stands where each of these has its row as before, and each row is spared
+    abbrev Stands : List NodeRow → Type 0
+    Stands rows = ((j other : ℕ) → climb t.nodes j node ≡ Some other → node_row rows other ≡ node_row t.nodes other) × All (Spared key) rows
 
-  -- where the row of a node is changed that it isn't under
-  changed_stands : (top : ℕ) (change : NodeRow → NodeRow) → KeepsId change → ((old : NodeRow) → Spared key old → Spared key (change old))
-      → SparesUnder t key top → LeadsToRoot t.nodes node → Stands (record t { nodes = with_node t.nodes top change })
-  changed_stands top change keeps spared spares up = (
-    (row_other t.nodes top change keeps node (ne_eqb node top (not_moved top spares)), with_all (Spared key) t.nodes top change spared first.1),
-    outside_leads t.nodes top change keeps node (never_climbs t node top sound spares) up,
-  )
+    first_stands : Stands t.nodes
+    first_stands = (λ j other climbs. refl, first.1)
 
-  -- nothing is put in the trash over it, and nothing comes back under a name that is held
-  deed_stands : (now : ℕ) (did : Deed) → KnownDeed t now did → SparesDeed t key did → LeadsToRoot t.nodes node → Stands (deed_done t did)
-  deed_stands now deed.Nothing known spares up = (first, up)
-  deed_stands now (deed.Discard item) known spares up =
-      changed_stands item.node trashed (λ r. refl) (λ old h. spared_row key (trashed old) (λ folder place same. absurd (nowhere folder place))) spares up
-    where
-      nowhere : (folder : ℕ) → Trash ≢ Inside folder
-      nowhere folder = λ same. cc
-  deed_stands now (deed.Restore top folder name) known spares up =
-      changed_stands top (relinked folder name) (λ r. refl)
-      (λ old h. spared_row key (relinked folder name old) (λ other place same.
-      spares (same ∙ ap (λ (n : ℕ). Slot n name) (sym (inside folder other place)))))
-      (item_outside t top node sound (ap is_some known.there) up) up
-    where
-      inside : (a b : ℕ) → Inside a ≡ Inside b → a ≡ b
-      inside a b same = cc
-  deed_stands now (deed.Requote row) known spares up = (first, up)
+    -- then it climbs as before, and so does each of these
+    climbs_so : (rows : List NodeRow) → Stands rows → (k j other : ℕ) → climb t.nodes j node ≡ Some other → climb rows k other ≡ climb t.nodes k other
+    climbs_so rows stands k j other climbs =
+        climb_same t.nodes rows (λ k other. (j : ℕ) × (climb t.nodes j node ≡ Some other))
+        (λ k other parent at above. (at.0 + 1, climb_on at.0 1 t.nodes node other at.1 ∙ ap (option_and_then (climb t.nodes 0)) above))
+        (λ k other at. ap (option_and_then (λ row. folder_of row.place)) (stands.0 at.0 other at.1)) k other (j, climbs)
 
-  -- without what it isn't under
-  purged_stands : (u : Tables) (top : ℕ) → AreSound u → is_under u.nodes node top ≡ false → Stands u → Stands (purged u top)
-  purged_stands u top fine outside h = (
-    (row_cleared u.nodes (Some top) node outside ∙ h.0.0, all_cleared (Spared key) u.nodes (Some top) h.0.1),
-    left_leads u top node fine outside h.1,
-  )
+    -- so it stays, and is present
+    stands_stays : (rows : List NodeRow) → Stands rows → Stays rows
+    stands_stays rows stands = (stands.0 0 node refl, stands.1)
 
-  trash_stands : (now : ℕ) (did : Deed) (gone : List ℕ) → t.meta.last ≤ now → KnownTrash t now did gone
-      → SparesDeed t key did × All (SparesGone t key) gone → LeadsToRoot t.nodes node → Stands (purged_all (deed_done t did) gone)
-  trash_stands now did gone later known spares up =
-      trash_keeps Stands t now did gone sound later known (deed_stands now did known.known spares.0 up) (here gone spares.1)
-      (λ u top fine is h. purged_stands u top fine (item_outside u top node fine is h.1) h)
-    where
-      here : (gone : List ℕ) → All (SparesGone t key) gone
-          → IfSome (slice_get gone 0) (λ (top : ℕ). KnownGone t top → Stands (stamp t now) → Stands (purged (stamp t now) top))
-      here [] spared = tt
-      here (top ∷ tops) spared =
-          λ present. purged_stands (stamp t now) top (stamp_sound t now sound later)
-          (elim (All-head (SparesGone t key) top tops spared) [ inl item ↦ item_outside t top node sound item up | inr outside ↦ outside ])
+    stands_leads : (rows : List NodeRow) → Stands rows → LeadsToRoot rows node
+    stands_leads rows stands = record {
+      steps = up.steps;
+      top = up.top;
+      climbs = climbs_so rows stands up.steps 0 node refl ∙ up.climbs;
+      root = ap (λ (o : Option NodeRow). option_map_or (λ row. is_root_place row.place) o false) (stands.0 up.steps up.top up.climbs) ∙ up.root;
+    }
+
+    -- with another row of a node that it isn't under
+    turned_stands : (rows : List NodeRow) (top : ℕ) (change : NodeRow → NodeRow) → KeepsId change
+        → ((old : NodeRow) → Spared key old → Spared key (change old)) → SparesUnder t key top → Stands rows → Stands (with_node rows top change)
+    turned_stands rows top change keeps spared outside stands = (
+      λ j other climbs.
+          row_other rows top change keeps other (ne_eqb other top (λ same. never_climbs t node top sound outside j (climbs ∙ ap Some same)))
+          ∙ stands.0 j other climbs,
+      with_all (Spared key) rows top change spared stands.1,
+    )
+
+    -- in another folder, where that isn't under a name that is held
+    relinked_stands : (rows : List NodeRow) (top folder : ℕ) (name : List ℕ) → SparesUnder t key top → key ≢ Slot folder name → Stands rows
+        → Stands (with_node rows top (relinked folder name))
+    relinked_stands rows top folder name outside other =
+        turned_stands rows top (relinked folder name) (λ r. refl)
+        (λ old h. spared_row key (relinked folder name old) (λ at place same. other (same ∙ ap (λ (n : ℕ). Slot n name) (sym (inside folder at place)))))
+        outside
+      where
+        inside : (a b : ℕ) → Inside a ≡ Inside b → a ≡ b
+        inside a b same = cc
+
+    -- without those under one that it isn't under
+    left_stands : (rows : List NodeRow) (top : ℕ) → SparesUnder t key top → Stands rows → Stands (without_under rows top)
+    left_stands rows top outside stands = (
+      λ j other climbs.
+          row_left rows top other (false_from_ne_true (is_under rows other top) (λ under.
+          let c = under_climb rows other top under in
+          never_climbs t node top sound outside (j + c.0)
+          (climb_on j c.0 t.nodes node other climbs ∙ sym (climbs_so rows stands c.0 j other climbs) ∙ c.2)))
+          ∙ stands.0 j other climbs,
+      All-filter (λ row. not (is_under rows row.id top)) (Spared key) rows stands.1,
+    )
+
+    -- with more rows, which are spared
+    joined_stands : (rows more : List NodeRow) → All (Spared key) more → Stands rows → Stands (rows ++ more)
+    joined_stands rows more spared stands = (
+      λ j other climbs.
+          let row = above_there j other climbs in
+          find-append (λ (one : NodeRow). one.id == other) rows more
+          ∙ ap (λ (o : Option NodeRow). option_or o (node_row more other)) (stands.0 j other climbs ∙ row.1) ∙ sym row.1,
+      All-append (Spared key) rows more stands.1 spared,
+    )
+
+    -- ---- a step's deeds
+
+    -- what is put in the trash or comes back, goes or is moved isn't over what is held, and nothing is put under a name that is held
+    abbrev IsApart : Deed → Type 0
+    IsApart (deed.Discard item) = SparesUnder t key item.node
+    IsApart (deed.Purge top) = SparesUnder t key top
+    IsApart (deed.Restore top folder name) = SparesUnder t key top × key ≢ Slot folder name
+    IsApart (deed.Relink top folder name) = SparesUnder t key top × key ≢ Slot folder name
+    IsApart (deed.Join rows) = All (Spared key) rows
+    IsApart (deed.Requote row) = Unit {0}
+
+    deed_apart : (now : ℕ) (one : Deed) → IsBack t now one → SparesDeed t now key one → IsApart one
+    deed_apart now (deed.Discard item) back spares = spares
+    deed_apart now (deed.Purge top) back (inl item) = item_outside t top node sound item up
+    deed_apart now (deed.Purge top) back (inr outside) = outside
+    deed_apart now (deed.Restore top folder name) item other = (item_outside t top node sound item up, other)
+    deed_apart now (deed.Relink top folder name) back spares = spares
+    deed_apart now (deed.Join rows) back (transfer, name, are, other) = subst (All (Spared key)) (sym are) (copies_spared now transfer name other)
+    deed_apart now (deed.Requote row) back spares = tt
+
+    deed_stands : (u : Tables) (one : Deed) → IsApart one → Stands u.nodes → Stands (deed_done u one).nodes
+    deed_stands u (deed.Discard item) outside stands =
+        turned_stands u.nodes item.node trashed (λ r. refl)
+        (λ old h. spared_row key (trashed old) (λ folder place same. absurd (nowhere folder place))) outside stands
+      where
+        nowhere : (folder : ℕ) → Trash ≢ Inside folder
+        nowhere folder = λ same. cc
+    deed_stands u (deed.Purge top) outside stands = left_stands u.nodes top outside stands
+    deed_stands u (deed.Restore top folder name) apart stands = relinked_stands u.nodes top folder name apart.0 apart.1 stands
+    deed_stands u (deed.Relink top folder name) apart stands = relinked_stands u.nodes top folder name apart.0 apart.1 stands
+    deed_stands u (deed.Join rows) spared stands = joined_stands u.nodes rows spared stands
+    deed_stands u (deed.Requote row) apart stands = stands
+
+    deeds_stand : (u : Tables) (deeds : List Deed) → All IsApart deeds → Stands u.nodes → Stands (deeds_done u deeds).nodes
+    deeds_stand u [] apart stands = stands
+    deeds_stand u (one ∷ deeds) apart stands =
+        deeds_stand (deed_done u one) deeds (All-tail IsApart one deeds apart) (deed_stands u one (All-head IsApart one deeds apart) stands)
+
+    step_stands : (now : ℕ) (deeds : List Deed) → KnownDeeds t now deeds → All (SparesDeed t now key) deeds → Stands (deeds_done t deeds).nodes
+    step_stands now deeds known spares =
+        deeds_stand t deeds (λ k d within. deed_apart now (get_or deeds k d) (known_back t now deeds known k d within) (spares k d within)) first_stands
 
   -- ---- every act
 
-  altered_stays : (now : ℕ) (act : Allowed) → t.meta.last ≤ now → Known t now act → Spares t now hold act → LeadsToRoot t.nodes node
-      → Stays (altered t now act).nodes
-  altered_stays now (allowed.Change changes blob report) later known spares up =
+  altered_stays : (now : ℕ) (act : Allowed) → Known t now act → Spares t now hold act → LeadsToRoot t.nodes node → Stays (altered t now act).nodes
+  altered_stays now (allowed.Change changes blob report) known spares up =
       nodes_have Stays (SparesChange t key) t now changes blob report sound.rising known spares
       (λ u row stays it is. new_stays u.nodes row stays it.fresh (is.slot it.fresh)) (λ u row stays it is. filled_stays u blob row stays it is)
       (λ u row root stays it. new_stays u.nodes root stays it.2 (λ folder inside. absurd (no_folder folder (sym it.1.place ∙ inside)))) first
     where
       no_folder : (folder : ℕ) → Root ≢ Inside folder
       no_folder folder = λ same. cc
-  altered_stays now (allowed.Trash did gone report) later known spares up = (trash_stands now did gone later known spares up).0
-  altered_stays now (allowed.Move transfer name) later known spares up = moved_stays transfer name spares.0 spares.1
-  altered_stays now (allowed.Copy rows replaced) later known spares up = copied_stays now rows replaced spares.0 spares.1
-  altered_stays now (allowed.Cross rows replaced top) later known spares up = crossed_stays now rows replaced top known spares
-  altered_stays now act later known spares up = first
+  altered_stays now (allowed.Deeds deeds report) known spares up =
+      stands_stays up (deeds_done t deeds).nodes (step_stands up now deeds known spares)
+  altered_stays now act known spares up = first
 
   -- so it does by an act that leaves it alone
   pub act_stays : (now : ℕ) (act : Allowed) → t.meta.last ≤ now → Known t now act → Spares t now hold act → LeadsToRoot t.nodes node
       → KeyStays t (changed t now act) key
   act_stays now act later known spares up =
-      let stays = stamped_has (λ (u : Tables). Stays u.nodes) t (altered t now act) now (told t act) first (altered_stays now act later known spares up) in
+      let stays = stamped_has (λ (u : Tables). Stays u.nodes) t (altered t now act) now (told t act) first (altered_stays now act known spares up) in
       record { row = stays.0; free = free_of (changed t now act).nodes key stays.1 }
 
   -- ---- what is held and present stays present
 
-  copied_leads : (now : ℕ) (rows : List NodeRow) (replaced : Option ℕ) (known : KnownCopies t now rows replaced)
-      → SparesTarget t key known.transfer known.name → LeadsToRoot t.nodes node → LeadsToRoot (joined t rows replaced).nodes node
-  copied_leads now rows replaced known target up =
-      let stays = not_replaced replaced (subst (λ (o : Option ℕ). IfSome o (SparesUnder t key)) (sym known.replaced_is) target.replaced) in
-      kept_leads (cleared t.nodes replaced) (joined t rows replaced).nodes node (kept_joined (cleared t.nodes replaced) rows)
-      (cleared_leads t replaced node sound stays up)
-
-  altered_leads : (now : ℕ) (act : Allowed) → t.meta.last ≤ now → Known t now act → Spares t now hold act → LeadsToRoot t.nodes node
+  altered_leads : (now : ℕ) (act : Allowed) → Known t now act → Spares t now hold act → LeadsToRoot t.nodes node
       → LeadsToRoot (altered t now act).nodes node
-  altered_leads now (allowed.Change changes blob report) later known spares up =
+  altered_leads now (allowed.Change changes blob report) known spares up =
       nodes_have (λ (rows : List NodeRow). LeadsToRoot rows node) (λ change. Unit {0}) t now changes blob report sound.rising known (λ k d within. tt)
       (λ u row h it is. kept_leads u.nodes (u.nodes ++ row ∷ []) node (kept_joined u.nodes (row ∷ [])) h)
       (λ u row h it is. kept_leads u.nodes (with_filled u row).nodes node (kept_replaced u.nodes row.changed row.id row.content) h)
       (λ u row root h it. kept_leads u.nodes (u.nodes ++ root ∷ []) node (kept_joined u.nodes (root ∷ [])) h) up
-  altered_leads now (allowed.Trash did gone report) later known spares up = (trash_stands now did gone later known spares up).1
-  altered_leads now (allowed.Move transfer name) later known spares up =
-      transferred_leads t transfer name node sound known (not_replaced transfer.replaced spares.1.replaced) up
-  altered_leads now (allowed.Copy rows replaced) later known spares up = copied_leads now rows replaced spares.0 spares.1 up
-  altered_leads now (allowed.Cross rows replaced top) later known spares up =
-      left_leads (stamp (joined t rows replaced) now) top node (copied_sound t now rows replaced sound later spares.0)
-      (crossed_under t now rows replaced top sound known node ∙ spares.2) (copied_leads now rows replaced spares.0 spares.1 up)
-  altered_leads now act later known spares up = up
+  altered_leads now (allowed.Deeds deeds report) known spares up =
+      stands_leads up (deeds_done t deeds).nodes (step_stands up now deeds known spares)
+  altered_leads now act known spares up = up
 
   pub act_leads : (now : ℕ) (act : Allowed) → t.meta.last ≤ now → Known t now act → Spares t now hold act → LeadsToRoot t.nodes node
       → LeadsToRoot (changed t now act).nodes node
   act_leads now act later known spares up =
-      stamped_has (λ (u : Tables). LeadsToRoot u.nodes node) t (altered t now act) now (told t act) up (altered_leads now act later known spares up)
+      stamped_has (λ (u : Tables). LeadsToRoot u.nodes node) t (altered t now act) now (told t act) up (altered_leads now act known spares up)

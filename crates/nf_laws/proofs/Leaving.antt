@@ -1,121 +1,212 @@
--- A node that is put in the trash, or that goes for good though it is present: what becomes of nodes, shares and items.
-use Rattle.std.proofs.Common.{Option, None, subst, ℕ, ◌≡◌, ◌≢◌, ◌≤◌, ◌⊎◌, true, false, List, [], ◌∷◌, Some, option_map, refl, sym, ap, ◌∙◌, inl, inr}
+-- Nodes that leave their places, while others are put somewhere: what becomes of nodes, shares and items.
+use Rattle.std.proofs.Common.{ℕ, zero, suc, ◌==◌, ◌≡◌, ◌≢◌, ◌⊎◌, Bool, false, List, [], ◌∷◌, Option, Some, if◌then◌else◌, get_or, inl, inr, refl, sym, ap, subst, ◌∙◌, arith}
 use Rattle.std.specs.Prelude.{is_some}
+use Rattle.std.specs.declared.cmp.Ordering.TheVariants.{Less}
 use Rattle.std.specs.List.{All, Contains}
-use Rattle.std.proofs.lemmas.Bool.{ne_eqb}
-use Rattle.std.proofs.lemmas.List.Elements.{All-contains, All-contains_itself, All-weaker}
+use Rattle.std.specs.Option.{option_and_then, option_map_or}
+use Rattle.std.proofs.lemmas.Bool.{both_ways, cases_Bool, eq-eqb, eqb-true, ne_eqb}
+use Rattle.std.proofs.lemmas.Cmp.{tied_itself}
+use Rattle.std.proofs.lemmas.List.Elements.{All-contains, All-contains_itself}
+use Rattle.std.proofs.lemmas.Option.{none-some, option_and_then_some, same_Some}
 use Rattle.nf_base.specs.declared.perms.Act.TheVariants.{Delete}
 use Rattle.nf_base.specs.declared.rows.ItemRow.{ItemRow}
+use Rattle.nf_base.specs.declared.rows.NodeRow.{NodeRow}
 use Rattle.nf_defs.proofs.Climbs.{under_climb}
-use Rattle.nf_defs.proofs.Puts.{all_put}
-use Rattle.nf_defs.specs.Prelude.{is_under, item_key, item_row, node_row, Tables}
+use Rattle.nf_defs.proofs.Puts.{key_total}
+use Rattle.nf_defs.specs.Prelude.{climb, folder_of, is_under, IsRising, item_key, item_row, key_cmp, node_row, owner_of, parent_of, Tables}
 use Rattle.nf_defs.specs.Tree.{trashed}
-use Rattle.nf_laws.proofs.Following.{AllFollow, deleted_follow, one_follows}
-use Rattle.nf_laws.proofs.Given.{put_contains}
-use Rattle.nf_laws.proofs.Going.{present_off}
-use Rattle.nf_laws.proofs.Gone.{left_leads, row_gone}
-use Rattle.nf_laws.proofs.Moved.{climb_below, outside_leads}
-use Rattle.nf_laws.proofs.OneRow.{row_itself, row_other}
-use Rattle.nf_laws.proofs.Others.{item_none, stamp_sound}
+use Rattle.nf_laws.proofs.Acted.{Acted, IsAway}
+use Rattle.nf_laws.proofs.Following.{AllFollow}
+use Rattle.nf_laws.proofs.Going.{present_off, under_is}
+use Rattle.nf_laws.proofs.Parts.{rest_of}
 use Rattle.nf_laws.proofs.Presence.{climbs_there}
 use Rattle.nf_laws.proofs.Present.{never_trash}
 use Rattle.nf_laws.proofs.Remaining.{shares_present, still_there}
-use Rattle.nf_laws.proofs.Rows.{stamp}
-use Rattle.nf_laws.proofs.Trashed.{deed_sound, purged_sound}
-use Rattle.nf_laws.proofs.Upwards.{derived, never_climbs}
-use Rattle.nf_laws.specs.Access.{IsNeeded, is_trashed, ItemsFollow, shares_without}
-use Rattle.nf_words.proofs.Known.{KnownDiscard, KnownGone}
+use Rattle.nf_laws.proofs.Rows.{found_is}
+use Rattle.nf_laws.proofs.Upwards.{climbed, derived}
+use Rattle.nf_laws.specs.Access.{Follows, IsNeeded, is_gone, is_trashed, ItemsFollow, shares_without}
+use Rattle.nf_laws.specs.Acts.{IsInTrash, IsItemOf, IsUnderOne}
+use Rattle.nf_laws.specs.Tree.{Under}
+use Rattle.nf_words.proofs.Sweeping.{rest_owned}
 use Rattle.nf_words.specs.Others.{IsItemSound}
-use Rattle.nf_words.specs.Prelude.{AreSound, discarded, LeadsToRoot, Need, purged}
-use Rattle.nf_words.specs.declared.answer.Deed.TheVariants as deed
+use Rattle.nf_words.specs.Prelude.{AreSound, LeadsToRoot, Need}
 
--- what is present is no item
-no_item : (t : Tables) (node : ℕ) → AreSound t → LeadsToRoot t.nodes node → All (λ (item : ItemRow). item.node ≢ node) t.items
-no_item t node sound up =
-    All-weaker (IsItemSound t) (λ (item : ItemRow). item.node ≢ node)
-    (λ item is same. never_trash 0 t.nodes node item.node is.of up (ap Some (sym same)) is.there is.place) t.items sound.others.items
+-- ---- among some nodes
+
+more_among : (top : ℕ) (nodes : List ℕ) (node : ℕ) → Contains nodes node → Contains (top ∷ nodes) node
+more_among top nodes node (k, within, is) = (suc k, omega (arith, within), is)
+
+-- a node is among some, or not
+among : (nodes : List ℕ) (node : ℕ) → Contains nodes node ⊎ (Contains nodes node → ⊥)
+among [] node = inr (λ is. absurd (omega (arith, is.1)))
+among (top ∷ nodes) node =
+    elim (cases_Bool (top == node)) [
+      | inl same ↦ inl (0, omega arith, eqb-true top node same)
+      | inr other ↦
+          elim (among nodes node) [ inl is ↦ inl (more_among top nodes node is) | inr none ↦ inr (neither other none) ]
+    ]
+  where
+    neither : (top == node) ≡ false → (Contains nodes node → ⊥) → Contains (top ∷ nodes) node → ⊥
+    neither other none (zero, within, is) = both_ways (top == node) other (eq-eqb top node is)
+    neither other none (suc k, within, is) = none (k, omega (arith, within), is)
+
+-- and it is under one of some, or not
+under_one : (t : Tables) (tops : List ℕ) (node : ℕ) → AreSound t → IsUnderOne t.nodes tops node ⊎ (IsUnderOne t.nodes tops node → ⊥)
+under_one t [] node sound = inr (λ one. absurd (omega (arith, one.1.1)))
+under_one t (top ∷ tops) node sound =
+    elim (cases_Bool (is_under t.nodes node top)) [
+      | inl under ↦
+          (let c = under_climb t.nodes node top under in inl (top, (0, omega arith, refl), derived c.0 t.nodes top node c.2))
+      | inr outside ↦
+          elim (under_one t tops node sound) [
+            | inl one ↦ inl (one.0, more_among top tops one.0 one.1, one.2)
+            | inr none ↦ inr (neither outside none)
+          ]
+    ]
+  where
+    neither : is_under t.nodes node top ≡ false → (IsUnderOne t.nodes tops node → ⊥) → IsUnderOne t.nodes (top ∷ tops) node → ⊥
+    neither outside none (other, (zero, within, is), under) =
+        both_ways (is_under t.nodes node top) outside (under_is t top node sound (subst (λ (n : ℕ). Under t.nodes n node) (sym is) under))
+    neither outside none (other, (suc k, within, is), under) = none (other, (k, omega (arith, within), is), under)
+
+-- ---- items by their nodes
+
+-- each item of rising ones is found by its node
+items_found : (items : List ItemRow) → IsRising item_key items → (item : ItemRow) → Contains items item → item_row items item.node ≡ Some item
+items_found [] rising item (k, within, is) = absurd (omega (arith, within))
+items_found (first ∷ items) rising item (zero, within, is) =
+    subst (λ (i : ItemRow). item_row (first ∷ items) i.node ≡ Some i) is (rw (eq-eqb first.node first.node refl) refl)
+items_found (first ∷ items) rising item (suc k, within, is) =
+    ap (λ (b : Bool). if b then Some first else item_row items item.node) (ne_eqb first.node item.node differs)
+    ∙ items_found items (λ i j d before within. rising (suc i) (suc j) d (omega (arith, before)) (omega (arith, within))) item (k, omega (arith, within), is)
+  where
+    differs : first.node ≢ item.node
+    differs same =
+        let less = subst (λ (i : ItemRow). key_cmp (item_key first) (item_key i) ≡ Less) is (rising 0 (suc k) item (omega arith) within) in
+        let equal = tied_itself key_total (item_key item) in
+        let turned = ap (λ (n : ℕ). key_cmp (n ∷ []) (item_key item)) (sym same) ∙ less in absurd (cc)
+
+-- and each that is found is one
+item_among : (items : List ItemRow) (node : ℕ) (item : ItemRow) → item_row items node ≡ Some item → Contains items item
+item_among items node item is = (found_is (Contains items) (λ (item : ItemRow). item.node == node) items item (All-contains_itself items) is).1
 
 -- the items as they were
 pub same_items : (needs : List Need) (now : ℕ) (items : List ItemRow) → ItemsFollow needs now items items
 same_items needs now items = (λ k d within. inl (All-contains_itself items k d within), λ item is. is)
 
--- ---- what is put in the trash
+-- ---- what leaves its place where it is deleted
 
-module _ (t : Tables) (now : ℕ) (item : ItemRow) (sound : AreSound t) (later : t.meta.last ≤ now) (known : KnownDiscard t now item) where
-  abbrev in_trash : Tables
-  in_trash = stamp (discarded t item) now
+module _ (t u : Tables) (now : ℕ) (leave : List ℕ) (IsPut : ℕ → Type 0) (needs : List Need) (sound : AreSound t) (acted : Acted t u now leave IsPut)
+    (needed : All (IsNeeded needs Delete) leave) where
+  away : (top : ℕ) → Contains leave top → IsAway t u now top
+  away top is = All-contains (IsAway t u now) leave top acted.away is
 
-  abbrev top : ℕ
-  top = item.node
+  -- ---- the nodes
 
-  -- its row alone is another
-  row_top : node_row in_trash.nodes top ≡ Some (trashed known.row)
-  row_top = row_itself t.nodes top trashed (λ row. refl) ∙ ap (option_map trashed) known.there
+  away_follows : (top node : ℕ) → IsNeeded needs Delete top → Under t.nodes top node → node_row u.nodes node ≢ node_row t.nodes node → IsAway t u now top
+      → Follows needs t.nodes u.nodes node
+  away_follows top node need under differs (inl is) =
+      elim (cases_Bool (node == top)) [
+        | inl same ↦
+            subst (Follows needs t.nodes u.nodes) (sym (eqb-true node top same)) (is_trashed is.row need is.there is.itself)
+        | inr other ↦ absurd (differs (is.below node under (λ e. both_ways (node == top) other (eq-eqb node top e))))
+      ]
+  away_follows top node need under differs (inr gone) = is_gone top need under (gone node under)
 
-  row_apart : (node : ℕ) → node ≢ top → node_row in_trash.nodes node ≡ node_row t.nodes node
-  row_apart node other = row_other t.nodes top trashed (λ row. refl) node (ne_eqb node top other)
-
-  pub discarded_follow : (needs : List Need) → IsNeeded needs Delete top → AllFollow needs t.nodes in_trash.nodes
-  discarded_follow needs needed =
-      one_follows needs t.nodes in_trash.nodes top (is_trashed known.row needed known.there row_top)
-      (λ node other differs. absurd (differs (row_apart node other)))
+  -- where what is put somewhere follows from what is needed, all does
+  pub acted_follow : ((node : ℕ) → (IsPut node → ⊥) ⊎ (node_row u.nodes node ≢ node_row t.nodes node → Follows needs t.nodes u.nodes node))
+      → AllFollow needs t.nodes u.nodes
+  acted_follow puts node differs =
+      elim (puts node) [
+        | inl off ↦
+            elim (under_one t leave node sound) [
+              | inl one ↦
+                  away_follows one.0 node (All-contains (IsNeeded needs Delete) leave one.0 needed one.1) one.2 differs (away one.0 one.1)
+              | inr none ↦ absurd (differs (acted.others node off none))
+            ]
+        | inr follows ↦ follows differs
+      ]
 
   -- ---- the shares
 
-  -- what is under it isn't present any more
-  ends : (node : ℕ) → LeadsToRoot t.nodes node → is_under t.nodes node top ≡ true → LeadsToRoot in_trash.nodes node → ⊥
-  ends node up under still =
-      let c = under_climb t.nodes node top under in
-      never_trash c.0 in_trash.nodes node top (trashed known.row) still (climb_below t.nodes top trashed (λ row. refl) t refl sound c.0 node c.2) row_top
-      refl
+  -- what is under what is in the trash climbs to it still
+  still_climbs : (top j node : ℕ) → IsInTrash t u now top → climb t.nodes j node ≡ Some top → (k : ℕ) × (climb u.nodes k node ≡ Some top)
+  still_climbs top zero node is climbs = (0, climbs)
+  still_climbs top (suc j) node is climbs =
+      elim (cases_Bool (node == top)) [
+        | inl same ↦ (0, ap Some (eqb-true node top same))
+        | inr other ↦
+            option_and_then_some (climb t.nodes j) (parent_of t.nodes node) top climbs (λ parent above rest.
+            let more = still_climbs top j parent is rest in
+            let row = is.below node (derived (suc j) t.nodes top node climbs) (λ e. both_ways (node == top) other (eq-eqb node top e)) in
+            let up : parent_of u.nodes node ≡ Some parent = ap (option_and_then (λ (row : NodeRow). folder_of row.place)) row ∙ above in
+            (suc more.0, ap (option_and_then (climb u.nodes more.0)) up ∙ more.1))
+      ]
 
-  -- and what isn't under it is present as before
-  stays : (node : ℕ) → LeadsToRoot t.nodes node → is_under t.nodes node top ≡ false → LeadsToRoot in_trash.nodes node
-  stays node up outside = outside_leads t.nodes top trashed (λ row. refl) node (never_climbs t node top sound outside) up
+  -- so it isn't present any more
+  away_ends : (top node : ℕ) → Under t.nodes top node → LeadsToRoot u.nodes node → IsAway t u now top → ⊥
+  away_ends top node under still (inl is) =
+      let c = climbed t.nodes top node under in
+      let on = still_climbs top c.0 node is c.1 in
+      never_trash on.0 u.nodes node top (trashed is.row) still on.1 is.itself refl
+  away_ends top node under still (inr gone) = still_there u.nodes node (gone node under) (climbs_there u.nodes node still)
 
-  pub discarded_shares : in_trash.shares ≡ shares_without in_trash.nodes t.shares
-  discarded_shares =
-      shares_present t in_trash (λ node. is_under t.nodes node top) sound (deed_sound t now (deed.Discard item) sound later known) ends stays
+  pub acted_shares : u.shares ≡ shares_without u.nodes t.shares
+  acted_shares =
+      acted.ended
+      ∙ shares_present t u acted.goes sound acted.sound (λ node up goes still.
+      elim (under_one t leave node sound) [
+        | inl one ↦ away_ends one.0 node one.2 still (away one.0 one.1)
+        | inr none ↦ both_ways (acted.goes node) (acted.fails node none) goes
+      ])
+      (λ node up stays. acted.leads node (λ one. both_ways (acted.goes node) stays (acted.passes node one)) up)
 
   -- ---- the items
 
-  -- the others stay, since it wasn't one
-  pub discarded_items : (needs : List Need) → IsNeeded needs Delete top → ItemsFollow needs now t.items in_trash.items
-  discarded_items needs needed = (
-    all_put item_key Of item t.items (inr (needed, ap (λ (i : ItemRow). i.at) known.is)) (λ k d within. inl (All-contains_itself t.items k d within)),
-    λ other is. put_contains item_key item other t.items (apart other is) is,
+  -- an item of what left its place is there since now
+  away_item : (item : ItemRow) → Contains u.items item → IsAway t u now item.node → item.at ≡ now
+  away_item item is (inl trash) =
+      ap (λ (i : ItemRow). i.at)
+      (same_Some item (record { node = item.node; owner = trash.row.owner; name = trash.row.name; from = trash.folder; at = now })
+      (sym (items_found u.items acted.sound.others.items_rise item is) ∙ trash.item))
+  away_item item is (inr gone) =
+      let fine = All-contains (IsItemSound u) u.items item acted.sound.others.items is in
+      absurd (none-some fine.of (sym (gone item.node (derived 0 t.nodes item.node item.node refl)) ∙ fine.there))
+
+  -- what left its place was no item
+  no_item : (item : ItemRow) → Contains t.items item → Contains leave item.node → ⊥
+  no_item item is leaves =
+      present_off t item.node item.node sound (ap is_some (items_found t.items sound.others.items_rise item is))
+      (All-contains (LeadsToRoot t.nodes) leave item.node acted.present leaves) (derived 0 t.nodes item.node item.node refl)
+
+  pub acted_items : ItemsFollow needs now t.items u.items
+  acted_items = (
+    λ k d within.
+        let item = get_or u.items k d in
+        let is = All-contains_itself u.items k d within in
+        elim (among leave item.node) [
+          | inl leaves ↦ inr (All-contains (IsNeeded needs Delete) leave item.node needed leaves, away_item item is (away item.node leaves))
+          | inr none ↦
+              inl (item_among t.items item.node item
+              (sym (acted.items item.node none) ∙ items_found u.items acted.sound.others.items_rise item is))
+        ],
+    λ item is.
+        item_among u.items item.node item
+        (acted.items item.node (no_item item is) ∙ items_found t.items sound.others.items_rise item is),
   )
-    where
-      Of : ItemRow → Type 0
-      Of other = Contains t.items other ⊎ (IsNeeded needs Delete other.node × (other.at ≡ now))
 
-      one : {a b : ℕ} → a ∷ [] ≡ b ∷ [] → a ≡ b
-      one e = cc
+-- ---- what goes beside it
 
-      apart : (other : ItemRow) → Contains t.items other → item_key item ≢ item_key other
-      apart other is same =
-          All-contains (λ (i : ItemRow). i.node ≢ top) t.items other (no_item t top sound known.present) is (sym (one same))
+-- an item of the owner of what is deleted
+abbrev pub IsBesideOne : Tables → List Need → ℕ → Type 0
+IsBesideOne t needs node = (top : ℕ) × IsNeeded needs Delete top × IsItemOf t (owner_of t.nodes top) node
 
--- ---- what goes for good though it is present
-
-module _ (t : Tables) (now top : ℕ) (sound : AreSound t) (later : t.meta.last ≤ now) (known : KnownGone t top) where
-  abbrev without_it : Tables
-  without_it = stamp (purged t top) now
-
-  pub purged_follow : (needs : List Need) → IsNeeded needs Delete top → AllFollow needs t.nodes without_it.nodes
-  purged_follow = deleted_follow t top
-
-  pub purged_shares : without_it.shares ≡ shares_without without_it.nodes t.shares
-  purged_shares =
-      shares_present t without_it (λ node. is_under t.nodes node top) sound
-      (stamp_sound (purged t top) now (purged_sound t top sound (inr known)) later)
-      (λ node up goes still. still_there without_it.nodes node (row_gone t.nodes (Some top) node goes) (climbs_there without_it.nodes node still))
-      (λ node up stays. left_leads t top node sound stays up)
-
-  -- no item is dropped, since it is none
-  pub purged_items : (needs : List Need) → ItemsFollow needs now t.items without_it.items
-  purged_items needs = here (item_row t.items top) refl
-    where
-      here : (o : Option ItemRow) → item_row t.items top ≡ o → ItemsFollow needs now t.items without_it.items
-      here None e = subst (ItemsFollow needs now t.items) (sym (item_none top t.items e)) (same_items needs now t.items)
-      here (Some item) e = absurd (present_off t top top sound (ap is_some e) known.present (derived 0 t.nodes top top refl))
+-- of what goes with a node that is deleted all but the node are such
+pub rest_beside : (t : Tables) (now : ℕ) (row : NodeRow) (needs : List Need) → AreSound t → node_row t.nodes row.id ≡ Some row
+    → IsNeeded needs Delete row.id → All (IsBesideOne t needs) (rest_of t now row)
+rest_beside t now row needs sound there needed k d within = (
+  row.id,
+  needed,
+  subst (λ (user : ℕ). IsItemOf t user (get_or (rest_of t now row) k d))
+      (sym (ap (λ (o : Option NodeRow). option_map_or (λ row. row.owner) o 0) there)) (rest_owned t sound now row k d within),
+)

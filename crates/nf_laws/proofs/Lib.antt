@@ -1,9 +1,11 @@
+pub mod Acted
 pub mod Acting
 pub mod Added
 pub mod Affording
 pub mod Allowing
 pub mod Asking
 pub mod Blobs
+pub mod Carried
 pub mod Chained
 pub mod Charging
 pub mod Children
@@ -11,8 +13,7 @@ pub mod Climbs
 pub mod Contents
 pub mod Copied
 pub mod Counters
-pub mod Crossed
-pub mod Crossing
+pub mod Departed
 pub mod Discarding
 pub mod Ended
 pub mod Entries
@@ -24,10 +25,13 @@ pub mod Given
 pub mod Going
 pub mod Gone
 pub mod Held
+pub mod Into
+pub mod InTurn
 pub mod Lines
 pub mod Links
 pub mod Leaning
 pub mod Leaving
+pub mod Left
 pub mod Lists
 pub mod Locking
 pub mod May
@@ -40,6 +44,7 @@ pub mod Opening
 pub mod Others
 pub mod Peopled
 pub mod Owned
+pub mod Parts
 pub mod Paths
 pub mod Presence
 pub mod Present
@@ -52,6 +57,7 @@ pub mod Reaching
 pub mod Reading
 pub mod Remaining
 pub mod Recharged
+pub mod Regions
 pub mod Replaced
 pub mod Restoring
 pub mod Rows
@@ -62,6 +68,7 @@ pub mod Sources
 pub mod Stays
 pub mod Stored
 pub mod Telling
+pub mod Told
 pub mod Transferred
 pub mod Trashed
 pub mod Trashing

@@ -1,21 +1,21 @@
 -- Shares that were there are there, of the same node and of the same kind.
-use Rattle.std.proofs.Common.{◌≡◌, ℕ, ◌==◌, ◌<◌, Bool, inl, inr, List, Option, option_map, arith, refl, sym, ap, subst, ◌∙◌}
-use Rattle.std.specs.Prelude.{None, Some}
+use Rattle.std.proofs.Common.{◌≡◌, ℕ, ◌==◌, ◌<◌, Bool, inl, inr, List, option_map, arith, refl, sym, ap, subst, ◌∙◌}
+use Rattle.std.specs.Prelude.{Some}
 use Rattle.std.proofs.lemmas.Bool.{both_ways, cases_Bool, eq-eqb, eqb-true}
 use Rattle.std.proofs.lemmas.Option.{same_Some}
 use Rattle.nf_access.specs.Shares.{is_link_kind, share_row}
 use Rattle.nf_base.specs.declared.rows.NodeRow.{NodeRow}
 use Rattle.nf_base.specs.declared.rows.ShareRow.{ShareRow}
 use Rattle.nf_defs.specs.Prelude.{is_under, made, put, share_key, Tables}
+use Rattle.nf_laws.proofs.InTurn.{deeds_keep}
 use Rattle.nf_laws.proofs.Lists.{changes_have, KnownShare}
 use Rattle.nf_laws.proofs.Others.{row_ended, same_field, unless_gone}
 use Rattle.nf_laws.proofs.Peopled.{people_shares}
-use Rattle.nf_laws.proofs.Purged.{purged_keeps}
 use Rattle.nf_laws.proofs.Puts.{other_number}
 use Rattle.nf_laws.proofs.Rows.{found_is, stamped_has}
 use Rattle.nf_words.proofs.Asks.{share_found}
 use Rattle.nf_words.proofs.Known.{Known}
-use Rattle.nf_words.specs.Prelude.{altered, AreSound, changed, deed_done, ended_for, IsLinkTo, IsNewShare, IsOtherShare, joined, purged, told}
+use Rattle.nf_words.specs.Prelude.{altered, AreSound, changed, deed_done, ended_under, IsLinkTo, IsNewShare, IsOtherShare, told}
 use Rattle.nf_words.specs.declared.answer.Allowed.{Allowed}
 use Rattle.nf_words.specs.declared.answer.Allowed.TheVariants as allowed
 use Rattle.nf_words.specs.declared.answer.Deed.{Deed}
@@ -46,9 +46,8 @@ then_shares first second third one two id old there =
 
 -- ---- shares that end
 
-ended_shares : (nodes : List NodeRow) (replaced : Option ℕ) (shares : List ShareRow) → AreSameShares shares (ended_for nodes replaced shares)
-ended_shares nodes None shares id old there = all_shares shares id old there
-ended_shares nodes (Some top) shares id old there =
+ended_shares : (nodes : List NodeRow) (top : ℕ) (shares : List ShareRow) → AreSameShares shares (ended_under nodes top shares)
+ended_shares nodes top shares id old there =
     let gone : ℕ → Bool = λ node. is_under nodes node top in
     record {
       row = unless_gone gone old;
@@ -99,12 +98,16 @@ known_share_keeps first t row known = elim known [ inl new ↦ new_share_keeps t
 
 -- ---- every act
 
--- what is put in the trash ends shares, and what comes back changes none
-deed_shares : (t : Tables) (did : Deed) → KeepsShares t (deed_done t did)
-deed_shares t (deed.Discard item) = ended_shares t.nodes (Some item.node) t.shares
-deed_shares t deed.Nothing = all_shares t.shares
-deed_shares t (deed.Restore top folder name) = all_shares t.shares
-deed_shares t (deed.Requote row) = all_shares t.shares
+-- what is put in the trash and what goes for good ends shares, and no other deed changes one
+deed_shares : (t u : Tables) (one : Deed) → KeepsShares t u → KeepsShares t (deed_done u one)
+deed_shares t u (deed.Discard item) keeps =
+    then_shares t.shares u.shares (ended_under u.nodes item.node u.shares) keeps (ended_shares u.nodes item.node u.shares)
+deed_shares t u (deed.Purge node) keeps =
+    then_shares t.shares u.shares (ended_under u.nodes node u.shares) keeps (ended_shares u.nodes node u.shares)
+deed_shares t u (deed.Restore node folder name) keeps = keeps
+deed_shares t u (deed.Relink node folder name) keeps = keeps
+deed_shares t u (deed.Join rows) keeps = keeps
+deed_shares t u (deed.Requote row) keeps = keeps
 
 altered_shares : (t : Tables) (now : ℕ) (act : Allowed) → AreSound t → Known t now act → KeepsShares t (altered t now act)
 altered_shares t now (allowed.Change changes blob report) sound known =
@@ -113,15 +116,8 @@ altered_shares t now (allowed.Change changes blob report) sound known =
     (λ u row keeps it. then_shares t.shares u.shares (put share_key row u.shares) keeps (known_share_keeps t u row it))
     (λ u change keeps it. subst (AreSameShares t.shares) (sym (people_shares u change it)) keeps) (λ u row root keeps it. keeps)
     (all_shares t.shares)
-altered_shares t now (allowed.Trash did gone report) sound known =
-    purged_keeps (KeepsShares t) (λ u top keeps. then_shares t.shares u.shares (purged u top).shares keeps (ended_shares u.nodes (Some top) u.shares))
-    (deed_done t did) gone (deed_shares t did)
-altered_shares t now (allowed.Move transfer name) sound known = ended_shares t.nodes transfer.replaced t.shares
-altered_shares t now (allowed.Copy rows replaced) sound known = ended_shares t.nodes replaced t.shares
-altered_shares t now (allowed.Cross rows replaced node) sound known =
-    let between = joined t rows replaced in
-    then_shares t.shares between.shares (ended_for between.nodes (Some node) between.shares) (ended_shares t.nodes replaced t.shares)
-    (ended_shares between.nodes (Some node) between.shares)
+altered_shares t now (allowed.Deeds deeds report) sound known =
+    deeds_keep (KeepsShares t) (deed_shares t) t deeds (all_shares t.shares)
 altered_shares t now act sound known = all_shares t.shares
 
 pub shares_kept : (t : Tables) (now : ℕ) (act : Allowed) → AreSound t → Known t now act → KeepsShares t (changed t now act)

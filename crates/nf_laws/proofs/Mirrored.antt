@@ -1,5 +1,5 @@
 -- A copy mirrors what it is a copy of: the k-th copy is that of the k-th node of the walk.
-use Rattle.std.proofs.Common.{ℕ, zero, suc, ◌+◌, ◌-◌, ◌<◌, ◌≡◌, ◌⊎◌, List, [], ◌∷◌, ◌++◌, Option, Some, length, ⊎_elim, inl, inr, refl, sym, ap, subst, ◌∙◌, arith, length-append}
+use Rattle.std.proofs.Common.{ℕ, zero, suc, ◌+◌, ◌-◌, ◌<◌, ◌≡◌, ◌⊎◌, List, [], ◌∷◌, ◌++◌, Some, length, ⊎_elim, inl, inr, refl, ap, subst, ◌∙◌, arith, length-append}
 use Rattle.std.specs.Prelude.{slice_get}
 use Rattle.std.specs.List.{All, flat_map}
 use Rattle.std.proofs.lemmas.List.Elements.{All-head, All-tail}
@@ -10,8 +10,8 @@ use Rattle.nf_base.specs.declared.rows.Place.TheVariants.{Inside}
 use Rattle.nf_defs.proofs.Walks.{AreRising, IsChildOf, children_are}
 use Rattle.nf_defs.specs.Prelude.{children_of, node_row, owner_of, Tables, walk_of, walk_within}
 use Rattle.nf_laws.specs.Transfers.{IsCopyOf, IsPlacedCopy, Mirrors}
-use Rattle.nf_words.proofs.Known.{KnownCopies}
-use Rattle.nf_words.specs.Prelude.{AreSound, copied_row, copies_of_all, copies_within, renamed}
+use Rattle.nf_words.proofs.Ways.{HasRow}
+use Rattle.nf_words.specs.Prelude.{AreSound, copied_row, copies_of_all, copies_to, copies_within, renamed}
 use Rattle.nf_words.specs.declared.request.Transfer.{Transfer}
 
 -- ---- places in two lists, one behind the other
@@ -217,14 +217,10 @@ copy_is t now transfer name k copy c = record {
     placed (suc k) of copy (inr lower) =
         (lower.name, (lower.folder, lower.at, lower.of_place, lower.at_index, lower.before, lower.place))
 
-pub mirrored : (t : Tables) (now : ℕ) (rows : List NodeRow) (replaced : Option ℕ) → AreSound t
-    → (known : KnownCopies t now rows replaced) → Mirrors t now known.transfer known.name rows
+pub mirrored : (t : Tables) (now : ℕ) (transfer : Transfer) (name : List ℕ) → AreSound t → HasRow t.nodes transfer.node
+    → Mirrors t now transfer name (copies_to t now transfer name)
 unfolding walk_of
-mirrored t now rows replaced sound known =
-    let transfer = known.transfer in
-    let of = known.known.source in
+mirrored t now transfer name sound of =
     let copies = renamed_are t.nodes (owner_of t.nodes transfer.folder) now sound.rising (MAX_DEPTH - 1) transfer.folder t.meta.next_node
-    transfer.node
-    known.name of.0 of.1 in
-    subst (λ (rows : List NodeRow). Mirrors t now transfer known.name rows) (sym known.copies)
-    (record { all = copies.all; each = λ k copy is. copy_is t now transfer known.name k copy (copies.each k copy is) })
+    transfer.node name of.0 of.1 in
+    record { all = copies.all; each = λ k copy is. copy_is t now transfer name k copy (copies.each k copy is) }

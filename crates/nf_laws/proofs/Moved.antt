@@ -2,10 +2,9 @@
 use Rattle.std.proofs.Common.{ℕ, suc, ◌+◌, ◌<◌, ◌==◌, ◌≡◌, ◌≢◌, ◌≤◌, not, Bool, true, false, List, Option, None, Some, option_map, length, get_or, refl, sym, ap, subst, ◌∙◌, inl, inr, arith, le_refl}
 use Rattle.std.specs.List.{All, AllPairs}
 use Rattle.std.specs.Option.{option_and_then, option_map_or}
-use Rattle.std.proofs.lemmas.Bool.{both_ways, cases_Bool, eqb-true, false_from_ne_true, ne_eqb, not-true}
+use Rattle.std.proofs.lemmas.Bool.{both_ways, cases_Bool, eqb-true, ne_eqb, not-true}
 use Rattle.std.proofs.lemmas.List.Elements.{All-contains, All-weaker}
 use Rattle.std.proofs.lemmas.Option.{same_Some}
-use Rattle.nf_access.specs.Mounts.{mount_at}
 use Rattle.nf_base.specs.declared.limits.TheConstants.{MAX_DEPTH}
 use Rattle.nf_base.specs.declared.rows.ItemRow.{ItemRow}
 use Rattle.nf_base.specs.declared.rows.NodeRow.{NodeRow}
@@ -16,17 +15,14 @@ use Rattle.nf_defs.proofs.Climbs.{under_climb}
 use Rattle.nf_defs.proofs.Walks.{climbs_walk}
 use Rattle.nf_defs.specs.Prelude.{child_of, climb, depth, folder_of, is_folder, is_folder_kind, is_root, is_root_place, is_under, node_row, owner_of, parent_of, relinked, Tables, walk_of, with_node}
 use Rattle.nf_laws.proofs.Added.{new_apart}
-use Rattle.nf_laws.proofs.Climbs.{climb_on, climb_same, depth_is, node_row_each}
-use Rattle.nf_laws.proofs.Gone.{cleared_all, cleared_leads, clearing_sound, climb_cleared, folder_stays, free_cleared, kept_cleared, row_cleared}
+use Rattle.nf_laws.proofs.Climbs.{climb_on, climb_same, node_row_each}
 use Rattle.nf_laws.proofs.OneRow.{IsEither, each_either, KeepsId, length_with, pieces_with, rising_with, row_itself, row_other, value_with, with_others}
-use Rattle.nf_laws.proofs.Others.{items_all, items_left, ItemsLeft, new_off, others_seen, seen_with}
-use Rattle.nf_laws.proofs.Present.{below_present, never_trash}
-use Rattle.nf_laws.proofs.Rows.{IsRooted, folder_there, kept_row, node_still, none_higher, none_over, root_still}
-use Rattle.nf_laws.proofs.Upwards.{climb_short, climbs_depth, climbs_is_under, deepest_among, depth_climb, never_climbs, rooted}
-use Rattle.nf_laws.specs.Transfers.{is_replaced}
-use Rattle.nf_words.proofs.Known.{KnownMove}
+use Rattle.nf_laws.proofs.Others.{items_left, ItemsLeft, new_off, others_seen, seen_with}
+use Rattle.nf_laws.proofs.Present.{below_present}
+use Rattle.nf_laws.proofs.Rows.{IsRooted, folder_there, kept_row, node_still, none_higher, root_still}
+use Rattle.nf_laws.proofs.Upwards.{climb_short, climbs_depth, deepest_among, depth_climb, never_climbs, rooted}
 use Rattle.nf_words.proofs.Ways.{inside_present}
-use Rattle.nf_words.specs.Prelude.{AreApart, AreSound, cleared, crosses, deepest, deepest_in, HasRoot, IsNodeSound, IsPlaceSound, IsTop, IsUnmounted, LeadsToRoot, transferred}
+use Rattle.nf_words.specs.Prelude.{AreApart, AreSound, crosses, deepest, deepest_in, HasRoot, IsNodeSound, IsPlaceSound, IsTop, IsUnmounted, LeadsToRoot}
 use Rattle.nf_words.specs.declared.request.Transfer.{Transfer}
 
 -- ---- climbs where a node has another row
@@ -287,19 +283,7 @@ deep_below t node folder j below sound climbs deep =
     (deepest_among t.nodes (walk_of t.nodes node)) (climbs_walk j t.nodes node below few climbs) in
     omega (arith, among, depth_climb j t below node sound climbs, deep)
 
--- ---- what is known of a move
-
--- what stays is as deep as before
-pub depth_cleared : (t : Tables) (replaced : Option ℕ) (node : ℕ) (row : NodeRow) → AreSound t → AreSound (cleared_all t replaced)
-    → node_row (cleared t.nodes replaced) node ≡ Some row → depth (cleared t.nodes replaced) node ≡ depth t.nodes node
-depth_cleared t replaced node row sound clear there =
-    let u : Tables = cleared_all t replaced in
-    let up = climbs_depth u node row clear there in
-    let kept = kept_cleared t.nodes replaced node row there in
-    let above = kept_cleared t.nodes replaced up.0 up.2.row up.2.there in
-    sym (depth_is (depth u.nodes node) t.nodes node up.0
-    (none_over t.nodes up.0 (record { row = up.2.row; there = above.1; ends = up.2.ends })) up.3
-    (sym (climb_cleared t replaced (depth u.nodes node) node sound kept.0) ∙ up.1))
+-- ---- whose what is moved is
 
 -- what doesn't cross stays its owner's
 pub same_owner : (rows : List NodeRow) (transfer : Transfer) (row : NodeRow) → crosses rows transfer ≡ false → node_row rows transfer.node ≡ Some row
@@ -312,63 +296,3 @@ same_owner rows transfer row within there =
     not_not : (b : Bool) → not b ≡ false → b ≡ true
     not_not true h = refl
     not_not false h = absurd (cc)
-
--- a name that is no mount's isn't one where something has gone
-pub unmounted_cleared : (t : Tables) (replaced : Option ℕ) (folder : ℕ) (name : List ℕ) → node_row (cleared t.nodes replaced) folder ≡ node_row t.nodes folder
-    → IsUnmounted t folder name → IsUnmounted (cleared_all t replaced) folder name
-unmounted_cleared t replaced folder name same unmounted root =
-    ap (λ (o : Option NodeRow). mount_at t.mounts (option_map_or (λ row. row.owner) o 0) name) same
-    ∙ unmounted (sym (ap (λ (o : Option NodeRow). option_map_or (λ row. is_root_place row.place) o false) same) ∙ root)
-
-move_fits : (t : Tables) (transfer : Transfer) (name : List ℕ) → AreSound t → (known : KnownMove t transfer name)
-    → (old : NodeRow)
-    × Fits (cleared_all t transfer.replaced) t.items transfer.node transfer.folder name old
-move_fits t transfer name sound move =
-    let known = move.known in
-    let u : Tables = cleared_all t transfer.replaced in
-    let node = transfer.node in
-    let folder = transfer.folder in
-    let clear = clearing_sound t transfer name sound known in
-    let own = known.source in
-    let itself = row_cleared t.nodes transfer.replaced node known.apart in
-    let stays = folder_stays t transfer.replaced folder name sound known.there in
-    let at = row_cleared t.nodes transfer.replaced folder stays in
-    let top = folder_there t.nodes folder known.in_folder in
-    let deep = depth_cleared t transfer.replaced folder top.0 sound clear (at ∙ top.1) in (
-      own.0,
-      record {
-        there = itself ∙ own.1;
-        no_root = rw itself known.no_root;
-        left = items_all u (λ other. other == node) clear (λ other row there place.
-            ap not (ne_eqb other node (λ same.
-            never_trash 0 u.nodes node other row (cleared_leads t transfer.replaced node sound known.apart known.present) (ap Some (sym same)) there place)));
-        in_folder = rw at known.in_folder;
-        folder_present = cleared_leads t transfer.replaced folder sound stays known.folder_present;
-        owner = rw at (same_owner t.nodes transfer own.0 move.within own.1);
-        free = free_cleared t transfer.replaced folder name sound known.there;
-        unmounted = unmounted_cleared t transfer.replaced folder name at known.unmounted;
-        outside = false_from_ne_true (is_under u.nodes folder node) (λ under.
-            let c = under_climb u.nodes folder node under in
-            both_ways (is_under t.nodes folder node) known.outside
-            (climbs_is_under c.0 t folder node sound (sym (climb_cleared t transfer.replaced c.0 folder sound stays) ∙ c.2)));
-        shallow = λ j below row there is.
-            let kept = kept_cleared t.nodes transfer.replaced below row there in
-            let climbs : climb t.nodes j below ≡ Some node = sym (climb_cleared t transfer.replaced j below sound kept.0) ∙ is in
-            omega (arith, deep, deep_below t node folder j below sound climbs known.deep);
-      },
-    )
-
-pub transferred_sound : (t : Tables) (transfer : Transfer) (name : List ℕ) → AreSound t → KnownMove t transfer name
-    → AreSound (transferred t transfer name)
-transferred_sound t transfer name sound move =
-    let fits = move_fits t transfer name sound move in
-    relinked_sound (cleared_all t transfer.replaced) t.items transfer.node transfer.folder name fits.0
-    (clearing_sound t transfer name sound move.known) fits.1
-
--- what is present and hasn't to go is present after the move
-pub transferred_leads : (t : Tables) (transfer : Transfer) (name : List ℕ) (node : ℕ) → AreSound t → KnownMove t transfer name
-    → is_replaced t.nodes transfer.replaced node ≡ false → LeadsToRoot t.nodes node → LeadsToRoot (transferred t transfer name).nodes node
-transferred_leads t transfer name node sound move stays up =
-    let fits = move_fits t transfer name sound move in
-    moved_leads (cleared_all t transfer.replaced) t.items transfer.node transfer.folder name fits.0 (clearing_sound t transfer name sound move.known) fits.1
-    node (cleared_leads t transfer.replaced node sound stays up)

@@ -1,5 +1,5 @@
 -- Who owns a node that is there owned it before.
-use Rattle.std.proofs.Common.{inl, inr, ◌≢◌, ℕ, ◌==◌, ◌≡◌, ◌<◌, ◌≤◌, List, [], ◌∷◌, Option, Some, refl, sym, ap, subst, ◌∙◌, arith}
+use Rattle.std.proofs.Common.{inl, inr, ◌≢◌, ℕ, ◌==◌, ◌≡◌, ◌<◌, ◌≤◌, List, [], ◌∷◌, Some, refl, sym, ap, subst, ◌∙◌, arith, le_refl}
 use Rattle.std.specs.List.{All}
 use Rattle.std.proofs.lemmas.Bool.{cases_Bool, eqb-true}
 use Rattle.std.proofs.lemmas.List.Elements.{All-cons, All-nil}
@@ -8,15 +8,15 @@ use Rattle.nf_defs.specs.Prelude.{filled, made, node_row, relinked, Tables, with
 use Rattle.nf_defs.specs.Tree.{trashed}
 use Rattle.nf_laws.proofs.Climbs.{map_some}
 use Rattle.nf_laws.proofs.Copied.{copies_numbered, old_joined}
-use Rattle.nf_laws.proofs.Gone.{kept_cleared}
+use Rattle.nf_laws.proofs.Entries.{deeds_known_have}
+use Rattle.nf_laws.proofs.Gone.{kept_left}
+use Rattle.nf_laws.proofs.InTurn.{Fit, Joins}
 use Rattle.nf_laws.proofs.Lists.{changes_have, with_born, with_filled}
-use Rattle.nf_laws.proofs.Mirrored.{mirrored}
 use Rattle.nf_laws.proofs.OneRow.{KeepsId, row_itself, row_other}
 use Rattle.nf_laws.proofs.Peopled.{people_nodes}
-use Rattle.nf_laws.proofs.Purged.{purged_keeps}
 use Rattle.nf_laws.proofs.Rows.{row_joined, stamped_has}
-use Rattle.nf_words.proofs.Known.{Known, KnownCopies}
-use Rattle.nf_words.specs.Prelude.{altered, AreSound, changed, cleared, deed_done, discarded, joined, purged, removed, restored, told, transferred}
+use Rattle.nf_words.proofs.Known.{Known}
+use Rattle.nf_words.specs.Prelude.{altered, AreSound, changed, deed_done, purged, told}
 use Rattle.nf_words.specs.declared.answer.Allowed.{Allowed}
 use Rattle.nf_words.specs.declared.answer.Allowed.TheVariants as allowed
 use Rattle.nf_words.specs.declared.answer.Deed.{Deed}
@@ -62,73 +62,51 @@ filled_owners t u row keeps =
     also_owners t u (with_filled u row) keeps
     (with_owners u (with_filled u row) row.id (filled row.content row.changed) (λ r. refl) (λ r. refl) refl)
 
-abbrev clearing : Tables → Option ℕ → Tables
-clearing t replaced = record t { nodes = cleared t.nodes replaced }
-
-cleared_owners : (t : Tables) (replaced : Option ℕ) → KeepsOwners t (clearing t replaced)
-cleared_owners t replaced node row given there = (row, (kept_cleared t.nodes replaced node row there).1, refl)
-
--- where what is left keeps its owners, all does
-then_owners : (t made : Tables) (replaced : Option ℕ) → KeepsOwners (clearing t replaced) made → KeepsOwners t made
-then_owners t made replaced keeps node row given there =
-    let h = keeps node row given there in
-    let old = cleared_owners t replaced node h.0 given h.1 in (old.0, old.1, h.2 ∙ old.2)
-
 pub all_owners : (t : Tables) → KeepsOwners t t
 all_owners t node row given there = (row, there, refl)
 
--- ---- copies
+-- ---- deeds
 
 -- a copy's number wasn't given before
-pub copies_new : (t : Tables) (now : ℕ) (rows : List NodeRow) (replaced : Option ℕ) → AreSound t
-    → KnownCopies t now rows replaced → All (λ (copy : NodeRow). t.meta.next_node ≤ copy.id) rows
-copies_new t now rows replaced sound known k d within =
-    (copies_numbered t now known.transfer known.name rows (mirrored t now rows replaced sound known) k d within).0
+pub copies_new : (u : Tables) (now : ℕ) (copies : List NodeRow) → Joins u now copies → All (λ (copy : NodeRow). u.meta.next_node ≤ copy.id) copies
+copies_new u now copies joins k d within = (copies_numbered u now joins.transfer joins.name copies joins.mirrors k d within).0
 
-copied_owners : (t : Tables) (now : ℕ) (rows : List NodeRow) (replaced : Option ℕ) → AreSound t
-    → KnownCopies t now rows replaced → KeepsOwners t (joined t rows replaced)
-copied_owners t now rows replaced sound known node row given there =
-    let same = old_joined t now known.transfer known.name rows (mirrored t now rows replaced sound known)
-    (cleared t.nodes replaced) node given in
-    cleared_owners t replaced node row given (sym same ∙ there)
+-- no number is given again, and who owns what was there owned it before
+abbrev Owned : Tables → Tables → Type 0
+Owned t u = (t.meta.next_node ≤ u.meta.next_node) × KeepsOwners t u
 
--- ---- the trash
+relinked_owners : (t u : Tables) (node : ℕ) (change : NodeRow → NodeRow) → KeepsId change → ((row : NodeRow) → (change row).owner ≡ row.owner)
+    → KeepsOwners t u → KeepsOwners t (record u { nodes = with_node u.nodes node change })
+relinked_owners t u node change id owner keeps =
+    let made = record u { nodes = with_node u.nodes node change } in also_owners t u made keeps (with_owners u made node change id owner refl)
 
--- what is put in the trash or comes back is its owner's
-deed_owners : (t : Tables) (did : Deed) → KeepsOwners t (deed_done t did)
-deed_owners t deed.Nothing = all_owners t
-deed_owners t (deed.Discard item) =
-    λ node row given. with_owners t (discarded t item) item.node trashed (λ row. refl) (λ row. refl) refl node row
-deed_owners t (deed.Restore top folder name) =
-    λ node row given. with_owners t (restored t top folder name) top (relinked folder name) (λ row. refl) (λ row. refl) refl node row
-deed_owners t (deed.Requote row) = all_owners t
-
-purged_owners : (t u : Tables) (top : ℕ) → KeepsOwners t u → KeepsOwners t (purged u top)
-purged_owners t u top keeps =
-    also_owners t u (purged u top) keeps (λ node row there. (row, (kept_cleared u.nodes (Some top) node row there).1, refl))
+-- what is moved, put in the trash or comes back stays its owner's, and so does what is left where something goes
+deed_owners : (t u : Tables) (now : ℕ) (one : Deed) → Fit u now one → Owned t u → Owned t (deed_done u one)
+deed_owners t u now (deed.Discard item) fit (more, keeps) = (more, relinked_owners t u item.node trashed (λ row. refl) (λ row. refl) keeps)
+deed_owners t u now (deed.Purge node) fit (more, keeps) =
+    (more, also_owners t u (purged u node) keeps (λ other row there. (row, (kept_left u.nodes node other row there).1, refl)))
+deed_owners t u now (deed.Restore node folder name) fit (more, keeps) =
+    (more, relinked_owners t u node (relinked folder name) (λ row. refl) (λ row. refl) keeps)
+deed_owners t u now (deed.Relink node folder name) fit (more, keeps) =
+    (more, relinked_owners t u node (relinked folder name) (λ row. refl) (λ row. refl) keeps)
+deed_owners t u now (deed.Join copies) joins (more, keeps) =
+    let old = old_joined u now joins.transfer joins.name copies joins.mirrors u.nodes in
+    (omega (arith, more), λ node row given there. keeps node row given (sym (old node (omega (arith, more, given))) ∙ there))
+deed_owners t u now (deed.Requote row) fit has = has
 
 -- ---- every act
 
-altered_owners : (t : Tables) (now : ℕ) (act : Allowed) → AreSound t → Known t now act → KeepsOwners t (altered t now act)
-altered_owners t now (allowed.Change changes blob report) sound known =
+altered_owners : (t : Tables) (now : ℕ) (act : Allowed) → AreSound t → t.meta.last ≤ now → Known t now act → KeepsOwners t (altered t now act)
+altered_owners t now (allowed.Change changes blob report) sound later known =
     changes_have (KeepsOwners t) t now changes blob report sound.rising known (λ u row keeps it. new_owners t u row keeps it.fresh)
     (λ u row keeps it. filled_owners t u row keeps) (λ u row keeps it. keeps) (λ u row keeps it. keeps)
     (λ u change keeps it. also_owners t u (made u change) keeps
     (λ node row there. (row, ap (λ (rows : List NodeRow). node_row rows node) (sym (people_nodes u change it)) ∙ there, refl)))
     (λ u row root keeps it. new_owners t u root keeps it.2) (all_owners t)
-altered_owners t now (allowed.Trash did gone report) sound known =
-    purged_keeps (KeepsOwners t) (λ u top keeps. purged_owners t u top keeps) (deed_done t did) gone (deed_owners t did)
-altered_owners t now (allowed.Move transfer name) sound known =
-    then_owners t (transferred t transfer name) transfer.replaced
-    (λ node row given.
-    with_owners (clearing t transfer.replaced) (transferred t transfer name) transfer.node (relinked transfer.folder name) (λ row. refl) (λ row. refl) refl
-    node row)
-altered_owners t now (allowed.Copy rows replaced) sound known = copied_owners t now rows replaced sound known
-altered_owners t now (allowed.Cross rows replaced node) sound known =
-    also_owners t (joined t rows replaced) (removed (joined t rows replaced) node) (copied_owners t now rows replaced sound known.copies)
-    (λ other row there. (row, (kept_cleared (joined t rows replaced).nodes (Some node) other row there).1, refl))
-altered_owners t now act sound known = all_owners t
+altered_owners t now (allowed.Deeds deeds report) sound later known =
+    (deeds_known_have (Owned t) t now deeds sound later known (λ u one fine at fit. deed_owners t u now one fit) (le_refl _, all_owners t)).1
+altered_owners t now act sound later known = all_owners t
 
-pub owners_kept : (t : Tables) (now : ℕ) (act : Allowed) → AreSound t → Known t now act → KeepsOwners t (changed t now act)
-owners_kept t now act sound known =
-    stamped_has (KeepsOwners t) t (altered t now act) now (told t act) (all_owners t) (altered_owners t now act sound known)
+pub owners_kept : (t : Tables) (now : ℕ) (act : Allowed) → AreSound t → t.meta.last ≤ now → Known t now act → KeepsOwners t (changed t now act)
+owners_kept t now act sound later known =
+    stamped_has (KeepsOwners t) t (altered t now act) now (told t act) (all_owners t) (altered_owners t now act sound later known)

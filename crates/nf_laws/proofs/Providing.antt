@@ -26,7 +26,7 @@ use Rattle.nf_words.proofs.Ensured.{each_new, each_of}
 use Rattle.nf_words.proofs.Fits.{newest}
 use Rattle.nf_words.proofs.Passing.{Passes}
 use Rattle.nf_words.proofs.Provided.{none_of}
-use Rattle.nf_words.specs.Prelude.{access_of, altered, AreSound, asked_by, asker_of, Call, call_of, changed, deed_done, given, gone_of, is_about_people, is_caller, is_joined, is_member, is_taken, joined_by, IsInBounds, IsSound, items_of, left_by, may_ask, MayWant, membership, mounts_joined, new_root, new_user, nothing_done, not_you_rule, people_changed, people_done, places_of, put_mounts, raised, requoted, row_named, State, told, users_of}
+use Rattle.nf_words.specs.Prelude.{access_of, altered, AreSound, asked_by, asker_of, Call, call_of, changed, deed_done, done, given, gone_of, is_about_people, is_caller, is_joined, is_member, is_taken, joined_by, IsInBounds, IsSound, items_of, left_by, may_ask, MayWant, membership, mounts_joined, new_root, new_user, nothing_done, not_you_rule, people_changed, people_done, places_of, purges, put_mounts, raised, requoted, row_named, State, told, users_of}
 use Rattle.nf_words.specs.declared.answer.Allowed.TheVariants as allowed
 use Rattle.nf_words.specs.declared.answer.Breach.{Breach}
 use Rattle.nf_words.specs.declared.answer.Breach.TheVariants as rule
@@ -197,13 +197,13 @@ module _ (s : State) (e : Entry) (words : Words) (request : Request) (begins : e
   quota_provided user quota want = here (row_named all user) refl
     where
       another : (row : UserRow) → row_named all user ≡ Some row → (b : Bool)
-          → Provided s e (changed all e.moment (if b then nothing_done else allowed.Trash (deed.Requote (record row { quota = quota }))
-          (gone_of all e.moment quota (items_of all row.id)) report.Plain))
+          → Provided s e (changed all e.moment (if b then nothing_done
+          else done (deed.Requote (record row { quota = quota }) ∷ purges (gone_of all e.moment quota (items_of all row.id))) report.Plain))
       another row named true = same_provided
       another row named false =
           let did = deed.Requote (record row { quota = quota }) in
           let gone = gone_of all e.moment quota (items_of all row.id) in
-          let act = allowed.Trash did gone report.Plain in
+          let act = done (did ∷ purges gone) report.Plain in
           let made = deed_done all did in
           stamped_has (Provided s e) all (altered all e.moment act) e.moment (told all act) same_provided
           (record {

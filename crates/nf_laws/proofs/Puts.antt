@@ -13,16 +13,18 @@ use Rattle.std.proofs.lemmas.Option.{none-some, option_and_then_some, same_Some}
 use Rattle.nf_base.specs.declared.changes.Change.{Change}
 use Rattle.nf_base.specs.declared.changes.Change.TheVariants.{Drop, Put}
 use Rattle.nf_base.specs.declared.changes.RowKey.TheVariants as keys
+use Rattle.nf_base.specs.declared.rows.ItemRow.{ItemRow}
 use Rattle.nf_base.specs.declared.rows.NodeRow.{NodeRow}
 use Rattle.nf_base.specs.declared.rows.Row.TheVariants.{Node, Share}
 use Rattle.nf_base.specs.declared.rows.ShareRow.{ShareRow}
 use Rattle.nf_defs.proofs.Climbs.{under_climb, walk_among}
 use Rattle.nf_defs.proofs.Puts.{below_one, below_rest, compared, put_last, put_rising, tail_rising}
-use Rattle.nf_defs.specs.Prelude.{by_order, climb, dropped, folder_of, is_under, IsRising, key_cmp, node_key, node_row, parent_of, put, put_all, share_key, Tables, walk_of, with_node, without_under}
+use Rattle.nf_defs.specs.Prelude.{by_order, climb, dropped, folder_of, is_under, IsRising, key_cmp, item_row, node_key, node_row, parent_of, put, put_all, share_key, Tables, walk_of, with_node, without_under}
 use Rattle.nf_laws.proofs.Climbs.{some_there, those}
-use Rattle.nf_laws.proofs.Others.{ended_rising}
+use Rattle.nf_laws.proofs.Others.{item_none}
 use Rattle.nf_laws.proofs.Rows.{found_is}
-use Rattle.nf_words.specs.Prelude.{AreSound, cleared, closed_under, dropped_under, ended_for, ended_row, ended_under, gone_for, gone_under, is_closing, removed}
+use Rattle.nf_words.specs.Prelude.{closed_under, dropped_under, ended_row, ended_under, is_closing, purged, told_deed, told_item}
+use Rattle.nf_words.specs.declared.answer.Deed.TheVariants as deed
 use Rattle.nf_words.proofs.Found.{put_is_found, put_leaves}
 
 -- ---- rows that are put
@@ -189,24 +191,24 @@ closes t nodes top done (share ∷ shares) rest rising =
 
 -- ---- what goes
 
--- where a node is gone with all under it, its shares are ended and the others are left
-pub gone_one : (t : Tables) (top : ℕ) (rest : List Change) → AllPairs (λ (a b : NodeRow). a.id < b.id) t.nodes → IsRising share_key t.shares
-    → put_all t (gone_under t.nodes t.shares top ++ rest) ≡ put_all (removed t top) rest
-gone_one t top rest rising shares_rise =
-    ap (put_all t) (append_assoc (dropped_under t.nodes top) (closed_under t.nodes t.shares top) rest)
-    ∙ drops_under t top (closed_under t.nodes t.shares top ++ rest) rising
-    ∙ closes (record t { nodes = without_under t.nodes top }) t.nodes top [] t.shares rest shares_rise
+-- where a node goes for good with all under it, its shares are ended, its item is gone, if there is one, and the others are left
+pub goes_put : (t : Tables) (top : ℕ) (rest : List Change) → AllPairs (λ (a b : NodeRow). a.id < b.id) t.nodes → IsRising share_key t.shares
+    → put_all t (told_deed t (deed.Purge top) ++ rest) ≡ put_all (purged t top) rest
+goes_put t top rest rising shares_rise =
+    let dropped = dropped_under t.nodes top in
+    let closed = closed_under t.nodes t.shares top in
+    ap (put_all t) (append_assoc (dropped ++ closed) (told_item t top) rest ∙ append_assoc dropped closed (told_item t top ++ rest))
+    ∙ drops_under t top (closed ++ (told_item t top ++ rest)) rising
+    ∙ closes (record t { nodes = without_under t.nodes top }) t.nodes top [] t.shares (told_item t top ++ rest) shares_rise
+    ∙ here (item_row t.items top) refl
+  where
+    gone : List ItemRow → Tables
+    gone items = record t { nodes = without_under t.nodes top; shares = ended_under t.nodes top t.shares; items = items }
 
-pub gone_all : (t : Tables) (replaced : Option ℕ) (rest : List Change) → AreSound t
-    → put_all t (gone_for t.nodes t.shares replaced ++ rest)
-    ≡ put_all (record t { nodes = cleared t.nodes replaced; shares = ended_for t.nodes replaced t.shares }) rest
-gone_all t None rest sound = refl
-gone_all t (Some top) rest sound = gone_one t top rest sound.rising sound.others.shares_rise
-
--- shares rise as before where some of them are ended
-pub ended_rise : (t : Tables) (replaced : Option ℕ) → AreSound t → IsRising share_key (ended_for t.nodes replaced t.shares)
-ended_rise t None sound = sound.others.shares_rise
-ended_rise t (Some top) sound = ended_rising t (λ node. is_under t.nodes node top) sound.others.shares_rise
+    here : (o : Option ItemRow) → item_row t.items top ≡ o
+        → put_all (gone t.items) ((if is_some o then Drop (keys.Item top) ∷ [] else []) ++ rest) ≡ put_all (purged t top) rest
+    here None e = ap (λ (items : List ItemRow). put_all (gone items) rest) (sym (item_none top t.items e))
+    here (Some item) e = refl
 
 -- ---- rows that differ
 
@@ -224,8 +226,9 @@ pub another : (old made : List NodeRow) (node : ℕ) (row new : NodeRow) → nod
 another old made node row new was is other = λ same.
     other (same_Some new row (sym is ∙ ap (λ (all : List NodeRow). node_row all node) same ∙ was))
 
--- ---- the nodes under one that is there are there
+-- ---- the nodes under one
 
+-- where it is there they are there
 pub under_there : (old : List NodeRow) (node top : ℕ) → is_some (node_row old top) ≡ true → is_under old node top ≡ true
     → is_some (node_row old node) ≡ true
 under_there old node top there is = let c = under_climb old node top is in here c.0 c.2
@@ -236,10 +239,9 @@ under_there old node top there is = let c = under_climb old node top is in here 
         option_and_then_some (climb old j) (parent_of old node) top is (λ parent above rest.
         option_and_then_some (λ row. folder_of row.place) (node_row old node) parent above (λ row found place. ap is_some found))
 
-pub walk_there : (t : Tables) (top : ℕ) → AreSound t → is_some (node_row t.nodes top) ≡ true
-    → All (λ (node : ℕ). is_some (node_row t.nodes node) ≡ true) (walk_of t.nodes top)
-walk_there t top sound there k d within =
-    let node = get_or (walk_of t.nodes top) k d in
-    under_there t.nodes node top there
-    (sym (walk_among t.nodes top node sound.rising)
-    ∙ list_any_at (λ other. other == node) (walk_of t.nodes top) k d within (eq-eqb node node refl))
+-- and what is in its walk is under it
+pub walk_under : (old : List NodeRow) (top : ℕ) → AllPairs (λ (a b : NodeRow). a.id < b.id) old
+    → All (λ (node : ℕ). is_under old node top ≡ true) (walk_of old top)
+walk_under old top rising k d within =
+    let node = get_or (walk_of old top) k d in
+    sym (walk_among old top node rising) ∙ list_any_at (λ other. other == node) (walk_of old top) k d within (eq-eqb node node refl)

@@ -1,9 +1,10 @@
 -- No act takes a charge beyond its quota.
 use Rattle.std.proofs.Common.{ℕ, ◌+◌, ◌==◌, ◌&&◌, ◌≡◌, ◌≤◌, ◌⊎◌, Bool, true, false, List, [], ◌∷◌, ◌++◌, Option, None, Some, Result, Ok, if◌then◌else◌, inl, inr, refl, ap, subst, ◌∙◌, arith, le_refl}
 use Rattle.std.specs.Prelude.{sum_by}
-use Rattle.std.specs.Option.{IfSome, option_map_or}
+use Rattle.std.specs.List.{flat_map}
+use Rattle.std.specs.Option.{IfSome}
 use Rattle.std.proofs.lemmas.Bool.{cond_both, eqb-true}
-use Rattle.std.proofs.lemmas.List.Sums.{sum_by-append, sum_by_push}
+use Rattle.std.proofs.lemmas.List.Sums.{sum_by_push}
 use Rattle.nf_base.specs.Content.{content_eq}
 use Rattle.nf_base.specs.declared.changes.Change.{Change}
 use Rattle.nf_base.specs.declared.changes.Change.TheVariants.{Put}
@@ -11,25 +12,24 @@ use Rattle.nf_base.specs.declared.content.Piece.{Piece}
 use Rattle.nf_base.specs.declared.rows.MetaRow.{MetaRow}
 use Rattle.nf_base.specs.declared.rows.NodeRow.{NodeRow}
 use Rattle.nf_base.specs.declared.rows.Row.TheVariants as rows
-use Rattle.nf_defs.specs.Prelude.{Access, filled, node_row, owner_of, relinked, Tables}
+use Rattle.nf_defs.specs.Prelude.{Access, filled, node_row, owner_of, Tables}
 use Rattle.nf_laws.proofs.Affording.{Affords, call_affords}
 use Rattle.nf_laws.proofs.Charging.{alike, charge_beside}
 use Rattle.nf_laws.proofs.Entries.{entry_has}
 use Rattle.nf_laws.proofs.Lists.{nodes_have}
-use Rattle.nf_laws.proofs.Recharged.{fits, KeepsCharge, sums_with, trash_keeps}
+use Rattle.nf_laws.proofs.Recharged.{fits, KeepsCharge, lower_keeps, purges_lower}
 use Rattle.nf_laws.proofs.Rows.{stamp, stamped_has}
 use Rattle.nf_laws.proofs.Stays.{sound_after}
 use Rattle.nf_laws.proofs.Stored.{Comes, end_other, stored_comes}
-use Rattle.nf_laws.proofs.Trashing.{act_kept, all_kept, IsOther, KeepsTrash, trash_same}
-use Rattle.nf_laws.proofs.Weighing.{cleared_fewer, cleared_owned, copies_owned, row_owned, without_fewer}
+use Rattle.nf_laws.proofs.Trashing.{act_kept, all_kept, KeepsTrash, trash_same}
+use Rattle.nf_laws.proofs.Weighing.{row_owned}
 use Rattle.nf_laws.specs.Charges.{bytes_at, bytes_owned, bytes_trashed, owned_bytes, QuotasAreKept}
 use Rattle.nf_words.proofs.Bodies.{IsOfBody}
 use Rattle.nf_words.proofs.Ends.{goal_held, known_change}
 use Rattle.nf_words.proofs.Fits.{KnownChange}
-use Rattle.nf_words.proofs.Known.{Known, KnownCopies}
+use Rattle.nf_words.proofs.Known.{Known}
 use Rattle.nf_words.proofs.Passing.{end_passes, not_refused}
-use Rattle.nf_words.specs.Listing.{size_of}
-use Rattle.nf_words.specs.Prelude.{access_of, after, altered, AreSound, blob_for, call_of, charge_of, cleared, content_in, copy_excess, decision_of, end_refusal, ends_at, ends_goal, excess, excess_at, goal_at, IsHeld, IsSound, IsStorable, joined, MayAsk, node_of_key, place_of, quota_of, refilled, State, stored_at, told}
+use Rattle.nf_words.specs.Prelude.{access_of, after, altered, AreSound, blob_for, call_of, charge_of, content_in, decision_of, end_refusal, ends_at, ends_goal, excess, excess_at, goal_at, gone_from, IsHeld, IsSound, IsStorable, MayAsk, node_of_key, owners_of, place_of, purges, quota_of, refilled, State, stored_at, swept, told}
 use Rattle.nf_words.specs.declared.answer.Allowed.{Allowed}
 use Rattle.nf_words.specs.declared.answer.Allowed.TheVariants as allowed
 use Rattle.nf_words.specs.declared.answer.Denial.{Denial}
@@ -40,10 +40,9 @@ use Rattle.nf_words.specs.declared.answer.LockKey.TheVariants.{Node, Slot}
 use Rattle.nf_words.specs.declared.answer.Report.{Report}
 use Rattle.nf_words.specs.declared.answer.Report.TheVariants.{Done}
 use Rattle.nf_words.specs.declared.history.Event.{Event}
-use Rattle.nf_words.specs.declared.history.Event.TheVariants.{Begin, End}
+use Rattle.nf_words.specs.declared.history.Event.TheVariants.{Begin, End, Sweep}
 use Rattle.nf_words.specs.declared.history.Outcome.{Outcome}
 use Rattle.nf_words.specs.declared.history.Outcome.TheVariants.{Body}
-use Rattle.nf_words.specs.declared.request.Transfer.{Transfer}
 
 -- what is the user's is no more than before, or within the quota beside what was in the trash
 abbrev Keeps : Tables → ℕ → Tables → Type 0
@@ -63,26 +62,6 @@ owner_keeps t made user owner old new quota none comes = here (owner == user) re
           | inl fewer ↦ inl (omega (arith, sum, fewer))
           | inr within ↦ inr (omega (arith, sum, within, quota, charge_beside t user))
         ]
-
--- ---- copies
-
--- of copies in the place of what has to go
-copies_keep : (t : Tables) (now user : ℕ) (rows : List NodeRow) (replaced : Option ℕ) → AreSound t → (known : KnownCopies t now rows replaced)
-    → copy_excess t known.transfer ≡ None → Keeps t user (joined t rows replaced)
-copies_keep t now user rows replaced sound known none =
-    owner_keeps t (joined t rows replaced) user (owner_of t.nodes transfer.folder) (option_map_or (size_of t.nodes) transfer.replaced 0)
-    (size_of t.nodes transfer.node) refl none
-    (λ user.
-    omega (
-      arith,
-      ap (λ (o : Option ℕ). bytes_owned (cleared t.nodes o ++ rows) user) known.replaced_is,
-      sum_by-append (owned_bytes user) (cleared t.nodes transfer.replaced) rows,
-      cleared_owned t transfer known.name user sound known.known,
-      copies_owned t now user rows replaced sound known,
-    ))
-  where
-    transfer : Transfer
-    transfer = known.transfer
 
 -- ---- an End
 
@@ -157,46 +136,26 @@ rows_keep t now user changes blob report sound known none =
     pushed : (all : List NodeRow) (row : NodeRow) → Fewer all → row.content ≡ [] → Fewer (all ++ row ∷ [])
     pushed all row fewer empty = omega (arith, fewer, sum_by_push (owned_bytes user) all row, empty_owned user row empty)
 
--- ---- a Begin
-
-begin_keeps : (t : Tables) (now user : ℕ) (act : Allowed) → AreSound t → Known t now act → Affords t now act → IsOther act
-    → Keeps t user (altered t now act)
-begin_keeps t now user (allowed.Change changes blob report) sound known affords other = rows_keep t now user changes blob report sound known affords
-begin_keeps t now user (allowed.Trash did gone report) sound known affords other = absurd other
-begin_keeps t now user (allowed.Move transfer name) sound known affords other =
-    inl (omega (
-      arith,
-      sums_with (owned_bytes user) (cleared t.nodes transfer.replaced) transfer.node (relinked transfer.folder name) (λ row. refl),
-      cleared_fewer t.nodes transfer.replaced user,
-    ))
-begin_keeps t now user (allowed.Copy copies replaced) sound known affords other = copies_keep t now user copies replaced sound affords.known affords.within
-begin_keeps t now user (allowed.Cross copies replaced node) sound known affords other =
-    let fewer = without_fewer (joined t copies replaced).nodes node user in
-    elim (copies_keep t now user copies replaced sound affords.known affords.within) [
-      | inl no_more ↦ inl (omega (arith, fewer, no_more))
-      | inr within ↦ inr (omega (arith, fewer, within))
-    ]
-begin_keeps t now user allowed.Close sound known affords other = inl (le_refl _)
-begin_keeps t now user act sound known affords other = inl (le_refl _)
-
 -- ---- the law
 
 -- what is the user's is kept with what is in the trash, or the charge is
 abbrev AllKept : Tables → ℕ → Tables → Type 0
 AllKept t user made = (Keeps t user made × KeepsTrash t made.nodes) ⊎ KeepsCharge t user made
 
-asked_keeps : (t : Tables) (now user : ℕ) (act : Allowed) → AreSound t → t.meta.last ≤ now → Known t now act → Affords t now act
+asked_keeps : (t : Tables) (now user : ℕ) (act : Allowed) → AreSound t → t.meta.last ≤ now → Known t now act → Affords t act
     → AllKept t user (stamp (altered t now act) now)
 unfolding charge_of
-asked_keeps t now user (allowed.Trash did gone report) sound later known affords = inr (trash_keeps t now user did gone sound known.known affords)
-asked_keeps t now user act sound later known affords =
-    inl (begin_keeps t now user act sound known affords tt, act_kept t now act sound later known tt)
+asked_keeps t now user (allowed.Change changes blob report) sound later known affords =
+    inl (rows_keep t now user changes blob report sound known affords, act_kept t now (allowed.Change changes blob report) sound later known tt)
+asked_keeps t now user (allowed.Deeds deeds report) sound later known affords = inr (affords user)
+asked_keeps t now user act sound later known affords = inl (inl (le_refl _), all_kept t sound)
 
 act_keeps : (s : State) (seat now user : ℕ) (event : Event) (act : Allowed) → IsSound s → s.tables.meta.last ≤ now → MayAsk s seat event
     → decision_of s seat now event ≡ Ok act → AllKept s.tables user (stamp (altered s.tables now act) now)
+unfolding charge_of
 act_keeps s seat now user (Begin words request) act sound later asked is =
     asked_keeps s.tables now user act sound.rows later (known_change s seat now (Begin words request) act sound asked is)
-    (call_affords (call_of s seat now words request) act sound asked.1 is)
+    (call_affords (call_of s seat now words request) act sound later asked.1 is)
 act_keeps s seat now user (End outcome) act sound later asked is =
     let known = known_change s seat now (End outcome) act sound asked is in
     let held = goal_held s seat sound in
@@ -204,6 +163,11 @@ act_keeps s seat now user (End outcome) act sound later asked is =
       end_keeps (access_of s) s.tables now user outcome (goal_at s seat) act sound.rows held is,
       act_kept s.tables now act sound.rows later known (end_other (access_of s) s.tables now outcome (goal_at s seat) act is),
     )
+act_keeps s seat now user Sweep act sound later asked is =
+    let t = s.tables in
+    let gone = flat_map (gone_from t now) (owners_of t.items) in
+    let same : swept t now ≡ act = cc in
+    subst (λ (a : Allowed). AllKept t user (stamp (altered t now a) now)) same (inr (lower_keeps t user (purges gone) (purges_lower gone)))
 
 pub quotas_kept : QuotasAreKept
 quotas_kept n s e user sound may =

@@ -1,8 +1,8 @@
 -- What who asks is served is what may be read, and what may be read is served: the own, and what a mount leads to.
-use Rattle.std.proofs.Common.{ℕ, ◌==◌, ◌≡◌, ◌≢◌, false, filter, not, subst, true, Bool, List, [], ◌∷◌, Option, None, Some, Result, Ok, refl, sym, ap, ◌∙◌}
+use Rattle.std.proofs.Common.{ℕ, ◌==◌, ◌≡◌, ◌≢◌, false, subst, true, Bool, List, [], ◌∷◌, Option, None, Some, Result, Ok, refl, sym, ap, ◌∙◌}
 use Rattle.std.specs.Prelude.{if◌then◌else◌}
 use Rattle.std.specs.List.{list_any}
-use Rattle.std.specs.Option.{option_and_then, option_map_or}
+use Rattle.std.specs.Option.{option_map_or}
 use Rattle.std.proofs.lemmas.Bool.{both_ways, cond_both}
 use Rattle.std.proofs.lemmas.List.Elements.{All-head}
 use Rattle.nf_access.proofs.Granted.{reach_is_a_chain_lem}
@@ -23,9 +23,9 @@ use Rattle.nf_laws.specs.Reads.{IsFreeToRead}
 use Rattle.nf_words.proofs.Begins.{places_at, wanted_passes, WantedPasses}
 use Rattle.nf_words.proofs.Passing.{Passes, call_passes, if_none}
 use Rattle.nf_words.proofs.Starts.{has_asker}
-use Rattle.nf_words.proofs.Steps.{ok_reply, put_grants_nothing, reports_nothing}
+use Rattle.nf_words.proofs.Steps.{ok_reply, reports_nothing}
 use Rattle.nf_words.proofs.Ways.{bounded, way_there}
-use Rattle.nf_words.specs.Prelude.{access_of, allowed_of, answered_by, AreSound, behind, broken_by, by_of, Call, call_decision, call_of, copied, copies_to, crosses, deleted, discard, found, given, gone_of, item_dropped, item_for, item_restored, items_of, last_name, listing_of, made_folder, may_by, MayWant, mount_left, mount_of, mount_renamed, moved, Need, node_at, node_found, nothing_done, offered, own_item, people_done, perms_after, quota_of, reply_by, reported, requoted, root_of, row_named, seeker_of, served, share_ended, share_made, share_set, share_shown, share_steered, until_after, share_told, shared, stored, transfer_of, trash_done, unreached, way_by, way_of}
+use Rattle.nf_words.specs.Prelude.{access_of, allowed_of, answered_by, AreSound, behind, broken_by, by_of, Call, call_decision, call_of, copied, deleted, done, found, given, gone_of, item_dropped, item_restored, items_of, last_name, listing_of, made_folder, may_by, MayWant, mount_left, mount_of, mount_renamed, moved, Need, node_at, node_found, nothing_done, offered, own_item, people_done, perms_after, purges, reported, requoted, root_of, row_named, seeker_of, served, share_ended, share_made, share_set, share_shown, share_steered, until_after, share_told, shared, stored, transfer_of, trash_done, unreached, way_by, way_of}
 use Rattle.nf_words.specs.declared.answer.Allowed.{Allowed}
 use Rattle.nf_words.specs.declared.answer.Allowed.TheVariants as allowed
 use Rattle.nf_words.specs.declared.answer.Report.TheVariants as report
@@ -50,11 +50,7 @@ use Rattle.nf_words.specs.declared.request.Wanted.TheVariants.{Get, Put, Mkcol, 
 
 -- ---- what is shown
 
--- what is put at a place is answered no listing
-lists_none : (replaced : Option ℕ) (listing : List ListingLine) → reply_by replaced ≢ Listing listing
-lists_none None listing = λ is. cc
-lists_none (Some node) listing = λ is. cc
-
+-- no report is a listing
 report_lists_none : (report : Report) (listing : List ListingLine) → reported report ≢ Listing listing
 report_lists_none report.Made listing = λ is. cc
 report_lists_none report.Done listing = λ is. cc
@@ -68,10 +64,7 @@ pub got : (decision : Result Allowed Denial) (content : List Piece) → answered
     → (node : ℕ) × (decision ≡ Ok (allowed.Get node content))
 got (Ok (allowed.Get node other)) content is = (node, cc)
 got (Ok (allowed.Change changes blob report)) content is = absurd (reports_nothing report (Serve content) (ok_reply _ _ is))
-got (Ok (allowed.Trash did gone report)) content is = absurd (reports_nothing report (Serve content) (ok_reply _ _ is))
-got (Ok (allowed.Move transfer name)) content is = absurd (put_grants_nothing transfer.replaced (Serve content) (ok_reply _ _ is))
-got (Ok (allowed.Copy rows replaced)) content is = absurd (put_grants_nothing replaced (Serve content) (ok_reply _ _ is))
-got (Ok (allowed.Cross rows replaced node)) content is = absurd (put_grants_nothing replaced (Serve content) (ok_reply _ _ is))
+got (Ok (allowed.Deeds deeds report)) content is = absurd (reports_nothing report (Serve content) (ok_reply _ _ is))
 got decision content is = absurd (cc)
 
 -- only a GET is answered a listing
@@ -79,10 +72,7 @@ pub got_listing : (decision : Result Allowed Denial) (listing : List ListingLine
     → decision ≡ Ok (allowed.List listing)
 got_listing (Ok (allowed.List other)) listing is = cc
 got_listing (Ok (allowed.Change changes blob report)) listing is = absurd (report_lists_none report listing (ok_reply _ _ is))
-got_listing (Ok (allowed.Trash did gone report)) listing is = absurd (report_lists_none report listing (ok_reply _ _ is))
-got_listing (Ok (allowed.Move transfer name)) listing is = absurd (lists_none transfer.replaced listing (ok_reply _ _ is))
-got_listing (Ok (allowed.Copy rows replaced)) listing is = absurd (lists_none replaced listing (ok_reply _ _ is))
-got_listing (Ok (allowed.Cross rows replaced node)) listing is = absurd (lists_none replaced listing (ok_reply _ _ is))
+got_listing (Ok (allowed.Deeds deeds report)) listing is = absurd (report_lists_none report listing (ok_reply _ _ is))
 got_listing decision listing is = absurd (cc)
 
 -- it shows a file or a folder
@@ -110,9 +100,7 @@ either_hides false one other first second = second
 
 moved_hides : (t : Tables) (now : ℕ) (name : List ℕ) (o : Option Transfer) → is_shown (moved t now name o) ≡ false
 moved_hides t now name None = refl
-moved_hides t now name (Some transfer) =
-    either_hides (crosses t.nodes transfer) (allowed.Cross (copies_to t now transfer name) transfer.replaced transfer.node)
-    (allowed.Move transfer name) refl refl
+moved_hides t now name (Some transfer) = refl
 
 copied_hides : (t : Tables) (now : ℕ) (name : List ℕ) (o : Option Transfer) → is_shown (copied t now name o) ≡ false
 copied_hides t now name None = refl
@@ -122,15 +110,6 @@ copied_hides t now name (Some transfer) = refl
 found_hides : {X : Type 0} (act : X → Allowed) (o : Option X) → ((x : X) → is_shown (act x) ≡ false) → is_shown (option_map_or act o nothing_done) ≡ false
 found_hides act None all = refl
 found_hides act (Some x) all = all x
-
--- a DELETE puts what is there in the trash, or it goes for good
-deleted_hides : (t : Tables) (now : ℕ) (o : Option ℕ) → is_shown (deleted t now o) ≡ false
-deleted_hides t now o =
-    found_hides (discard t now) (option_and_then (node_row t.nodes) o) (λ row.
-    let gone = gone_of t now (quota_of t row.owner) (item_for now row ∷ items_of t row.owner) in
-    either_hides (list_any (λ node. node == row.id) gone)
-    (allowed.Trash deed.Nothing (row.id ∷ filter (λ node. not (node == row.id)) gone) report.Done)
-    (allowed.Trash (deed.Discard (item_for now row)) gone report.Done) refl refl)
 
 shared_hides : (call : Call) (places : Places) (asked : ShareAsk) → is_shown (shared (access_of call.state) call places asked) ≡ false
 shared_hides call places (ask.New spot to perms until) =
@@ -146,7 +125,7 @@ people_hides : (t : Tables) (now : ℕ) (asked : PeopleAsk) → is_shown (people
 people_hides t now (people.SetQuota user quota) =
     found_hides (requoted t now quota) (row_named t user) (λ row.
     either_hides (row.quota == quota) nothing_done
-    (allowed.Trash (deed.Requote (record row { quota = quota })) (gone_of t now quota (items_of t row.id)) report.Plain) refl refl)
+    (done (deed.Requote (record row { quota = quota }) ∷ purges (gone_of t now quota (items_of t row.id))) report.Plain) refl refl)
 people_hides t now (people.NewUser name token quota) = refl
 people_hides t now (people.NewGroup name) = refl
 people_hides t now (people.AddMember user group) = refl
@@ -184,7 +163,7 @@ asked call act is shown = here call.request.wanted refl is
         let way = way_of call spot in
         let node = node_at (places_at call (Delete spot)).source in
         absurd (none (if way.itself then mount_left call way else deleted t call.now node)
-        (either_hides way.itself (mount_left call way) (deleted t call.now node) refl (deleted_hides t call.now node)) is)
+        (either_hides way.itself (mount_left call way) (deleted t call.now node) refl refl) is)
     here (Move source target overwrite) e is =
         let way = way_of call source in
         let name = last_name target in

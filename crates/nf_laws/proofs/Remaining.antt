@@ -1,5 +1,5 @@
 -- What is present and doesn't go stays present, and the shares that end are those of nodes that aren't present any more.
-use Rattle.std.proofs.Common.{ℕ, ◌==◌, ◌||◌, ◌≡◌, ◌≤◌, Bool, true, false, not, List, [], ◌∷◌, Option, None, Some, if◌then◌else◌, refl, sym, ap, ◌∙◌, inl, inr, arith}
+use Rattle.std.proofs.Common.{ℕ, ◌==◌, ◌||◌, ◌≡◌, Bool, true, false, not, List, [], ◌∷◌, None, refl, sym, ap, ◌∙◌, if◌then◌else◌, inl, inr, arith}
 use Rattle.std.specs.Prelude.{is_some}
 use Rattle.std.specs.List.{All}
 use Rattle.std.proofs.lemmas.Bool.{and_cases, and_parts, both_ways, cases_Bool, eqb-true, eq-eqb, false_from_ne_true, not-false, not-true}
@@ -11,22 +11,14 @@ use Rattle.nf_base.specs.declared.rows.NodeRow.{NodeRow}
 use Rattle.nf_base.specs.declared.rows.ShareRow.{ShareRow}
 use Rattle.nf_defs.specs.Prelude.{node_row, Tables}
 use Rattle.nf_defs.specs.Tree.{is_rooted}
-use Rattle.nf_laws.proofs.Climbs.{some_there}
-use Rattle.nf_laws.proofs.Copied.{copied_sound}
 use Rattle.nf_laws.proofs.Following.{is_gone_from, shares_by, shares_gone}
-use Rattle.nf_laws.proofs.Gone.{cleared_leads, kept_cleared, left_leads}
-use Rattle.nf_laws.proofs.Moved.{transferred_leads}
 use Rattle.nf_laws.proofs.Presence.{climbs_there, leads_present, present_there}
 use Rattle.nf_laws.proofs.Present.{kept_leads}
-use Rattle.nf_laws.proofs.Rows.{AreKept, kept_joined, kept_row, stamp}
+use Rattle.nf_laws.proofs.Rows.{AreKept, kept_row}
 use Rattle.nf_laws.proofs.Sources.{was_given}
-use Rattle.nf_laws.proofs.Transferred.{are_copied, moved_rows}
 use Rattle.nf_laws.specs.Access.{shares_without}
 use Rattle.nf_laws.specs.Acts.{IsAdded, IsRefilled}
-use Rattle.nf_laws.specs.Transfers.{is_replaced}
-use Rattle.nf_words.proofs.Known.{KnownCopies, KnownMove}
-use Rattle.nf_words.specs.Prelude.{AreSound, cleared, ended_row, joined, LeadsToRoot, removed, transferred}
-use Rattle.nf_words.specs.declared.request.Transfer.{Transfer}
+use Rattle.nf_words.specs.Prelude.{AreSound, ended_row, LeadsToRoot}
 
 -- ---- the shares
 
@@ -118,31 +110,3 @@ refilled_present t made now node content is other up there = kept_leads t.nodes 
 -- what has to go isn't there
 pub still_there : (after : List NodeRow) (node : ℕ) → node_row after node ≡ None → is_some (node_row after node) ≡ true → ⊥
 still_there after node none there = both_ways (is_some (node_row after node)) (ap is_some none) there
-
-pub moved_present : (t : Tables) (transfer : Transfer) (name : List ℕ) → AreSound t → KnownMove t transfer name
-    → KeepsPresent t.nodes (transferred t transfer name).nodes
-moved_present t transfer name sound move node up there =
-    elim (cases_Bool (is_replaced t.nodes transfer.replaced node)) [
-      | inl goes ↦
-          absurd (still_there (transferred t transfer name).nodes node ((moved_rows t transfer name sound move.known).gone node goes) there)
-      | inr stays ↦ transferred_leads t transfer name node sound move stays up
-    ]
-
-pub copied_present : (t : Tables) (now : ℕ) (copies : List NodeRow) (replaced : Option ℕ) → AreSound t → KnownCopies t now copies replaced
-    → KeepsPresent t.nodes (joined t copies replaced).nodes
-copied_present t now copies replaced sound known node up there =
-    let left = cleared t.nodes replaced in
-    elim (cases_Bool (is_replaced t.nodes replaced node)) [
-      | inl goes ↦
-          absurd (still_there (joined t copies replaced).nodes node ((are_copied t now copies replaced sound known).gone node goes) there)
-      | inr stays ↦
-          kept_leads left (joined t copies replaced).nodes node (kept_joined left copies) (cleared_leads t replaced node sound stays up)
-    ]
-
-pub crossed_keeps : (t : Tables) (now : ℕ) (copies : List NodeRow) (replaced : Option ℕ) (top : ℕ) → AreSound t → t.meta.last ≤ now
-    → KnownCopies t now copies replaced → KeepsPresent t.nodes (removed (joined t copies replaced) top).nodes
-crossed_keeps t now copies replaced top sound later known node up there =
-    let row = some_there (node_row (removed (joined t copies replaced) top).nodes node) there in
-    let left = kept_cleared (joined t copies replaced).nodes (Some top) node row.0 row.1 in
-    left_leads (stamp (joined t copies replaced) now) top node (copied_sound t now copies replaced sound later known) left.0
-    (copied_present t now copies replaced sound known node up (ap is_some left.1))

@@ -3,13 +3,14 @@ use Rattle.std.proofs.Common.{ℕ, zero, suc, ◌==◌, ◌≡◌, ◌≢◌, tr
 use Rattle.std.specs.Prelude.{is_some}
 use Rattle.std.specs.List.{All, Contains}
 use Rattle.std.proofs.lemmas.Bool.{cases_Bool, cond_both, eq-eqb, eqb-true, ne_eqb}
+use Rattle.std.proofs.lemmas.List.Elements.{All-head}
 use Rattle.std.proofs.lemmas.Option.{none-some, option_and_then_some, same_Some}
 use Rattle.nf_base.specs.declared.rows.ItemRow.{ItemRow}
 use Rattle.nf_base.specs.declared.rows.NodeRow.{NodeRow}
 use Rattle.nf_base.specs.declared.rows.Place.TheVariants.{Trash}
 use Rattle.nf_defs.proofs.Climbs.{climb_under}
 use Rattle.nf_defs.specs.Prelude.{dropped, item_key, item_row, node_row, relinked, Tables}
-use Rattle.nf_laws.proofs.Discarding.{AreGoneBeside, goes_beside, goes_told, items_are}
+use Rattle.nf_laws.proofs.Discarding.{AreGoneBeside, deeds_told, goes_beside, items_are}
 use Rattle.nf_laws.proofs.Going.{ArePurged, item_is, items_purged, present_off, purged_rest, shares_purged}
 use Rattle.nf_laws.proofs.Moved.{Fits}
 use Rattle.nf_laws.proofs.OneRow.{row_itself, row_other}
@@ -20,50 +21,46 @@ use Rattle.nf_laws.proofs.Rows.{stamp, stamped_some}
 use Rattle.nf_laws.proofs.Trashed.{item_top, restored_below, restored_fits, restored_sound}
 use Rattle.nf_laws.proofs.Upwards.{climbed}
 use Rattle.nf_laws.proofs.Walked.{AreDistinct}
-use Rattle.nf_laws.specs.Acts.{IsEmptied, IsItemOf, IsRestored}
-use Rattle.nf_words.proofs.Known.{IsItem, KnownRestore}
+use Rattle.nf_laws.specs.Acts.{AreTaken, IsItemOf, IsRestored}
+use Rattle.nf_words.proofs.Known.{IsItem, KnownGoes, KnownRestore}
 use Rattle.nf_words.specs.Others.{IsItemSound}
-use Rattle.nf_words.specs.Prelude.{AreSound, asker_of, Call, changed, home_of, item_if_of, lacks_item, LeadsToRoot, name_back, own_item, purged_all, restored, told}
+use Rattle.nf_words.specs.Prelude.{AreSound, asker_of, Call, changed, deeds_done, home_of, item_if_of, lacks_item, LeadsToRoot, name_back, own_item, purges, restored, told}
 use Rattle.nf_words.specs.declared.answer.Allowed.TheVariants as allowed
 use Rattle.nf_words.specs.declared.answer.Deed.TheVariants as deed
 use Rattle.nf_words.specs.declared.answer.Report.{Report}
 
 -- ---- what of a user's trash goes for good
 
--- those items are gone, and nothing else is another but the moment, if anything goes
-pub emptied_rows : (call : Call) (tops : List ℕ) (report : Report) → AreSound call.state.tables → All (IsItemOf call.state.tables (asker_of call)) tops
-    → AreDistinct tops → IsEmptied call (changed call.state.tables call.now (allowed.Trash deed.Nothing tops report)) tops
-emptied_rows call tops report sound own once = here tops own once
+-- those items are taken
+pub taken_rows : (t : Tables) (now : ℕ) (tops : List ℕ) (report : Report) → AreSound t → KnownGoes t tops
+    → AreTaken t (changed t now (allowed.Deeds (purges tops) report)) tops
+taken_rows t now tops report sound goes = here tops goes
   where
-    t : Tables
-    t = call.state.tables
-
-    -- without them, at whatever moment
-    without : (tops : List ℕ) (moment : ℕ) → All (IsItemOf t (asker_of call)) tops → AreDistinct tops
-        → IsEmptied call (stamp (purged_all t tops) moment) tops
-    without tops moment own once =
-        let items = items_are t (asker_of call) tops own in
-        let h = items_purged t tops sound items once in
+    -- at whatever moment
+    without : (tops : List ℕ) (moment : ℕ) → KnownGoes t tops → AreTaken t (stamp (deeds_done t (purges tops)) moment) tops
+    without tops moment goes =
+        let h = items_purged t tops sound goes.items goes.once in
         record {
-          emptied = record { items = own; gone = h.gone; none = h.none };
+          gone = h.gone;
+          none = h.none;
           others = h.others;
           items = h.items;
           rest = ap (λ (u : Tables). stamp u moment) (purged_rest t tops)
               ∙ (λ i. record t {
                 meta = record t.meta { last = moment };
-                nodes = (purged_all t tops).nodes;
-                shares = shares_purged t tops sound items once i;
-                items = (purged_all t tops).items;
+                nodes = (deeds_done t (purges tops)).nodes;
+                shares = shares_purged t tops sound goes.items goes.once i;
+                items = (deeds_done t (purges tops)).items;
               });
         }
 
-    here : (tops : List ℕ) → All (IsItemOf t (asker_of call)) tops → AreDistinct tops
-        → IsEmptied call (changed t call.now (allowed.Trash deed.Nothing tops report)) tops
-    here [] own once = without [] t.meta.last own once
-    here (top ∷ rest) own once =
-        subst (λ (made : Tables). IsEmptied call made (top ∷ rest))
-        (sym (stamped_some t (purged_all t (top ∷ rest)) call.now (told t (allowed.Trash deed.Nothing (top ∷ rest) report)) (goes_told t top rest)))
-        (without (top ∷ rest) call.now own once)
+    here : (tops : List ℕ) → KnownGoes t tops → AreTaken t (changed t now (allowed.Deeds (purges tops) report)) tops
+    here [] goes = without [] t.meta.last goes
+    here (top ∷ rest) goes =
+        subst (λ (made : Tables). AreTaken t made (top ∷ rest))
+        (sym (stamped_some t (deeds_done t (purges (top ∷ rest))) now (told t (allowed.Deeds (purges (top ∷ rest)) report))
+        (deeds_told t now (deed.Purge top) (purges rest) (inl (All-head (IsItem t) top rest goes.items)))))
+        (without (top ∷ rest) now goes)
 
 -- each item of a user's is among them all
 pub node_among : (user : ℕ) (items : List ItemRow) (item : ItemRow) → Contains items item → item.owner ≡ user
@@ -128,7 +125,7 @@ module _ (t : Tables) (item : ItemRow) (sound : AreSound t) (known : KnownRestor
   -- items that go meanwhile
   module _ (gone : List ℕ) (items : All (IsItem t) gone) (others : All (λ (node : ℕ). item.node ≢ node) gone) (once : AreDistinct gone) where
     abbrev left : Tables
-    left = purged_all back gone
+    left = deeds_done back (purges gone)
 
     still : All (IsItem back) gone
     still k d within = ap is_some (item_other item.node (get_or gone k d) t.items (λ same. others k d within (sym same))) ∙ items k d within
@@ -155,7 +152,7 @@ pub restored_rows : (call : Call) (item : ItemRow) (gone : List ℕ) → AreSoun
     → KnownRestore call.state.tables item.node (home_of call.state.tables item) (name_back call.state.tables item) → item.owner ≡ asker_of call
     → All (IsItemOf call.state.tables (asker_of call)) gone → All (λ (node : ℕ). item.node ≢ node) gone → AreDistinct gone
     → IsRestored call item.node
-    (stamp (purged_all (restored call.state.tables item.node (home_of call.state.tables item) (name_back call.state.tables item)) gone) call.now)
+    (stamp (deeds_done (restored call.state.tables item.node (home_of call.state.tables item) (name_back call.state.tables item)) (purges gone)) call.now)
 restored_rows call item gone sound there known own theirs others once = record {
   item = item;
   there = there;
@@ -175,9 +172,9 @@ restored_rows call item gone sound there known own theirs others once = record {
   rest = ap (λ (made : Tables). stamp made call.now) (purged_rest u gone)
       ∙ (λ i. record t {
         meta = record t.meta { last = call.now };
-        nodes = (purged_all u gone).nodes;
+        nodes = (deeds_done u (purges gone)).nodes;
         shares = back_shares t item sound known gone items others once i;
-        items = (purged_all u gone).items;
+        items = (deeds_done u (purges gone)).items;
       });
 }
   where
@@ -199,8 +196,8 @@ restored_rows call item gone sound there known own theirs others once = record {
     items : All (IsItem t) gone
     items = items_are t (asker_of call) gone theirs
 
-    purge : ArePurged u (purged_all u gone) gone
+    purge : ArePurged u (deeds_done u (purges gone)) gone
     purge = back_purged t item sound known gone items others once
 
-    beside : AreGoneBeside t u (purged_all u gone) item.node gone
+    beside : AreGoneBeside t u (deeds_done u (purges gone)) item.node gone
     beside = back_beside t item sound known gone items others once

@@ -1,25 +1,16 @@
 -- What is under the source of a MOVE or a COPY, where something goes at the target.
-use Rattle.std.proofs.Common.{ℕ, zero, suc, ◌-◌, ◌==◌, ◌≡◌, ◌<◌, Bool, true, false, not, List, [], ◌∷◌, ◌++◌, Option, None, Some, filter, get_or, if◌then◌else◌, inl, inr, refl, sym, ap, ◌∙◌, arith}
+use Rattle.std.proofs.Common.{ℕ, zero, suc, ◌≡◌, ◌<◌, Bool, true, false, List, [], ◌∷◌, ◌++◌, Some, filter, if◌then◌else◌, refl, ap, ◌∙◌, arith}
 use Rattle.std.specs.List.{All, flat_map}
-use Rattle.std.specs.Option.{option_map_or}
 use Rattle.std.specs.Prelude.{is_some}
-use Rattle.std.proofs.lemmas.Bool.{cases_lt, cond_both, false_from_ne_true, false≢true, ne_eqb, not-false}
+use Rattle.std.proofs.lemmas.Bool.{cond_both}
 use Rattle.std.proofs.lemmas.List.Elements.{All-head, All-tail, All-weaker}
-use Rattle.std.proofs.lemmas.Option.{option_and_then_some}
 use Rattle.nf_base.specs.declared.rows.NodeRow.{NodeRow}
-use Rattle.nf_defs.proofs.Climbs.{under_climb}
-use Rattle.nf_defs.proofs.Walks.{IsChildOf, children_are, inside_of}
-use Rattle.nf_defs.specs.Prelude.{child_of, children_of, climb, folder_of, is_in, is_under, node_row, parent_of, Tables, walk_within}
-use Rattle.nf_laws.proofs.Climbs.{climb_rest, node_row_each, parent_at, some_there}
+use Rattle.nf_defs.proofs.Walks.{IsChildOf, children_are}
+use Rattle.nf_defs.specs.Prelude.{children_of, climb, is_under, node_row, Tables, walk_within}
+use Rattle.nf_laws.proofs.Climbs.{parent_at, some_there}
 use Rattle.nf_laws.proofs.Puts.{under_there}
 use Rattle.nf_laws.proofs.Rows.{row_is}
-use Rattle.nf_laws.proofs.Upwards.{climbs_is_under, never_climbs}
-use Rattle.nf_laws.proofs.Walked.{no_ring}
-use Rattle.nf_laws.specs.Transfers.{is_replaced}
-use Rattle.nf_words.proofs.Found.{child_parent}
-use Rattle.nf_words.proofs.Known.{KnownTransfer}
-use Rattle.nf_words.specs.Prelude.{AreSound, cleared}
-use Rattle.nf_words.specs.declared.request.Transfer.{Transfer}
+use Rattle.nf_words.specs.Prelude.{AreSound}
 
 -- ---- nodes that are there
 
@@ -34,41 +25,7 @@ under_given t top node row sound there under =
     let row = some_there (node_row t.nodes node) (under_there t.nodes node top (ap is_some there) under) in
     was_given t node row.0 sound row.1
 
--- ---- the source
-
--- what is under the source hasn't to go: neither is the source under what has to go, nor is the folder of that under the source
-pub source_stays : (t : Tables) (transfer : Transfer) (name : List ℕ) (node : ℕ) → AreSound t
-    → KnownTransfer t transfer name → is_under t.nodes node transfer.node ≡ true → is_replaced t.nodes transfer.replaced node ≡ false
-source_stays t transfer name node sound known under = here transfer.replaced known.there known.apart
-  where
-    both : (top : ℕ) → parent_of t.nodes top ≡ Some transfer.folder → is_under t.nodes transfer.node top ≡ false
-        → is_under t.nodes node top ≡ true → ⊥
-    both top above apart also =
-        let c = under_climb t.nodes node transfer.node under in
-        let d = under_climb t.nodes node top also in
-        elim (cases_lt d.0 c.0) [
-          | inl less ↦
-              (let rest = climb_rest d.0 (suc (c.0 - d.0 - 1)) c.0 t.nodes node top transfer.node (omega arith) d.2 c.2 in
-              never_climbs t transfer.folder transfer.node sound known.outside (c.0 - d.0 - 1) (rw above at rest))
-          | inr more ↦
-              never_climbs t transfer.node top sound apart (d.0 - c.0)
-              (climb_rest c.0 (d.0 - c.0) d.0 t.nodes node transfer.node top (omega arith) c.2 d.2)
-        ]
-
-    here : (replaced : Option ℕ) → child_of t.nodes transfer.folder name ≡ replaced
-        → option_map_or (λ top. is_under t.nodes transfer.node top) replaced false ≡ false → is_replaced t.nodes replaced node ≡ false
-    here None there apart = refl
-    here (Some top) there apart =
-        false_from_ne_true (is_under t.nodes node top)
-        (both top (child_parent t.nodes transfer.folder name top sound.rising there) apart)
-
--- what has to go is there
-pub replaced_given : (t : Tables) (replaced : Option ℕ) (folder : ℕ) (name : List ℕ) (node : ℕ) → AreSound t
-    → child_of t.nodes folder name ≡ replaced → is_replaced t.nodes replaced node ≡ true → node < t.meta.next_node
-replaced_given t None folder name node sound there goes = absurd (false≢true goes)
-replaced_given t (Some top) folder name node sound there goes =
-    option_and_then_some (λ row. folder_of row.place) (node_row t.nodes top) folder (child_parent t.nodes folder name top sound.rising there)
-    (λ row found placed. under_given t top node row sound found goes)
+-- ---- rows that are left
 
 -- where all that a second test keeps out fails the first, the first alone says what is left
 pub filter_left : (p q : NodeRow → Bool) (rows : List NodeRow) → All (λ (row : NodeRow). q row ≡ false → p row ≡ false) rows
@@ -81,42 +38,6 @@ filter_left p q (x ∷ rows) own =
     (λ e. rest ∙ simp (All-head (λ (row : NodeRow). q row ≡ false → p row ≡ false) x rows own e))
 
 -- ---- a folder under the moved node
-
--- it isn't the folder of the new place
-pub under_differs : (t : Tables) (transfer : Transfer) (name : List ℕ) (node : ℕ) → KnownTransfer t transfer name
-    → is_under t.nodes node transfer.node ≡ true → (transfer.folder == node) ≡ false
-under_differs t transfer name node known under =
-    ne_eqb transfer.folder node (λ same.
-    false≢true (sym known.outside ∙ ap (λ (n : ℕ). is_under t.nodes n transfer.node) same ∙ under))
-
--- nor the folder in which the moved node was
-pub under_apart : (t : Tables) (j node : ℕ) (row : NodeRow) (top : ℕ) → AreSound t → climb t.nodes j node ≡ Some top → node_row t.nodes top ≡ Some row
-    → is_in node row ≡ false
-under_apart t j node row top sound under there =
-    false_from_ne_true (is_in node row) (λ is.
-    no_ring t j top sound (rw (parent_at t.nodes top node row there (inside_of node row.place is)) under))
-
--- ---- the rows in a folder under the moved node
-
--- they are the same without what has to go
-pub in_cleared : (t : Tables) (transfer : Transfer) (name : List ℕ) (j folder : ℕ) → AreSound t → KnownTransfer t transfer name
-    → climb t.nodes j folder ≡ Some transfer.node → filter (is_in folder) (cleared t.nodes transfer.replaced) ≡ filter (is_in folder) t.nodes
-in_cleared t transfer name j folder sound known under = here transfer.replaced refl
-  where
-    none_goes : (top : ℕ) → transfer.replaced ≡ Some top
-        → All (λ (row : NodeRow). not (is_under t.nodes row.id top) ≡ false → is_in folder row ≡ false) t.nodes
-    none_goes top e k d within goes =
-        let row : NodeRow = get_or t.nodes k d in
-        false_from_ne_true (is_in folder row) (λ is.
-        let above = parent_at t.nodes row.id folder row (node_row_each t.nodes sound.rising k d within) (inside_of folder row.place is) in
-        let up : climb t.nodes (suc j) row.id ≡ Some transfer.node = rw above under in
-        let stays = source_stays t transfer name row.id sound known (climbs_is_under (suc j) t row.id transfer.node sound up) in
-        let still : is_under t.nodes row.id top ≡ false = rw e at stays in
-        false≢true (sym still ∙ not-false (is_under t.nodes row.id top) goes))
-
-    here : (replaced : Option ℕ) → transfer.replaced ≡ replaced → filter (is_in folder) (cleared t.nodes replaced) ≡ filter (is_in folder) t.nodes
-    here None e = refl
-    here (Some top) e = filter_left (is_in folder) (λ row. not (is_under t.nodes row.id top)) t.nodes (none_goes top e)
 
 -- ---- walks
 

@@ -8,18 +8,16 @@ use Rattle.nf_base.specs.declared.content.Piece.{Piece}
 use Rattle.nf_defs.specs.Prelude.{is_file, is_folder, Tables}
 use Rattle.nf_defs.specs.declared.Seeker.{Seeker}
 use Rattle.nf_defs.specs.declared.Seeker.TheVariants as seeker
-use Rattle.nf_laws.proofs.Copied.{copied_sound, crossed_sound}
 use Rattle.nf_laws.proofs.Counters.{changed_up}
 use Rattle.nf_laws.proofs.Entries.{entry_has, tickets_left, tickets_with}
 use Rattle.nf_laws.proofs.Held.{act_leads, act_stays, held_on}
 use Rattle.nf_laws.proofs.Links.{KeepsShares, link_stays, shares_kept}
 use Rattle.nf_laws.proofs.Lists.{changes_sound}
-use Rattle.nf_laws.proofs.Moved.{transferred_sound}
 use Rattle.nf_laws.proofs.Owned.{KeepsOwners, owners_kept}
 use Rattle.nf_laws.proofs.Others.{stamp_sound}
+use Rattle.nf_laws.proofs.Parts.{step_sound}
 use Rattle.nf_laws.proofs.Rows.{content_has, pieces_kept, stamp, stamped_has}
-use Rattle.nf_laws.proofs.Trashed.{trash_sound}
-use Rattle.nf_words.specs.Prelude.{after, after_mark, altered, AreApartHolds, AreSound, changed, goal_of, hold_of, HoldsFor, IsGoalSound, IsHeld, IsLegalFrom, IsPieceSound, IsSound, IsTicketSound, LeadsToRoot, MayCome, node_of_key, replay, State, ticket_for, told, transferred, with_goal, without}
+use Rattle.nf_words.specs.Prelude.{after, after_mark, altered, AreApartHolds, AreSound, changed, goal_of, hold_of, HoldsFor, IsGoalSound, IsHeld, IsLegalFrom, IsPieceSound, IsSound, IsTicketSound, LeadsToRoot, MayCome, node_of_key, replay, State, ticket_for, told, with_goal, without}
 use Rattle.nf_words.specs.Sound.{MayStoreBy}
 use Rattle.nf_words.specs.declared.answer.Allowed.{Allowed}
 use Rattle.nf_words.specs.declared.answer.Allowed.TheVariants as allowed
@@ -28,7 +26,7 @@ use Rattle.nf_words.specs.declared.answer.Goal.TheVariants.{Serve, Store}
 use Rattle.nf_words.specs.declared.answer.Hold.{Hold}
 use Rattle.nf_words.specs.declared.history.Entry.{Entry}
 use Rattle.nf_words.specs.declared.history.Event.{Event}
-use Rattle.nf_words.specs.declared.history.Event.TheVariants.{Begin, End}
+use Rattle.nf_words.specs.declared.history.Event.TheVariants.{Begin, End, Sweep}
 use Rattle.nf_words.specs.declared.history.Mark.{Mark}
 use Rattle.nf_words.specs.declared.history.Mark.TheVariants as mark
 use Rattle.nf_words.specs.declared.history.Ticket.{Ticket}
@@ -43,11 +41,7 @@ use Rattle.nf_words.proofs.Steps.{differ_replay}
 altered_sound : (t : Tables) (now : ℕ) (act : Allowed) → AreSound t → t.meta.last ≤ now → Known t now act
     → AreSound (stamp (altered t now act) now)
 altered_sound t now (allowed.Change changes blob report) sound before known = changes_sound t now changes blob report sound before known
-altered_sound t now (allowed.Trash did gone report) sound before known = trash_sound t now did gone sound before known
-altered_sound t now (allowed.Move transfer name) sound before known =
-    stamp_sound (transferred t transfer name) now (transferred_sound t transfer name sound known) before
-altered_sound t now (allowed.Copy rows replaced) sound before known = copied_sound t now rows replaced sound before known
-altered_sound t now (allowed.Cross rows replaced node) sound before known = crossed_sound t now rows replaced node sound before known
+altered_sound t now (allowed.Deeds deeds report) sound before known = step_sound t now deeds sound before known
 altered_sound t now act sound before known = stamp_sound t now sound before
 
 -- ---- the tickets
@@ -151,6 +145,7 @@ apart_with tickets seat (Some goal) hold pairs each = all_pairs_push AreApart ti
 apart_left : (s : State) (seat : ℕ) (event : Event) → AllPairs AreApart s.tickets → AllPairs AreApart (without s seat event).tickets
 apart_left s seat (Begin words request) pairs = pairs
 apart_left s seat (End outcome) pairs = AllPairs-filter AreApart (λ ticket. not (ticket.seat == seat)) s.tickets pairs
+apart_left s seat Sweep pairs = pairs
 
 -- ---- the state
 
@@ -167,7 +162,7 @@ act_holds t tickets seat now act known h spares =
     let left : All (IsTicketSound made) tickets = λ k d within.
     let is = h.2 k d within in
     record {
-      goal = goal_stays t made (get_or tickets k d).goal up.nodes up.blobs (owners_kept t now act h.0 known) (shares_kept t now act h.0 known) is.goal;
+      goal = goal_stays t made (get_or tickets k d).goal up.nodes up.blobs (owners_kept t now act h.0 h.1 known) (shares_kept t now act h.0 known) is.goal;
       hold = is.hold;
       held = spared_held t now act (get_or tickets k d).hold h.0 h.1 known is.held is.present (spares k d within);
       present = spared_present t now act (get_or tickets k d).hold h.0 h.1 known is.held is.present (spares k d within);

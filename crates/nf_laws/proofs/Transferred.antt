@@ -1,136 +1,278 @@
--- What a COPY leaves: the copies, and all that was there but for what had to go. And what a MOVE leaves as it was.
-use Rattle.std.proofs.Common.{ℕ, ◌<◌, ◌≡◌, true, false, List, ◌++◌, Option, Some, map, refl, sym, ap, subst, ◌∙◌, arith, length-append, ◌≢◌, length, option_map, ◌≤◌}
-use Rattle.std.proofs.lemmas.Bool.{false≢true, ne_eqb}
-use Rattle.std.proofs.lemmas.List.{length-map}
-use Rattle.nf_base.specs.declared.limits.TheConstants.{MAX_DEPTH}
-use Rattle.nf_base.specs.declared.changes.Change.TheVariants.{Put}
+-- What a MOVE and a COPY change, and that they change nothing else.
+use Rattle.std.proofs.Common.{◌≡◌, ◌≤◌, ℕ, ◌==◌, Bool, true, false, List, ◌∷◌, Some, None, Ok, if◌then◌else◌, inl, inr, refl, sym, ap, subst, ◌∙◌, arith}
+use Rattle.std.specs.Prelude.{is_some}
+use Rattle.std.proofs.lemmas.List.Elements.{All-contains}
+use Rattle.std.specs.Option.{option_and_then}
+use Rattle.std.proofs.lemmas.Bool.{both_ways, eq-eqb, eqb-true, not-false, not-true}
+use Rattle.std.proofs.lemmas.Option.{none-some, same_Some}
 use Rattle.nf_base.specs.declared.rows.NodeRow.{NodeRow}
-use Rattle.nf_base.specs.declared.rows.Row.TheVariants as rows
-use Rattle.nf_defs.proofs.Walks.{climbs_walk}
-use Rattle.nf_defs.specs.Prelude.{by_name, children_of, climb, is_in, node_row, relinked, Tables, walk_of, with_node}
-use Rattle.nf_laws.proofs.Copied.{copies_there, old_joined}
+use Rattle.nf_defs.specs.Prelude.{node_row, owner_of, Tables}
+use Rattle.nf_defs.specs.declared.Found.{Found}
+use Rattle.nf_defs.specs.declared.Found.TheVariants.{At, Free, Missing}
+use Rattle.nf_laws.proofs.Acted.{given_below, IsNew}
+use Rattle.nf_laws.proofs.Acting.{accepted, frees_by, given_for, leads_by, there_at}
+use Rattle.nf_laws.proofs.Carried.{AreJoined, copying_kind, crossing_kind, IsRelinked, Kind, meta_with, moving_kind, source_apart}
+use Rattle.nf_laws.proofs.Departed.{below_after, below_off, have_left, kind_changed, new_after, others_after, present_after, rest_after, unstamped}
 use Rattle.nf_laws.proofs.Entries.{step_changed}
-use Rattle.nf_laws.proofs.Gone.{row_cleared, row_gone}
 use Rattle.nf_laws.proofs.Mirrored.{mirrored}
-use Rattle.nf_laws.proofs.OneRow.{filter_with, row_itself, row_other}
-use Rattle.nf_laws.proofs.Sources.{in_cleared, replaced_given, source_stays, under_apart, under_differs, under_given, walk_by}
-use Rattle.nf_laws.proofs.Rows.{stamped_nodes}
-use Rattle.nf_laws.proofs.Upwards.{climbs_is_under}
-use Rattle.nf_laws.specs.Transfers.{AreCopied, CopiesMirror, IsMoved, Mirrors, MovesKeep, is_replaced}
-use Rattle.nf_words.proofs.Ends.{known_change}
-use Rattle.nf_words.proofs.Known.{KnownCopies, KnownTransfer}
-use Rattle.nf_words.specs.Prelude.{altered, AreSound, changed, cleared, gone_for, joined, step, told, transferred_row}
-use Rattle.nf_words.specs.declared.answer.Allowed.TheVariants as allowed
+use Rattle.nf_laws.proofs.Others.{stamp_sound}
+use Rattle.nf_laws.proofs.Parts.{copies_stamped, transfer_stamped}
+use Rattle.nf_laws.proofs.Rows.{stamp}
+use Rattle.nf_laws.specs.Acts.{HaveLeft, IsBeside, IsUnderOne}
+use Rattle.nf_laws.specs.Transfers.{AreCopied, CopiesMirror, IsCarried, IsMoved, IsTransferOf, LeadsToTarget, Mirrors, MovesKeep, replaced_by}
+use Rattle.nf_laws.specs.Access.{LeadsBy}
+use Rattle.nf_laws.specs.Tree.{Under}
+use Rattle.nf_words.proofs.Begins.{wanted_passes, WantedPasses}
+use Rattle.nf_words.proofs.Fits.{within}
+use Rattle.nf_words.proofs.Known.{KnownCross, KnownMove, KnownTransfer}
+use Rattle.nf_words.proofs.Starts.{has_asker, IsAsking}
+use Rattle.nf_words.proofs.Transfers.{copies_known, fit_parts, no_mount, same_transfer, transfer_known, transfer_parts}
+use Rattle.nf_words.specs.Prelude.{access_of, allowed_of, AreSound, Call, call_of, carries, carry_limit, changed, copied, copies, copies_to, copy_limit, crosses, crossing, decision_of, deeds_done, deepest_in, done, folder_at, found, is_off_mount, is_root_at, last_name, LeadsToRoot, limited, made_or_done, mount_renamed, mount_of, moved, move_limit, moves, node_found, purges, root_of, transfer_between, transfer_by, transfer_of, transfer_to, unfit_between, unreached, way_of, Ways}
+use Rattle.nf_words.specs.declared.answer.Deed.{Deed}
+use Rattle.nf_words.specs.declared.answer.Report.{Report}
+use Rattle.nf_words.specs.declared.history.Event.TheVariants.{Begin}
+use Rattle.nf_words.specs.declared.answer.Allowed.{Allowed}
+use Rattle.nf_words.specs.declared.request.Making.TheVariants as making
+use Rattle.nf_words.specs.declared.request.Places.{Places}
+use Rattle.nf_words.specs.declared.request.Spot.{Spot}
 use Rattle.nf_words.specs.declared.request.Transfer.{Transfer}
+use Rattle.nf_words.specs.declared.request.Wanted.TheVariants as wanted
 
--- ---- the step
+-- ---- row by row
 
-copies_told : (t : Tables) (now : ℕ) (transfer : Transfer) (name : List ℕ) (copies : List NodeRow) (replaced : Option ℕ)
-    → Mirrors t now transfer name copies
-    → (changed t now (allowed.Copy copies replaced)).nodes ≡ cleared t.nodes replaced ++ copies
-copies_told t now transfer name copies replaced mirrors =
-    stamped_nodes t (joined t copies replaced) now (told t (allowed.Copy copies replaced))
-    (omega (
-      arith,
-      mirrors.all,
-      (climbs_walk 0 t.nodes transfer.node transfer.node (omega arith) refl).1,
-      length-map copies (λ row. Put (rows.Node row)),
-      length-append (gone_for t.nodes t.shares replaced) (map (λ row. Put (rows.Node row)) copies),
-    ))
-
-pub are_copied : (t : Tables) (now : ℕ) (copies : List NodeRow) (replaced : Option ℕ) → AreSound t
-    → KnownCopies t now copies replaced → AreCopied t (cleared t.nodes replaced ++ copies) now copies replaced
-are_copied t now copies replaced sound known =
-    subst (λ (o : Option ℕ). AreCopied t (cleared t.nodes o ++ copies) now copies o) (sym known.replaced_is) (record {
-      transfer = transfer;
-      name = name;
-      replaced_is = refl;
-      mirrors = mirrors;
-      there = copies_there t now transfer name copies mirrors sound known.known;
-      source = λ node under.
-          others node (under_given t transfer.node node known.known.source.0 sound known.known.source.1 under)
-          (source_stays t transfer name node sound known.known under);
-      gone = λ node goes.
-          old_joined t now transfer name copies mirrors (cleared t.nodes transfer.replaced) node
-          (replaced_given t transfer.replaced transfer.folder name node sound known.known.there goes)
-          ∙ row_gone t.nodes transfer.replaced node goes;
-      others = others;
+-- a node that moved
+moved_rows : (t : Tables) (now : ℕ) (transfer : Transfer) (name : List ℕ) (report : Report) → AreSound t → t.meta.last ≤ now
+    → KnownMove t transfer name → IsMoved t (changed t now (done (moves t now name transfer) report)) now transfer name
+moved_rows t now transfer name report sound later move =
+    subst (λ (made : Tables). IsMoved t made now transfer name) (sym (kind_changed t now deeds _ _ _ _ report sound later kind)) (record {
+      itself = present_after all now deeds _ _ _ _ fine kind transfer.node move.known.present ∙ kind.put;
+      below = λ node under differs.
+          below_after all now deeds _ _ _ _ fine kind transfer.node node move.known.present under
+          ∙ kind.acted.others node differs (source_apart all now fine refl transfer name known.known node under);
+      tops = kind.gone;
+      left = unstamped t made now now (replaced_by transfer) kind.gone (have_left all now deeds _ _ _ _ fine kind);
+      others = others_after all now deeds _ _ _ _ fine kind;
+      rest = rest_after all now deeds _ _ _ _ fine kind;
     })
   where
-    transfer : Transfer
-    transfer = known.transfer
+    all : Tables
+    all = stamp t now
 
-    name : List ℕ
-    name = known.name
+    fine : AreSound all
+    fine = stamp_sound t now sound later
 
-    mirrors : Mirrors t now transfer name copies
-    mirrors = mirrored t now copies replaced sound known
+    deeds : List Deed
+    deeds = moves t now name transfer
 
-    others : (node : ℕ) → node < t.meta.next_node → is_replaced t.nodes transfer.replaced node ≡ false
-        → node_row (cleared t.nodes transfer.replaced ++ copies) node ≡ node_row t.nodes node
-    others node given stays =
-        old_joined t now transfer name copies mirrors (cleared t.nodes transfer.replaced) node given
-        ∙ row_cleared t.nodes transfer.replaced node stays
+    known : KnownMove all transfer name
+    known = record { known = transfer_stamped t now transfer name move.known; within = move.within }
 
-pub copies_mirror_all : CopiesMirror
-copies_mirror_all s seat now event copies replaced sound may is =
-    let known = known_change s seat now event (allowed.Copy copies replaced) sound may is in
-    let nodes = copies_told s.tables now known.transfer known.name copies replaced
-    (mirrored s.tables now copies replaced sound.rows known) in
-    subst (λ (nodes : List NodeRow). AreCopied s.tables nodes now copies replaced)
-    (sym (ap (λ (t : Tables). t.nodes) (step_changed s seat now event (allowed.Copy copies replaced) is) ∙ nodes))
-    (are_copied s.tables now copies replaced sound.rows known)
+    kind : Kind all now deeds (replaced_by transfer) (λ node. node ≡ transfer.node) (IsRelinked all transfer name) all.meta
+    kind = moving_kind all now fine refl transfer name known
 
--- ---- walks
+    made : Tables
+    made = deeds_done (deeds_done all (kind.one ∷ kind.more)) (purges kind.gone)
 
-abbrev nodes_after : Tables → Transfer → List ℕ → List NodeRow
-nodes_after t transfer name = with_node (cleared t.nodes transfer.replaced) transfer.node (relinked transfer.folder name)
-
--- a folder under the moved node has the same children
-same_children : (t : Tables) (transfer : Transfer) (name : List ℕ) (j folder : ℕ) → AreSound t → KnownTransfer t transfer name
-    → climb t.nodes j folder ≡ Some transfer.node → children_of (nodes_after t transfer name) folder ≡ children_of t.nodes folder
-same_children t transfer name j folder sound known under =
-    ap (λ (rows : List NodeRow). map (λ row. row.id) (by_name rows))
-    (filter_with (is_in folder) (cleared t.nodes transfer.replaced) transfer.node (relinked transfer.folder name)
-    (λ row there. (
-      under_apart t j folder row transfer.node sound under (sym (row_cleared t.nodes transfer.replaced transfer.node known.apart) ∙ there),
-      under_differs t transfer name folder known (climbs_is_under j t folder transfer.node sound under),
-    ))
-    ∙ in_cleared t transfer name j folder sound known under)
-
--- ---- the law
-
-pub moved_rows : (t : Tables) (transfer : Transfer) (name : List ℕ) → AreSound t → KnownTransfer t transfer name
-    → IsMoved t.nodes (nodes_after t transfer name) transfer name
-unfolding walk_of
-moved_rows t transfer name sound known = record {
-  itself = row_itself rest transfer.node (relinked transfer.folder name) (λ row. refl)
-      ∙ ap (option_map (relinked transfer.folder name)) (row_cleared t.nodes transfer.replaced transfer.node known.apart);
-  below = walk_by MAX_DEPTH t (nodes_after t transfer name) transfer.node sound (λ j folder. same_children t transfer name j folder sound known)
-      0 transfer.node refl;
-  gone = λ node goes. after node (is_gone node goes) ∙ row_gone t.nodes transfer.replaced node goes;
-  others = λ node other stays. after node other ∙ row_cleared t.nodes transfer.replaced node stays;
-}
+-- copies, and what leaves its place beside what is replaced
+copied_rows : (t : Tables) (now : ℕ) (transfer : Transfer) (name : List ℕ) (deeds : List Deed) (leave : List ℕ) (report : Report) (sound : AreSound t)
+    → (later : t.meta.last ≤ now) → (known : KnownTransfer t transfer name)
+    → (kind : Kind (stamp t now) now deeds leave (IsNew (stamp t now)) (AreJoined (stamp t now) (copies_to t now transfer name))
+    (meta_with (stamp t now) now (stamp_sound t now sound later) refl (copies_to t now transfer name)))
+    → AreCopied t (changed t now (done deeds report)) now transfer name leave
+copied_rows t now transfer name deeds leave report sound later known kind =
+    subst (λ (made : Tables). AreCopied t made now transfer name leave) (sym (kind_changed t now deeds _ _ _ _ report sound later kind)) (record {
+      rows = rows;
+      mirrors = mirrors;
+      there = λ k copy is.
+          new_after all now deeds _ _ _ _ fine kind copy.id (omega (arith, (mirrors.each k copy is).id)) ∙ kind.put.there k copy is;
+      tops = kind.gone;
+      left = unstamped t made now now leave kind.gone (have_left all now deeds _ _ _ _ fine kind);
+      others = λ node old. others_after all now deeds _ _ _ _ fine kind node (λ new. absurd (omega (arith, old, new)));
+      rest = rest_after all now deeds _ _ _ _ fine kind;
+    })
   where
-    rest : List NodeRow
-    rest = cleared t.nodes transfer.replaced
+    all : Tables
+    all = stamp t now
 
-    after : (node : ℕ) → node ≢ transfer.node → node_row (nodes_after t transfer name) node ≡ node_row rest node
-    after node other =
-        row_other rest transfer.node (relinked transfer.folder name) (λ row. refl) node (ne_eqb node transfer.node other)
+    fine : AreSound all
+    fine = stamp_sound t now sound later
 
-    is_gone : (node : ℕ) → is_replaced t.nodes transfer.replaced node ≡ true → node ≢ transfer.node
-    is_gone node goes = λ same. false≢true (sym known.apart ∙ ap (is_replaced t.nodes transfer.replaced) (sym same) ∙ goes)
+    rows : List NodeRow
+    rows = copies_to t now transfer name
+
+    mirrors : Mirrors t now transfer name rows
+    mirrors = mirrored t now transfer name sound known.source
+
+    made : Tables
+    made = deeds_done (deeds_done all (kind.one ∷ kind.more)) (purges kind.gone)
+
+-- nothing that is under what is present is under what goes beside what left
+tops_apart : (t after : Tables) (now : ℕ) (leave tops : List ℕ) (mid node : ℕ) → AreSound t → HaveLeft t after now leave tops → LeadsToRoot t.nodes mid
+    → Under t.nodes mid node → IsUnderOne t.nodes tops node → ⊥
+tops_apart t after now leave tops mid node sound h present under one =
+    let of = All-contains (IsBeside t leave) tops one.0 h.beside one.1 in
+    below_off t node mid one.0 sound present under (ap is_some of.2.1) one.2
+
+-- what is known of what is moved, by whether it goes to another owner
+abbrev KnownCarried : Tables → Transfer → List ℕ → Bool → Type 0
+KnownCarried t transfer name true = KnownCross t transfer name
+KnownCarried t transfer name false = KnownMove t transfer name
+
+-- ---- the request
+
+abbrev nowhere : Places
+nowhere = record { source = None; target = None }
+
+abbrev both_at : Call → Spot → Spot → Places
+both_at call source target = record { source = Some (found call source); target = Some (found call target) }
+
+abbrev ways_at : Call → Spot → Spot → Ways
+ways_at call source target = record { source = Some (way_of call source); target = Some (way_of call target) }
+
+-- what a request to MOVE or COPY that no rule refuses transfers
+module _ (call : Call) (source target : Spot) (sound : AreSound call.state.tables) (is : IsAsking call)
+    (from_reached : unreached (access_of call.state) call (way_of call source) ≡ None)
+    (to_reached : unreached (access_of call.state) call (way_of call target) ≡ None)
+    (fits : unfit_between call.state.tables.nodes (root_of call) false (record { source = Some (way_of call source); target = Some (way_of call target) }) ≡ None)
+    (node : ℕ) (leads : found call source ≡ At node) where
+  abbrev t : Tables
+  t = call.state.tables
+
+  abbrev places : Places
+  places = record { source = Some (found call source); target = Some (found call target) }
+
+  abbrev ways : Ways
+  ways = record { source = Some (way_of call source); target = Some (way_of call target) }
+
+  -- there is something to transfer
+  transferred : (transfer : Transfer) × (transfer_of t.nodes places ≡ Some transfer)
+  transferred =
+      let fit = fit_parts t.nodes (is_root_at t.nodes (root_of call) (Some (way_of call source))) (is_off_mount (root_of call) false (way_of call target))
+      (transfer_between t.nodes (root_of call) ways) fits in
+      let by : transfer_by t.nodes (root_of call) node (way_of call target) ≡ Some fit.transfer =
+      sym (ap (λ (place : Found). option_and_then (λ node. transfer_by t.nodes (root_of call) node (way_of call target)) (node_found place)) leads) ∙ fit.is in (
+        fit.transfer,
+        ap (λ (place : Found). option_and_then (λ node. transfer_to t.nodes node (found call target)) (node_found place)) leads
+            ∙ sym (same_transfer t.nodes (root_of call) node (way_of call target) fit.transfer (no_mount call source target sound is from_reached to_reached fits) by) ∙ by,
+      )
+
+  abbrev transfer : Transfer
+  transfer = transferred.0
+
+  led : IsTransferOf call source target transfer
+  led = record { from = subst (LeadsBy call source (mount_of call source)) parts.0 (leads_by call source sound node leads); to = here (found call target) refl parts.1 parts.2 }
+    where
+      parts : (node ≡ transfer.node) × (node_found (found call target) ≡ transfer.replaced) × (folder_at t.nodes (found call target) ≡ Some transfer.folder)
+      parts =
+          transfer_parts t.nodes node (found call target) transfer
+          (sym (ap (λ (place : Found). option_and_then (λ node. transfer_to t.nodes node (found call target)) (node_found place)) leads) ∙ transferred.1)
+
+      here : (place : Found) → found call target ≡ place → node_found place ≡ transfer.replaced → folder_at t.nodes place ≡ Some transfer.folder
+          → LeadsToTarget call target transfer.folder transfer.replaced
+      here (At top) e replaced above =
+          subst (LeadsToTarget call target transfer.folder) replaced (leads_by call target sound top e, above)
+      here (Free folder) e replaced above =
+          subst (LeadsToTarget call target transfer.folder) replaced
+          (subst (λ (n : ℕ). LeadsToTarget call target n None) (same_Some folder transfer.folder above) (frees_by call target sound folder e).0)
+      here (Missing depth) e replaced above = absurd (none-some transfer.folder above)
+
+  -- which is known of it, as it stays its owner's or not
+  known_carried : (transfer : Transfer) → transfer_of t.nodes places ≡ Some transfer → (b : Bool) → crosses t.nodes transfer ≡ b
+      → (if b then copy_limit t transfer else move_limit t transfer) ≡ None
+      → KnownCarried t transfer (last_name target) b
+  unfolding copies_known
+  known_carried transfer e true across some =
+      record { copies = copies_known call source target sound is from_reached to_reached transfer e fits some; crosses = across }
+  known_carried transfer e false inside some =
+      record {
+        known = transfer_known call source target sound is from_reached to_reached transfer e fits
+            (within t 0 (deepest_in t.nodes transfer.node transfer.folder) 0 0 some).deep;
+        within = inside;
+      }
+
+-- where it stays its owner's, or not
+carried_rows : (t : Tables) (now : ℕ) (transfer : Transfer) (name : List ℕ) (report : Report) → AreSound t → t.meta.last ≤ now → (b : Bool)
+    → crosses t.nodes transfer ≡ b → KnownCarried t transfer name b
+    → IsCarried t (changed t now (done (if b then crossing t now name transfer else moves t now name transfer) report)) now transfer name
+carried_rows t now transfer name report sound later true across known =
+    inr (
+      λ same.
+          both_ways (owner_of t.nodes transfer.node == owner_of t.nodes transfer.folder)
+          (not-true (owner_of t.nodes transfer.node == owner_of t.nodes transfer.folder) across)
+          (eq-eqb (owner_of t.nodes transfer.node) (owner_of t.nodes transfer.folder) same),
+      copied_rows t now transfer name (crossing t now name transfer) (transfer.node ∷ replaced_by transfer) report sound later known.copies.known
+          (crossing_kind (stamp t now) now (stamp_sound t now sound later) refl transfer name
+          (record { copies = copies_stamped t now transfer name known.copies; crosses = known.crosses })),
+    )
+carried_rows t now transfer name report sound later false within known =
+    inl (
+      eqb-true (owner_of t.nodes transfer.node) (owner_of t.nodes transfer.folder) (not-false (owner_of t.nodes transfer.node == owner_of t.nodes transfer.folder) within),
+      moved_rows t now transfer name report sound later known,
+    )
 
 pub moves_keep : MovesKeep
-moves_keep s seat now event transfer name sound asked decides =
+unfolding copies_known
+moves_keep s seat now words request source target overwrite sound seen may asked other ok =
+    let call = call_of s seat now words request in
     let t = s.tables in
-    let act = allowed.Move transfer name in
-    let known = known_change s seat now event act sound asked decides in
-    let own = known.known.source in
-    let row : length (transferred_row (node_row t.nodes transfer.node) transfer name) ≡ 1 = rw own.1 refl in
-    let some : 1 ≤ length (told t act) =
-    omega (arith, row, length-append (gone_for t.nodes t.shares transfer.replaced) (transferred_row (node_row t.nodes transfer.node) transfer name)) in
-    let nodes : (step s seat now event).tables.nodes ≡ nodes_after t transfer name =
-    ap (λ (made : Tables). made.nodes) (step_changed s seat now event act decides) ∙ stamped_nodes t (altered t now act) now (told t act) some in
-    subst (λ (after : List NodeRow). IsMoved t.nodes after transfer name) (sym nodes) (moved_rows t transfer name sound.rows known.known)
+    let want = wanted.Move source target overwrite in
+    let is = accepted call ok in
+    let p = subst (WantedPasses call) asked (wanted_passes call may.1 is.1) in
+    let asker = has_asker call is.1.token p.place.linked in
+    let from_reached = p.place.source other in
+    let fits = subst (λ (b : Bool). unfit_between t.nodes (root_of call) b (ways_at call source target) ≡ None) other p.fits in
+    let at = there_at (found call source) p.place.there in
+    let to = transferred call source target sound.rows asker from_reached p.place.target fits at.0 at.1 in
+    let transfer = to.0 in
+    let few : option_and_then (carry_limit t) (transfer_of t.nodes (both_at call source target)) ≡ None =
+    subst (λ (b : Bool). limited t (if b then nowhere else both_at call source target) making.Moved ≡ None) other p.few in
+    let some : (if crosses t.nodes transfer then copy_limit t transfer else move_limit t transfer) ≡ None =
+    sym (ap (option_and_then (carry_limit t)) to.1) ∙ few in
+    let act = done (carries t now (last_name target) transfer) (made_or_done transfer.replaced) in
+    let gives : allowed_of (access_of s) call ≡ act =
+    given_for call want asked
+    ∙ ap (λ (b : Bool). if b then mount_renamed call (way_of call source) (last_name target)
+    else moved t now (last_name target) (transfer_of t.nodes (if b then nowhere else both_at call source target))) other
+    ∙ ap (moved t now (last_name target)) to.1 in
+    let decides : decision_of s seat now (Begin words request) ≡ Ok act = is.0 ∙ ap (λ (a : Allowed). Ok a) gives in (
+      transfer,
+      led call source target sound.rows asker from_reached p.place.target fits at.0 at.1,
+      subst (λ (made : Tables). IsCarried t made now transfer (last_name target)) (sym (step_changed s seat now (Begin words request) act decides))
+          (carried_rows t now transfer (last_name target) (made_or_done transfer.replaced) sound.rows (omega (arith, sound.seen, seen))
+          (crosses t.nodes transfer) refl
+          (known_carried call source target sound.rows asker from_reached p.place.target fits at.0 at.1 transfer to.1 (crosses t.nodes transfer) refl some)),
+    )
+
+pub copies_mirror : CopiesMirror
+unfolding copies_known
+copies_mirror s seat now words request source target overwrite sound seen may asked ok =
+    let call = call_of s seat now words request in
+    let t = s.tables in
+    let is = accepted call ok in
+    let p = subst (WantedPasses call) asked (wanted_passes call may.1 is.1) in
+    let asker = has_asker call is.1.token p.place.linked in
+    let from_reached = p.place.source refl in
+    let at = there_at (found call source) p.place.there in
+    let to = transferred call source target sound.rows asker from_reached p.place.target p.fits at.0 at.1 in
+    let transfer = to.0 in
+    let name = last_name target in
+    let some : copy_limit t transfer ≡ None = sym (ap (option_and_then (copy_limit t)) to.1) ∙ p.few in
+    let known = copies_known call source target sound.rows asker from_reached p.place.target transfer to.1 p.fits some in
+    let later : t.meta.last ≤ now = omega (arith, sound.seen, seen) in
+    let act = done (copies t now name transfer) (made_or_done transfer.replaced) in
+    let gives : allowed_of (access_of s) call ≡ act =
+    given_for call (wanted.Copy source target overwrite) asked ∙ ap (copied t now name) to.1 in
+    let decides : decision_of s seat now (Begin words request) ≡ Ok act = is.0 ∙ ap (λ (a : Allowed). Ok a) gives in
+    let made = copied_rows t now transfer name (copies t now name transfer) (replaced_by transfer) (made_or_done transfer.replaced) sound.rows later known.known
+    (copying_kind (stamp t now) now (stamp_sound t now sound.rows later) refl transfer name (copies_stamped t now transfer name known)) in
+    let becomes = step_changed s seat now (Begin words request) act decides in
+    let made_after = changed t now act in (
+      transfer,
+      led call source target sound.rows asker from_reached p.place.target p.fits at.0 at.1,
+      subst (λ (after : Tables). AreCopied t after now transfer name (replaced_by transfer)) (sym becomes) made,
+      λ node under.
+          subst (λ (after : Tables). node_row after.nodes node ≡ node_row t.nodes node) (sym becomes)
+          (made.others node (given_below t transfer.node node sound.rows known.known.present under)
+          (source_apart (stamp t now) now (stamp_sound t now sound.rows later) refl transfer name (transfer_stamped t now transfer name known.known) node under)
+          (tops_apart t made_after now (replaced_by transfer) made.tops transfer.node node sound.rows made.left known.known.present under)),
+    )

@@ -1,42 +1,37 @@
 -- The tables with what is put in the trash, comes back or goes for good are sound.
-use Rattle.std.proofs.Common.{inl, inr, ℕ, ◌==◌, ◌≡◌, ◌≢◌, ◌⊎◌, ◌&&◌, ◌≤◌, suc, Bool, true, false, not, List, [], ◌∷◌, Option, None, Some, length, get_or, if◌then◌else◌, refl, sym, ap, subst, ◌∙◌, arith, le_refl, filter, option_map}
+use Rattle.std.proofs.Common.{inl, inr, ℕ, ◌==◌, ◌≡◌, ◌≢◌, ◌⊎◌, ◌&&◌, ◌≤◌, Bool, true, false, not, List, [], ◌∷◌, Option, None, Some, length, if◌then◌else◌, refl, sym, ap, subst, ◌∙◌, arith, le_refl, filter, option_map}
 use Rattle.std.specs.Prelude.{is_some}
-use Rattle.std.specs.List.{All, AllPairs}
+use Rattle.std.specs.List.{All}
 use Rattle.std.specs.Option.{option_map_or}
 use Rattle.std.proofs.lemmas.Bool.{both_ways, cases_Bool, eq-eqb, eqb-true, false_from_ne_true, ne_eqb, not_from_false}
 use Rattle.std.proofs.lemmas.List.{length-map}
-use Rattle.std.proofs.lemmas.List.Elements.{All-head, All-tail, All-weaker}
+use Rattle.std.proofs.lemmas.List.Elements.{All-weaker}
 use Rattle.std.proofs.lemmas.List.Filters.{length-filter_both}
 use Rattle.nf_access.proofs.Naming.{free_is_free, taken_child}
 use Rattle.nf_access.specs.Mounts.{free_name_of, mount_at, names_in_root, root_folder}
-use Rattle.nf_base.specs.declared.changes.Change.TheVariants.{Put}
 use Rattle.nf_base.specs.declared.rows.ItemRow.{ItemRow}
 use Rattle.nf_base.specs.declared.rows.NodeRow.{NodeRow}
 use Rattle.nf_base.specs.declared.rows.Place.{Place}
 use Rattle.nf_base.specs.declared.rows.Place.TheVariants.{Inside, Root, Trash}
-use Rattle.nf_base.specs.declared.rows.Row.TheVariants as rows
 use Rattle.nf_base.specs.declared.rows.UserRow.{UserRow}
 use Rattle.nf_defs.proofs.Climbs.{climb_under, under_climb}
 use Rattle.nf_defs.proofs.Puts.{all_put, put_rising}
-use Rattle.nf_defs.specs.Prelude.{child_of, dropped, is_folder, is_folder_kind, is_in, is_root, is_root_place, is_under, item_key, item_row, made, node_row, owner_of, put, Tables, taken_names, user_row}
+use Rattle.nf_defs.specs.Prelude.{child_of, dropped, is_folder, is_folder_kind, is_in, is_root, is_root_place, is_under, item_key, item_row, node_row, owner_of, put, Tables, taken_names, user_row}
 use Rattle.nf_defs.specs.Tree.{trashed}
 use Rattle.nf_laws.proofs.Climbs.{node_row_each, some_there}
 use Rattle.nf_laws.proofs.Gone.{folder_left, root_left, those_sound}
 use Rattle.nf_laws.proofs.Moved.{below_leads, climb_below, deep_below, Fits, names_turned, no_root_row, others_same, outside_leads, outside_rooted, relinked_sound, root_turned}
 use Rattle.nf_laws.proofs.OneRow.{KeepsId, length_with, pieces_with, rising_with, row_itself, value_with, with_each}
-use Rattle.nf_laws.proofs.Others.{item_other, items_all, items_dropped, items_left, IsSeenSo, off_with, others_ended, stamp_sound, was_with}
+use Rattle.nf_laws.proofs.Others.{items_all, items_dropped, items_left, IsSeenSo, off_with, others_ended, was_with}
 use Rattle.nf_laws.proofs.Paths.{climb_own}
-use Rattle.nf_laws.proofs.Peopled.{people_sound}
 use Rattle.nf_laws.proofs.Present.{below_present, never_trash, root_leads, trash_alone}
 use Rattle.nf_laws.proofs.Puts.{number_found, other_number}
-use Rattle.nf_laws.proofs.Rows.{folder_there, found_is, IsRooted, node_still, row_is, stamp}
+use Rattle.nf_laws.proofs.Rows.{folder_there, found_is, IsRooted, node_still, row_is}
 use Rattle.nf_laws.proofs.Upwards.{climb_short, never_climbs, owners_there}
 use Rattle.nf_words.proofs.Ensured.{free_in_root}
-use Rattle.nf_words.proofs.Known.{IsItem, KnownDeed, KnownGoes, KnownGone, KnownRestore, KnownTrash}
+use Rattle.nf_words.proofs.Known.{IsItem, KnownLeaving, KnownRestore}
 use Rattle.nf_words.specs.Others.{IsItemSound}
-use Rattle.nf_words.specs.Prelude.{AreSound, deed_done, discarded, HasRoot, home_of, IsNodeSound, IsPlaceSound, IsUnmounted, LeadsToRoot, name_back, names_taken_in, purged, purged_all, restored, root_of_user}
-use Rattle.nf_words.specs.declared.answer.Deed.{Deed}
-use Rattle.nf_words.specs.declared.answer.Deed.TheVariants as deed
+use Rattle.nf_words.specs.Prelude.{AreSound, discarded, HasRoot, home_of, IsNodeSound, IsPlaceSound, IsUnmounted, LeadsToRoot, name_back, names_taken_in, purged, restored, root_of_user}
 
 -- ---- items
 
@@ -54,7 +49,7 @@ trash_no_root rows node row there place =
     ap (λ (o : Option NodeRow). option_map_or (λ row. is_root_place row.place) o false) there ∙ ap is_root_place place
 
 -- with an item that is put, those that were there are
-item_put : (item : ItemRow) (items : List ItemRow) (node : ℕ) → is_some (item_row items node) ≡ true
+pub item_put : (item : ItemRow) (items : List ItemRow) (node : ℕ) → is_some (item_row items node) ≡ true
     → is_some (item_row (put item_key item items) node) ≡ true
 item_put item items node is =
     elim (cases_Bool (node == item.node)) [
@@ -74,13 +69,17 @@ trash_other rows node other row there place differs =
     not_from_false (is_under rows other node) (false_from_ne_true (is_under rows other node) (λ under.
     let c = under_climb rows other node under in differs (trash_alone c.0 rows other node row there place c.2)))
 
--- what goes is no root
-goes_no_root : (t : Tables) (node : ℕ) → AreSound t → IsItem t node ⊎ KnownGone t node → is_root t.nodes node ≡ false
+-- what goes for good: an item, or what leaves its place
+abbrev pub Goes : Tables → ℕ → Type 0
+Goes t node = IsItem t node ⊎ ((row : NodeRow) × (row.id ≡ node) × KnownLeaving t row)
+
+-- it is no root
+goes_no_root : (t : Tables) (node : ℕ) → AreSound t → Goes t node → is_root t.nodes node ≡ false
 goes_no_root t node sound (inl is) = let top = item_top t node sound is in trash_no_root t.nodes node top.0 top.1 top.2
-goes_no_root t node sound (inr known) = known.no_root
+goes_no_root t node sound (inr known) = subst (λ (n : ℕ). is_root t.nodes n ≡ false) known.1 known.2.no_root
 
 -- without what goes for good the tables are sound
-pub purged_sound : (t : Tables) (node : ℕ) → AreSound t → IsItem t node ⊎ KnownGone t node → AreSound (purged t node)
+pub purged_sound : (t : Tables) (node : ℕ) → AreSound t → Goes t node → AreSound (purged t node)
 purged_sound t node sound goes =
     let gone : ℕ → Bool = λ other. is_under t.nodes other node in
     those_sound t gone (dropped item_key (node ∷ []) t.items) sound (folder_left t node sound)
@@ -352,88 +351,3 @@ pub restored_below : (t : Tables) (node folder : ℕ) (name : List ℕ) (other :
 restored_below t node folder name other sound known =
     let fits = restored_fits t node folder name sound known in
     below_leads t (dropped item_key (node ∷ []) t.items) node folder name fits.0 sound fits.1 other
-
--- ---- deeds
-
--- the deed and what goes leave the meta row alone, so that it may be stamped before or after
-pub deed_stamped : (t : Tables) (now : ℕ) (did : Deed) → deed_done (stamp t now) did ≡ stamp (deed_done t did) now
-deed_stamped t now deed.Nothing = refl
-deed_stamped t now (deed.Discard item) = refl
-deed_stamped t now (deed.Restore node folder name) = refl
-deed_stamped t now (deed.Requote row) = refl
-
-pub purged_stamped : (t : Tables) (now : ℕ) (gone : List ℕ) → purged_all (stamp t now) gone ≡ stamp (purged_all t gone) now
-purged_stamped t now [] = refl
-purged_stamped t now (node ∷ gone) = purged_stamped (purged t node) now gone
-
--- at any moment from which on the tables with the deed done may be stamped
-pub deed_sound_at : (t : Tables) (now moment : ℕ) (did : Deed) → AreSound t → t.meta.last ≤ moment → now ≤ moment → KnownDeed t now did
-    → AreSound (stamp (deed_done t did) moment)
-deed_sound_at t now moment deed.Nothing sound later after known = stamp_sound t moment sound later
-deed_sound_at t now moment (deed.Discard item) sound later after known =
-    discarded_sound (stamp t moment) item known.row item.from (stamp_sound t moment sound later)
-    (omega (arith, after, ap (λ (i : ItemRow). i.at) known.is)) known.there known.inside known.present (ap (λ (i : ItemRow). i.owner) known.is)
-deed_sound_at t now moment (deed.Restore node folder name) sound later after known =
-    stamp_sound (restored t node folder name) moment (restored_sound t node folder name sound known) later
-deed_sound_at t now moment (deed.Requote row) sound later after known =
-    stamp_sound (made t (Put (rows.User row))) moment (people_sound t (Put (rows.User row)) sound known) later
-
--- and so at the moment of the deed
-pub deed_sound : (t : Tables) (now : ℕ) (did : Deed) → AreSound t → t.meta.last ≤ now → KnownDeed t now did → AreSound (stamp (deed_done t did) now)
-deed_sound t now did sound later known = deed_sound_at t now now did sound later (le_refl _) known
-
--- ---- what goes, one after the other
-
--- where all are items
-goes_all : (t : Tables) (nodes : List ℕ) → All (IsItem t) nodes → KnownGoes t nodes
-goes_all t [] all = tt
-goes_all t (node ∷ nodes) all = (inl (All-head (IsItem t) node nodes all), All-tail (IsItem t) node nodes all)
-
--- those that go are known whatever the moment
-pub goes_stamped : (t : Tables) (now : ℕ) (gone : List ℕ) → KnownGoes t gone → KnownGoes (stamp t now) gone
-goes_stamped t now [] goes = tt
-goes_stamped t now (node ∷ gone) (inl is, rest) = (inl is, rest)
-goes_stamped t now (node ∷ gone) (inr is, rest) = (inr (record { no_root = is.no_root; there = is.there; present = is.present }), rest)
-
--- those that go are known in the tables with the deed done, and each in the tables without those before it
-pub goes_done : (t : Tables) (now : ℕ) (did : Deed) (gone : List ℕ) → AreSound t → KnownTrash t now did gone → KnownGoes (stamp (deed_done t did) now) gone
-goes_done t now deed.Nothing gone sound known = goes_stamped t now gone known.goes
-goes_done t now (deed.Discard item) gone sound known =
-    goes_all (stamp (discarded t item) now) gone
-    (All-weaker (IsItem t) (IsItem (stamp (discarded t item) now)) (item_put item t.items) gone (known.items (λ same. absurd (cc))))
-goes_done t now (deed.Restore node folder name) gone sound known =
-    goes_all (stamp (restored t node folder name) now) gone (λ k d within.
-    ap is_some (item_other node (get_or gone k d) t.items (λ same. known.stays k d within (ap Some (sym same))))
-    ∙ known.items (λ same. absurd (cc)) k d within)
-goes_done t now (deed.Requote row) gone sound known =
-    goes_all (stamp (deed_done t (deed.Requote row)) now) gone (known.items (λ same. absurd (cc)))
-
--- those behind the first go on
-pub goes_on : (t : Tables) (node : ℕ) (nodes : List ℕ) → AreSound t → KnownGoes t (node ∷ nodes) → AllPairs (λ (a b : ℕ). a ≢ b) (node ∷ nodes)
-    → KnownGoes (purged t node) nodes
-goes_on t node nodes sound goes once =
-    goes_all (purged t node) nodes (λ k d within.
-    ap is_some (item_other node (get_or nodes k d) t.items (λ same. once 0 (suc k) d (omega arith) (omega (arith, within)) (sym same))) ∙ goes.1 k d within)
-
--- what each removal keeps of a property of tables, all of them keep
-goes_has : (P : Tables → Type 0) (t : Tables) (gone : List ℕ) → AreSound t → KnownGoes t gone → AllPairs (λ (a b : ℕ). a ≢ b) gone → P t
-    → ((u : Tables) (node : ℕ) → AreSound u → IsItem u node ⊎ KnownGone u node → P u → P (purged u node)) → P (purged_all t gone)
-goes_has P t [] sound goes once has keeps = has
-goes_has P t (node ∷ gone) sound goes once has keeps =
-    goes_has P (purged t node) gone (purged_sound t node sound goes.0) (goes_on t node gone sound goes once)
-    (λ i j d before within. once (suc i) (suc j) d (omega (arith, before)) (omega (arith, within))) (keeps t node sound goes.0 has) keeps
-
--- what every deed that is done, and every removal, keeps of a property of tables, all of them keep: induction over what goes
-pub trash_has : (P : Tables → Type 0) (t : Tables) (now : ℕ) (did : Deed) (gone : List ℕ) → AreSound t → t.meta.last ≤ now → KnownTrash t now did gone
-    → P (stamp (deed_done t did) now)
-    → ((u : Tables) (node : ℕ) → AreSound u → IsItem u node ⊎ KnownGone u node → P u → P (purged u node))
-    → P (stamp (purged_all (deed_done t did) gone) now)
-trash_has P t now did gone sound later known has keeps =
-    subst P (purged_stamped (deed_done t did) now gone)
-    (goes_has P (stamp (deed_done t did) now) gone (deed_sound t now did sound later known.known) (goes_done t now did gone sound known) known.once has keeps)
-
--- so the tables with a deed done and without what goes are sound
-pub trash_sound : (t : Tables) (now : ℕ) (did : Deed) (gone : List ℕ) → AreSound t → t.meta.last ≤ now → KnownTrash t now did gone
-    → AreSound (stamp (purged_all (deed_done t did) gone) now)
-trash_sound t now did gone sound later known =
-    trash_has AreSound t now did gone sound later known (deed_sound t now did sound later known.known) (λ u node fine goes is. purged_sound u node is goes)

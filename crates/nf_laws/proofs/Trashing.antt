@@ -1,49 +1,40 @@
--- No act but those of the trash changes what is in it: the same rows are there afterwards, and all others are present.
-use Rattle.std.proofs.Common.{ℕ, zero, suc, ◌+◌, ◌==◌, ◌&&◌, ◌≡◌, ◌<◌, ◌≤◌, Bool, true, false, not, List, [], ◌∷◌, ◌++◌, Option, None, Some, Ok, get_or, length, if◌then◌else◌, inl, inr, refl, sym, ap, subst, ◌∙◌, arith}
+-- No act but one with deeds changes what is in the trash: the same rows are there afterwards, and all others are present.
+use Rattle.std.proofs.Common.{ℕ, ◌==◌, ◌&&◌, ◌≡◌, ◌≤◌, Bool, true, false, not, List, [], ◌∷◌, ◌++◌, Option, None, Some, Ok, get_or, if◌then◌else◌, inl, inr, refl, sym, ap, subst, ◌∙◌, arith}
 use Rattle.std.specs.Prelude.{is_some, sum_by}
 use Rattle.std.specs.List.{All}
 use Rattle.std.specs.Option.{option_and_then}
 use Rattle.std.proofs.lemmas.Bool.{and_cases, and_parts, both_ways, cases_Bool, false_from_ne_true, not-false, not-true, not_from_false}
 use Rattle.std.proofs.lemmas.List.{append-nil}
-use Rattle.std.proofs.lemmas.List.Elements.{All-append, All-cons, All-filter, All-nil, All-weaker, filter-append, filter_passes}
+use Rattle.std.proofs.lemmas.List.Elements.{All-append, All-cons, All-nil, filter-append}
 use Rattle.std.proofs.lemmas.List.Filters.{sum_by-filter_both}
 use Rattle.nf_base.specs.declared.changes.Change.{Change}
 use Rattle.nf_base.specs.declared.rows.NodeRow.{NodeRow}
 use Rattle.nf_defs.proofs.Climbs.{under_climb}
-use Rattle.nf_defs.specs.Prelude.{child_of, filled, folder_of, is_present, is_root_place, is_under, node_row, relinked, Tables, with_node, without_under}
+use Rattle.nf_defs.specs.Prelude.{filled, folder_of, is_present, is_root_place, node_row, Tables, with_node}
 use Rattle.nf_laws.proofs.Added.{new_there}
 use Rattle.nf_laws.proofs.Charging.{sums_agree}
 use Rattle.nf_laws.proofs.Climbs.{climb_passes, climb_same, IsClosed, node_row_each, parent_at, row_of_those, some_there, those}
-use Rattle.nf_laws.proofs.Copied.{copied_sound, copies_numbered, copy_at, copy_in, copy_there, crossed_present}
-use Rattle.nf_laws.proofs.Crossed.{none_pass}
 use Rattle.nf_laws.proofs.Entries.{entry_has}
-use Rattle.nf_laws.proofs.Gone.{cleared_leads, clearing_sound, folder_stays, kept_cleared, left_leads}
 use Rattle.nf_laws.proofs.Lists.{nodes_have}
-use Rattle.nf_laws.proofs.Mirrored.{mirrored}
-use Rattle.nf_laws.proofs.Moved.{transferred_leads}
 use Rattle.nf_laws.proofs.OneRow.{filter_with, KeepsId, with_each}
 use Rattle.nf_laws.proofs.Presence.{leads_present, present_there}
-use Rattle.nf_laws.proofs.Present.{below_present, kept_leads, never_trash, root_leads}
+use Rattle.nf_laws.proofs.Present.{kept_leads, never_trash, root_leads}
 use Rattle.nf_laws.proofs.Replaced.{kept_replaced}
-use Rattle.nf_laws.proofs.Rows.{AreKept, kept_joined, parent_there, row_id, row_is, stamp, stamped_has}
+use Rattle.nf_laws.proofs.Rows.{AreKept, kept_joined, parent_there, row_id, row_is, stamped_has}
 use Rattle.nf_laws.proofs.Sizes.{weight}
-use Rattle.nf_laws.proofs.Sources.{filter_left}
 use Rattle.nf_laws.proofs.Stays.{sound_after}
 use Rattle.nf_laws.proofs.Weighing.{parts_sum}
 use Rattle.nf_laws.specs.Charges.{bytes_trashed, owned_bytes, trashed_bytes}
-use Rattle.nf_laws.specs.Transfers.{Mirrors}
 use Rattle.nf_laws.specs.Tree.{IsTrashed}
 use Rattle.nf_words.proofs.Ends.{known_change}
 use Rattle.nf_words.proofs.Fits.{KnownChange}
-use Rattle.nf_words.proofs.Found.{child_parent}
-use Rattle.nf_words.proofs.Known.{Known, KnownCopies, KnownMove, KnownTransfer}
+use Rattle.nf_words.proofs.Known.{Known}
 use Rattle.nf_words.proofs.Ways.{inside_present}
-use Rattle.nf_words.specs.Prelude.{after, altered, AreSound, cleared, decision_of, IsSound, joined, LeadsToRoot, MayCome, State, told, transferred}
+use Rattle.nf_words.specs.Prelude.{after, altered, AreSound, decision_of, IsSound, LeadsToRoot, MayCome, State, told}
 use Rattle.nf_words.specs.declared.answer.Allowed.{Allowed}
 use Rattle.nf_words.specs.declared.answer.Allowed.TheVariants as allowed
 use Rattle.nf_words.specs.declared.answer.Report.{Report}
 use Rattle.nf_words.specs.declared.history.Entry.{Entry}
-use Rattle.nf_words.specs.declared.request.Transfer.{Transfer}
 
 -- a node that is there and not present
 abbrev pub is_gone : Tables → ℕ → Bool
@@ -122,68 +113,36 @@ module _ (t : Tables) (sound : AreSound t) where
         let top = climb_passes gone t.nodes gone_closed up.0 node trash.top.id up.2 is in
         never_trash up.0 rows node trash.top.id trash.top present (climbs ∙ up.2) (row_same trash.top.id top ∙ trash.there) trash.place)
 
-    -- with more rows, which are present
-    more_kept : (more : List NodeRow) → All (λ (row : NodeRow). t.meta.next_node ≤ row.id) more
-        → All (λ (row : NodeRow). LeadsToRoot (rows ++ more) row.id) more → KeepsTrash t (rows ++ more)
-    more_kept more fresh up = record {
-      same =
-          filter-append (λ (row : NodeRow). gone row.id) rows more
-          ∙ ap (λ (others : List NodeRow). those gone rows ++ others)
-          (none_pass (λ (row : NodeRow). gone row.id) more (λ k d within. fresh_stays (get_or more k d).id (fresh k d within)))
-          ∙ append-nil (those gone rows) ∙ kept.same;
-      present = All-append (λ (row : NodeRow). gone row.id ≡ false → LeadsToRoot (rows ++ more) row.id) rows more
-          (All-weaker (λ (row : NodeRow). gone row.id ≡ false → LeadsToRoot rows row.id) (λ (row : NodeRow). gone row.id ≡ false → LeadsToRoot (rows ++ more) row.id)
-          (λ row present stays. kept_leads rows (rows ++ more) row.id (kept_joined rows more) (present stays)) rows kept.present)
-          (λ k d within stays. up k d within);
-    }
-
+    -- with a new row, which is present
     born_kept : (row : NodeRow) → t.meta.next_node ≤ row.id → LeadsToRoot (rows ++ row ∷ []) row.id → KeepsTrash t (rows ++ row ∷ [])
-    born_kept row fresh up =
-        more_kept (row ∷ [])
-        (All-cons (λ (row : NodeRow). t.meta.next_node ≤ row.id) row [] fresh (All-nil (λ (row : NodeRow). t.meta.next_node ≤ row.id)))
-        (All-cons Leads row [] up (All-nil Leads))
+    born_kept row fresh up = record {
+      same =
+          filter-append (λ (row : NodeRow). gone row.id) rows (row ∷ [])
+          ∙ ap (λ (more : List NodeRow). those gone rows ++ more) (simp (fresh_stays row.id fresh) refl)
+          ∙ append-nil (those gone rows) ∙ kept.same;
+      present = All-append Leads rows (row ∷ [])
+          (λ k d within stays. kept_leads rows (rows ++ row ∷ []) (get_or rows k d).id (kept_joined rows (row ∷ [])) (kept.present k d within stays))
+          (All-cons Leads row [] (λ stays. up) (All-nil Leads));
+    }
       where
         Leads : NodeRow → Type 0
-        Leads new = LeadsToRoot (rows ++ row ∷ []) new.id
+        Leads one = gone one.id ≡ false → LeadsToRoot (rows ++ row ∷ []) one.id
 
-    -- with another row of what is present, where all else that is present stays so
-    with_kept : (node : ℕ) (change : NodeRow → NodeRow) → KeepsId change → LeadsToRoot rows node
-        → All (λ (row : NodeRow). gone row.id ≡ false → LeadsToRoot (with_node rows node change) row.id) rows → KeepsTrash t (with_node rows node change)
-    with_kept node change keeps up present =
-        let made = with_node rows node change in
-        record {
-          same = filter_with (λ (row : NodeRow). gone row.id) rows node change
-              (λ row is.
-              let stays = ap gone (row_id rows node row is) ∙ present_stays node up in
-              (stays, ap gone (keeps row) ∙ stays)) ∙ kept.same;
-          present = with_each (λ (row : NodeRow). gone row.id ≡ false → LeadsToRoot made row.id)
-              (λ (row : NodeRow). gone row.id ≡ false → LeadsToRoot made row.id) rows node change (λ row h. h)
-              (λ row is. subst (λ (n : ℕ). gone n ≡ false → LeadsToRoot made n) (sym (keeps row))) present;
-        }
-
+    -- with another row of what is present, where each node keeps its place
     filled_kept : (node : ℕ) (change : NodeRow → NodeRow) → KeepsId change → LeadsToRoot rows node → AreKept rows (with_node rows node change)
         → KeepsTrash t (with_node rows node change)
-    filled_kept node change keeps up same =
-        with_kept node change keeps up
-        (λ k d within stays. kept_leads rows (with_node rows node change) (get_or rows k d).id same (kept.present k d within stays))
-
-  -- without what is under what is present
-  left_kept : (u : Tables) (top : ℕ) → AreSound u → KeepsTrash t u.nodes → LeadsToRoot u.nodes top → KeepsTrash t (without_under u.nodes top)
-  left_kept u top fine kept up = record {
-    same =
-        filter_left (λ (row : NodeRow). gone row.id) left u.nodes (λ k d within under.
-        let node = (get_or u.nodes k d).id in
-        let c = under_climb u.nodes node top (not-false (is_under u.nodes node top) under) in
-        present_stays u.nodes kept node (below_present c.0 u.nodes node top c.2 up))
-        ∙ kept.same;
-    present = λ k d within stays.
-        left_leads u top (get_or (without_under u.nodes top) k d).id fine
-        (not-true (is_under u.nodes (get_or (without_under u.nodes top) k d).id top) (filter_passes left u.nodes k d within))
-        (All-filter left (λ (row : NodeRow). gone row.id ≡ false → LeadsToRoot u.nodes row.id) u.nodes kept.present k d within stays);
-  }
-    where
-      left : NodeRow → Bool
-      left row = not (is_under u.nodes row.id top)
+    filled_kept node change keeps up same = record {
+      same = filter_with (λ (row : NodeRow). gone row.id) rows node change
+          (λ row is.
+          let stays = ap gone (row_id rows node row is) ∙ present_stays node up in
+          (stays, ap gone (keeps row) ∙ stays)) ∙ kept.same;
+      present = with_each Leads Leads rows node change (λ row h. h)
+          (λ row is. subst (λ (n : ℕ). gone n ≡ false → LeadsToRoot (with_node rows node change) n) (sym (keeps row)))
+          (λ k d within stays. kept_leads rows (with_node rows node change) (get_or rows k d).id same (kept.present k d within stays));
+    }
+      where
+        Leads : NodeRow → Type 0
+        Leads row = gone row.id ≡ false → LeadsToRoot (with_node rows node change) row.id
 
   -- just what isn't present in sound tables that keep it is in the trash
   gone_is : (made : Tables) → AreSound made → KeepsTrash t made.nodes
@@ -224,7 +183,7 @@ trash_same t made user sound later kept =
           sum_by-filter_both (λ (row : NodeRow). is_gone t row.id) (λ (row : NodeRow). not (is_gone t row.id)) (λ row. refl) (owned_bytes user) u.nodes,
         )
 
--- ---- every act but those of the trash
+-- ---- changes of rows
 
 changes_kept : (t : Tables) (now : ℕ) (changes : List Change) (blob : Option ℕ) (report : Report) → AreSound t → KnownChange t now changes blob
     → KeepsTrash t (altered t now (allowed.Change changes blob report)).nodes
@@ -245,83 +204,21 @@ changes_kept t now changes blob report sound known =
     (rw (new_there u.nodes root it.1.newest_node) (ap is_root_place it.1.place))))
     (all_kept t sound)
 
-module _ (t : Tables) (transfer : Transfer) (name : List ℕ) (sound : AreSound t) (known : KnownTransfer t transfer name) where
-  abbrev left : List NodeRow
-  left = cleared t.nodes transfer.replaced
+-- ---- acts without deeds
 
-  -- what has to go, if anything has, is in the folder
-  cleared_kept : KeepsTrash t left
-  cleared_kept = here transfer.replaced known.there
-    where
-      here : (replaced : Option ℕ) → child_of t.nodes transfer.folder name ≡ replaced → KeepsTrash t (cleared t.nodes replaced)
-      here None is = all_kept t sound
-      here (Some top) is =
-          left_kept t sound t top sound (all_kept t sound)
-          (inside_present t.nodes top transfer.folder (child_parent t.nodes transfer.folder name top sound.rising is) known.folder_present)
-
-  transferred_kept : KnownMove t transfer name → KeepsTrash t (transferred t transfer name).nodes
-  transferred_kept move =
-      with_kept t sound left cleared_kept transfer.node (relinked transfer.folder name) (λ row. refl)
-      (cleared_leads t transfer.replaced transfer.node sound known.apart known.present)
-      (λ k d within stays.
-      let row = get_or left k d in
-      let was = kept_cleared t.nodes transfer.replaced row.id row
-      (node_row_each left (clearing_sound t transfer name sound known).rising k d within) in
-      transferred_leads t transfer name row.id sound move was.0 (stays_present t sound row.id row was.1 stays))
-
-  module _ (now : ℕ) (rows : List NodeRow) (mirrors : Mirrors t now transfer name rows) where
-    abbrev with_copies : List NodeRow
-    with_copies = left ++ rows
-
-    -- each copy is in the folder, or in one before it
-    copy_leads : (d : NodeRow) (m k : ℕ) → k < m → k < length rows → LeadsToRoot with_copies (t.meta.next_node + k)
-    copy_leads d zero k before within = absurd (omega arith)
-    copy_leads d (suc m) zero before within =
-        let node = t.meta.next_node + 0 in
-        let stays = folder_stays t transfer.replaced transfer.folder name sound known.there in
-        inside_present with_copies node transfer.folder
-        (parent_at with_copies node transfer.folder (get_or rows 0 d) (copy_there t now transfer name rows mirrors sound known d 0 within)
-        (copy_at t now transfer name rows mirrors 0 d within).placed.0)
-        (kept_leads left with_copies transfer.folder (kept_joined left rows) (cleared_leads t transfer.replaced transfer.folder sound stays known.folder_present))
-    copy_leads d (suc m) (suc k) before within =
-        let c = copy_in t now transfer name rows mirrors sound k d within in
-        let node = t.meta.next_node + suc k in
-        let above = t.meta.next_node + c.at in
-        inside_present with_copies node above
-        (parent_at with_copies node above (get_or rows (suc k) d) (copy_there t now transfer name rows mirrors sound known d (suc k) within) c.place)
-        (copy_leads d m c.at (omega (arith, c.before)) (omega (arith, c.before)))
-
-    copies_kept : KeepsTrash t with_copies
-    copies_kept =
-        more_kept t sound left cleared_kept rows (λ k d within. (copies_numbered t now transfer name rows mirrors k d within).0)
-        (λ k d within.
-        subst (LeadsToRoot with_copies) (sym (copy_at t now transfer name rows mirrors k d within).id) (copy_leads d (suc k) k (omega arith) within))
-
-copied_kept : (t : Tables) (now : ℕ) (rows : List NodeRow) (replaced : Option ℕ) → AreSound t → KnownCopies t now rows replaced
-    → KeepsTrash t (joined t rows replaced).nodes
-copied_kept t now rows replaced sound known =
-    subst (λ (o : Option ℕ). KeepsTrash t (cleared t.nodes o ++ rows)) (sym known.replaced_is)
-    (copies_kept t known.transfer known.name sound known.known now rows (mirrored t now rows replaced sound known))
-
--- it is none of the trash
 abbrev pub IsOther : Allowed → Type 0
-IsOther (allowed.Trash did gone report) = ⊥
+IsOther (allowed.Deeds deeds report) = ⊥
 IsOther act = Unit {0}
 
 pub act_kept : (t : Tables) (now : ℕ) (act : Allowed) → AreSound t → t.meta.last ≤ now → Known t now act → IsOther act
     → KeepsTrash t (altered t now act).nodes
 act_kept t now (allowed.Change changes blob report) sound later known other = changes_kept t now changes blob report sound known
-act_kept t now (allowed.Trash did gone report) sound later known other = absurd other
-act_kept t now (allowed.Move transfer name) sound later known other = transferred_kept t transfer name sound known.known known
-act_kept t now (allowed.Copy rows replaced) sound later known other = copied_kept t now rows replaced sound known
-act_kept t now (allowed.Cross rows replaced node) sound later known other =
-    left_kept t sound (stamp (joined t rows replaced) now) node (copied_sound t now rows replaced sound later known.copies)
-    (copied_kept t now rows replaced sound known.copies) (crossed_present t now rows replaced node sound known)
+act_kept t now (allowed.Deeds deeds report) sound later known other = absurd other
 act_kept t now act sound later known other = all_kept t sound
 
 -- ---- the law
 
--- after each entry whose act is none of the trash as many bytes of a user's are in it as before
+-- after each entry whose act has no deeds as many bytes of a user's are in the trash as before
 pub trash_after : (n : ℕ) (s : State) (e : Entry) (user : ℕ) → IsSound s → MayCome n s e
     → ((act : Allowed) → decision_of s e.seat e.moment e.event ≡ Ok act → IsOther act)
     → bytes_trashed (after s e).tables user ≡ bytes_trashed s.tables user

@@ -1,5 +1,5 @@
 -- What all under a node weighs: the bytes that its owner has less once it is gone, and that the owner of copies of it has more.
-use Rattle.std.proofs.Common.{ℕ, suc, ◌+◌, ◌==◌, ◌&&◌, ◌≡◌, ◌<◌, ◌≤◌, Bool, true, false, not, List, [], ◌∷◌, Option, None, Some, filter, if◌then◌else◌, get_or, inl, inr, refl, sym, ap, subst, ◌∙◌, arith}
+use Rattle.std.proofs.Common.{ℕ, suc, ◌+◌, ◌==◌, ◌&&◌, ◌≡◌, ◌<◌, Bool, true, false, not, List, [], ◌∷◌, Option, None, Some, filter, if◌then◌else◌, get_or, inl, inr, refl, sym, ap, subst, ◌∙◌, arith}
 use Rattle.std.specs.Prelude.{sum_by}
 use Rattle.std.specs.List.{All, list_any}
 use Rattle.std.specs.Option.{option_map_or}
@@ -7,12 +7,12 @@ use Rattle.std.specs.Cmp.{both_ways}
 use Rattle.std.proofs.lemmas.Bool.{and_from, and_parts, cases_Bool, cond_both, eq-eqb, eqb-true, false≢true, ne_eqb}
 use Rattle.std.proofs.lemmas.List.Folds.{list_any_at}
 use Rattle.std.proofs.lemmas.List.Sums.{sum_by-cons}
-use Rattle.std.proofs.lemmas.Option.{get_or_from_slice_get, none-some, option_and_then_some, same_Some}
+use Rattle.std.proofs.lemmas.Option.{get_or_from_slice_get, none-some, same_Some}
 use Rattle.nf_base.specs.declared.content.Piece.{Piece}
 use Rattle.nf_base.specs.declared.rows.NodeRow.{NodeRow}
 use Rattle.nf_base.specs.declared.rows.UserRow.{UserRow}
 use Rattle.nf_defs.proofs.Climbs.{climb_under, under_climb, walk_among}
-use Rattle.nf_defs.specs.Prelude.{child_of, depth, folder_of, is_present, is_under, node_row, owner_of, parent_of, Tables, user_row, walk_of, with_node, without_under}
+use Rattle.nf_defs.specs.Prelude.{depth, is_present, is_under, node_row, owner_of, Tables, user_row, walk_of, with_node, without_under}
 use Rattle.nf_laws.proofs.Charging.{alike, sums_agree}
 use Rattle.nf_laws.proofs.Climbs.{node_row_each}
 use Rattle.nf_laws.proofs.Copied.{copy_at, same_sum}
@@ -20,16 +20,16 @@ use Rattle.nf_laws.proofs.Lists.{Rising}
 use Rattle.nf_laws.proofs.Mirrored.{mirrored}
 use Rattle.nf_laws.proofs.Paths.{climb_own, IsOf, root_own}
 use Rattle.nf_laws.proofs.Presence.{present_there}
-use Rattle.nf_laws.proofs.Rows.{found_is, finds_none, parent_there}
+use Rattle.nf_laws.proofs.Rows.{found_is, finds_none}
 use Rattle.nf_laws.proofs.Sizes.{nothing, sizes_sum, weight, weight_if}
 use Rattle.nf_laws.proofs.Upwards.{climbs_own, trashed_by}
 use Rattle.nf_laws.proofs.Walked.{AreDistinct, walk_distinct}
 use Rattle.nf_laws.specs.Charges.{bytes_owned, ChargeIsSizeOfRoot, owned_bytes}
 use Rattle.nf_laws.specs.Transfers.{Mirrors}
-use Rattle.nf_words.proofs.Found.{child_parent, found_passes}
-use Rattle.nf_words.proofs.Known.{KnownCopies, KnownTransfer}
+use Rattle.nf_words.proofs.Found.{found_passes}
+use Rattle.nf_words.proofs.Ways.{HasRow}
 use Rattle.nf_words.specs.Listing.{size_of}
-use Rattle.nf_words.specs.Prelude.{AreSound, bytes_of, charge_of, cleared, counted_for, root_of_user}
+use Rattle.nf_words.specs.Prelude.{AreSound, bytes_of, charge_of, copies_to, counted_for, root_of_user}
 use Rattle.nf_words.specs.declared.request.Transfer.{Transfer}
 
 -- ---- nodes that are each counted once
@@ -157,61 +157,30 @@ without_owned t top user of sound there =
     (λ (row : NodeRow). if of.owner == user then weight_under t.nodes top row else 0) t.nodes (under_owned t top user of sound there)))
     ∙ parts_sum (owned_bytes user) (λ row. is_under t.nodes row.id top) t.nodes
 
--- nobody has more
-pub without_fewer : (rows : List NodeRow) (top user : ℕ) → bytes_owned (without_under rows top) user ≤ bytes_owned rows user
-without_fewer rows top user = omega (arith, parts_sum (owned_bytes user) (λ row. is_under rows row.id top) rows)
+-- ---- copies
 
-pub cleared_fewer : (rows : List NodeRow) (replaced : Option ℕ) (user : ℕ) → bytes_owned (cleared rows replaced) user ≤ bytes_owned rows user
-cleared_fewer rows None user = omega arith
-cleared_fewer rows (Some top) user = without_fewer rows top user
-
--- ---- what is put in a folder
-
--- what is in a folder is its owner's
-inside_owned : (t : Tables) (node folder : ℕ) → AreSound t → parent_of t.nodes node ≡ Some folder
-    → (row : NodeRow) × (node_row t.nodes node ≡ Some row) × (row.owner ≡ owner_of t.nodes folder)
-inside_owned t node folder sound above =
-    option_and_then_some (λ row. folder_of row.place) (node_row t.nodes node) folder above (λ row there placed.
-    let in_folder = parent_there t node folder row sound there above in
-    (row, there, sym (ap (λ (o : Option NodeRow). option_map_or (λ row. row.owner) o 0) in_folder.1 ∙ in_folder.3)))
-
--- so where something there has to go, the folder's owner has its size less
-pub cleared_owned : (t : Tables) (transfer : Transfer) (name : List ℕ) (user : ℕ) → AreSound t → KnownTransfer t transfer name
-    → bytes_owned (cleared t.nodes transfer.replaced) user
-    + (if owner_of t.nodes transfer.folder == user then option_map_or (size_of t.nodes) transfer.replaced 0 else 0) ≡ bytes_owned t.nodes user
-cleared_owned t transfer name user sound known = here transfer.replaced known.there
-  where
-    here : (replaced : Option ℕ) → child_of t.nodes transfer.folder name ≡ replaced
-        → bytes_owned (cleared t.nodes replaced) user
-        + (if owner_of t.nodes transfer.folder == user then option_map_or (size_of t.nodes) replaced 0 else 0) ≡ bytes_owned t.nodes user
-    here None is = omega (arith, alike (owner_of t.nodes transfer.folder == user) 0)
-    here (Some top) is =
-        let of = inside_owned t top transfer.folder sound (child_parent t.nodes transfer.folder name top sound.rising is) in
-        ap (λ (owner : ℕ). bytes_owned (without_under t.nodes top) user + (if owner == user then size_of t.nodes top else 0)) (sym of.2)
-        ∙ without_owned t top user of.0 sound of.1
-
--- and of copies that are put there the folder's owner has the size of what they are copies of
-pub copies_owned : (t : Tables) (now user : ℕ) (rows : List NodeRow) (replaced : Option ℕ) → AreSound t → (known : KnownCopies t now rows replaced)
-    → bytes_owned rows user ≡ (if owner_of t.nodes known.transfer.folder == user then size_of t.nodes known.transfer.node else 0)
-copies_owned t now user rows replaced sound known =
+-- of copies that are put in a folder its owner has the size of what they are copies of
+pub copies_owned : (t : Tables) (now user : ℕ) (transfer : Transfer) (name : List ℕ) → AreSound t → HasRow t.nodes transfer.node
+    → bytes_owned (copies_to t now transfer name) user ≡ (if owner_of t.nodes transfer.folder == user then size_of t.nodes transfer.node else 0)
+copies_owned t now user transfer name sound there =
     sums_agree (owned_bytes user) (λ (row : NodeRow). if owner_of t.nodes transfer.folder == user then weight row else 0) rows
-    (λ k d within. ap (λ (owner : ℕ). if owner == user then weight (get_or rows k d) else 0) (copy_at t now transfer known.name rows mirrors k d within).owner)
+    (λ k d within. ap (λ (owner : ℕ). if owner == user then weight (get_or rows k d) else 0) (copy_at t now transfer name rows mirrors k d within).owner)
     ∙ sum_if (owner_of t.nodes transfer.folder == user) weight rows
     ∙ ap (λ (size : ℕ). if owner_of t.nodes transfer.folder == user then size else 0) (same ∙ sym (sizes_sum t transfer.node sound))
   where
-    transfer : Transfer
-    transfer = known.transfer
+    rows : List NodeRow
+    rows = copies_to t now transfer name
 
     walk : List ℕ
     walk = walk_of t.nodes transfer.node
 
-    mirrors : Mirrors t now transfer known.name rows
-    mirrors = mirrored t now rows replaced sound known
+    mirrors : Mirrors t now transfer name rows
+    mirrors = mirrored t now transfer name sound there
 
     same : sum_by weight rows ≡ sum_by (bytes_of t.nodes) walk
     same =
         same_sum weight (bytes_of t.nodes) rows walk mirrors.all (λ k d e within.
-        let copy = copy_at t now transfer known.name rows mirrors k d within in
+        let copy = copy_at t now transfer name rows mirrors k d within in
         ap (sum_by (λ (piece : Piece). piece.size)) (copy.content ∙ sym (ap (λ (o : Option NodeRow). option_map_or (λ row. row.content) o []) copy.there))
         ∙ ap (bytes_of t.nodes) (sym (get_or_from_slice_get walk k copy.node e copy.at_index)))
 

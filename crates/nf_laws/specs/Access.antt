@@ -24,14 +24,14 @@ use Rattle.nf_defs.specs.declared.Seeker.{Seeker}
 use Rattle.nf_defs.specs.declared.Seeker.TheVariants.{User}
 use Rattle.nf_laws.specs.Reads.{IsFreeToRead, IsWellAsked}
 use Rattle.nf_laws.specs.Tree.{Under}
-use Rattle.nf_words.specs.Prelude.{access_of, after, answer_to, asker_of, behind, Call, call_of, ended_row, goal_at, home_of, is_joined, is_member, IsModest, IsSound, kind_of, kind_to, last_name, listing_of, may_by, MayCome, MayWant, membership, mount_of, name_back, Need, needed, needed_by, new_root, new_user, own_item, people_limit, perms_after, purged_all, receiver_named, restored, root_of, row_named, seeker_of, set_fault, set_row, State, until_after, usual_perms}
+use Rattle.nf_words.specs.Prelude.{access_of, after, answer_to, asker_of, behind, Call, call_of, deeds_done, ended_row, goal_at, home_of, is_joined, is_member, IsModest, IsSound, kind_of, kind_to, last_name, listing_of, may_by, MayCome, MayWant, membership, mount_of, name_back, Need, needed, needed_by, new_root, new_user, own_item, people_limit, perms_after, purges, receiver_named, restored, root_of, row_named, seeker_of, set_fault, set_row, State, until_after, usual_perms}
 use Rattle.nf_words.specs.Tokens.{link_token}
 use Rattle.nf_words.specs.declared.answer.Goal.{Goal}
 use Rattle.nf_words.specs.declared.answer.Goal.TheVariants.{Serve, Store}
 use Rattle.nf_words.specs.declared.answer.Reply.TheVariants.{Granted, Listing}
 use Rattle.nf_words.specs.declared.history.Entry.{Entry}
 use Rattle.nf_words.specs.declared.history.Event.{Event}
-use Rattle.nf_words.specs.declared.history.Event.TheVariants.{Begin, End}
+use Rattle.nf_words.specs.declared.history.Event.TheVariants.{Begin, End, Sweep}
 use Rattle.nf_words.specs.declared.listing.ListingLine.{ListingLine}
 use Rattle.nf_words.specs.declared.request.PeopleAsk.{PeopleAsk}
 use Rattle.nf_words.specs.declared.request.PeopleAsk.TheVariants as people
@@ -148,11 +148,13 @@ seeker_of_goal (Store by key length) = Some by.seeker
 abbrev pub needs_of : State → ℕ → ℕ → Event → List Need
 needs_of s seat now (Begin words request) = needed (call_of s seat now words request)
 needs_of s seat now (End outcome) = option_map_or needs_of_goal (goal_at s seat) []
+needs_of s seat now Sweep = []
 
 -- who asks, or was granted to store
 abbrev pub seeker_at : State → ℕ → ℕ → Event → Option Seeker
 seeker_at s seat now (Begin words request) = Some (seeker_of (call_of s seat now words request))
 seeker_at s seat now (End outcome) = option_and_then seeker_of_goal (goal_at s seat)
+seeker_at s seat now Sweep = None
 
 -- ---- what is changed
 
@@ -380,21 +382,25 @@ pub record IsRestoring (s : State) (e : Entry) (after : Tables) : Type 0 where
   pub free : child_of s.tables.nodes (home_of s.tables item) (name_back s.tables item) ≡ None
   pub rows : after ≡ record (restored s.tables node (home_of s.tables item) (name_back s.tables item)) { meta = after.meta }
 
--- whose trash is settled: that of the owner of what is deleted, of who asks about the trash, or of a user whose quota is set
+-- whose trash is settled: that of the owner of what is deleted, of who asks about the trash, or of a user whose quota is set; by a sweep
+-- everyone's
 pub data Settles (s : State) (e : Entry) : ℕ → Type 0 where
   by_delete : (node : ℕ) → IsNeeded (needs_of s e.seat e.moment e.event) Delete node → Settles s e (owner_of s.tables.nodes node)
   by_asking : (words : Words) (request : Request) (asked : TrashAsk) → e.event ≡ Begin words request → request.wanted ≡ Trash asked
       → Settles s e (asker_of (call_of s e.seat e.moment words request))
   by_quota : (words : Words) (request : Request) (user : List ℕ) (quota : ℕ) (row : UserRow) → e.event ≡ Begin words request
       → request.wanted ≡ People (people.SetQuota user quota) → row_named s.tables user ≡ Some row → Settles s e row.id
+  by_sweep : (user : ℕ) → e.event ≡ Sweep → Settles s e user
 
--- some items in the trash of one user, whose trash is settled, go for good then, each with all under it
+-- the node is an item of a user whose trash is settled
+abbrev pub IsItemSettled : State → Entry → ℕ → Type 0
+IsItemSettled s e node = (item : ItemRow) × (item_row s.tables.items node ≡ Some item) × Settles s e item.owner
+
+-- some items in trashes that are settled go for good then, each with all under it
 pub record IsSettled (s : State) (e : Entry) (before after : Tables) : Type 0 where
-  pub user : ℕ
   pub tops : List ℕ
-  pub items : All (λ (top : ℕ). (item : ItemRow) × (item_row s.tables.items top ≡ Some item) × (item.owner ≡ user)) tops
-  pub settles : tops ≢ [] → Settles s e user
-  pub gone : after ≡ purged_all before tops
+  pub items : All (IsItemSettled s e) tops
+  pub gone : after ≡ deeds_done before (purges tops)
 
 -- ---- what a step changes
 
@@ -415,7 +421,7 @@ pub record NodesAllowed (s : State) (e : Entry) (after : Tables) : Type 0 where
     items = after.items;
   }
 
--- and then the trash of one user is settled, if it is
+-- and then trashes are settled, if any are
 pub record ChangesAllowed (s : State) (e : Entry) (after : Tables) : Type 0 where
   pub between : Tables
   pub allowed : NodesAllowed s e between ⊎ (IsProviding s e between ⊎ IsRestoring s e between)

@@ -1,5 +1,5 @@
--- What a DELETE, a MKCOL, a PUT and a MOVE change, and that they change nothing else.
-use Rattle.std.specs.Prelude.{◌≡◌, ◌≢◌, ◌⊎◌, ℕ, ◌+◌, ◌<◌, Bool, true, false, List, [], length, Option, None, Some, Ok, IsOk, IfSome, slice_get, All, Contains}
+-- What a DELETE, a MKCOL, a PUT, a MOVE of a mount and a sweep change, and what is asked about the trash, and that they change nothing else.
+use Rattle.std.specs.Prelude.{◌≡◌, ◌≢◌, ◌↔◌, ◌≤◌, ◌⊎◌, ℕ, ◌+◌, Bool, true, false, List, [], ◌∷◌, length, Option, None, Some, Ok, IsOk, IfSome, All, Contains}
 use Rattle.nf_access.specs.Mounts.{mount_row}
 use Rattle.nf_access.specs.Shares.{share_row}
 use Rattle.nf_base.specs.declared.content.Piece.{Piece}
@@ -10,26 +10,22 @@ use Rattle.nf_base.specs.declared.rows.NodeRow.{NodeRow}
 use Rattle.nf_base.specs.declared.rows.Place.TheVariants.{Inside}
 use Rattle.nf_base.specs.declared.rows.Place.TheVariants as place
 use Rattle.nf_base.specs.declared.rows.ShareRow.{ShareRow}
-use Rattle.nf_defs.specs.Prelude.{child_of, is_folder, is_folder_kind, is_present, is_under, item_row, node_row, owner_of, relinked, Tables}
+use Rattle.nf_defs.specs.Prelude.{child_of, is_folder, is_folder_kind, is_present, item_row, node_row, owner_of, relinked, Tables}
 use Rattle.nf_laws.specs.Access.{LeadsBy}
 use Rattle.nf_laws.specs.Reads.{LeadsToKey}
-use Rattle.nf_laws.specs.Transfers.{is_replaced, Mirrors}
 use Rattle.nf_laws.specs.Tree.{Under}
 use Rattle.nf_laws.specs.Wholes.{blob_in}
-use Rattle.nf_words.specs.Prelude.{after, answer_to, asker_of, behind, blob_for, Call, call_of, content_in, decision_of, ended_row, goal_at, home_of, IsSound, last_name, left_row, MayAsk, mount_of, name_back, named_row, root_of, seeker_of, State, step, user_of, way_of, without_ticket}
-use Rattle.nf_words.specs.declared.answer.Allowed.TheVariants as allowed
+use Rattle.nf_words.specs.Prelude.{after, answer_to, asker_of, behind, blob_for, Call, call_of, content_in, ended_row, goal_at, gone_from, home_of, IsSound, last_name, left_row, MayAsk, mount_of, name_back, named_row, root_of, seeker_of, State, step, user_of, way_of, without_ticket}
 use Rattle.nf_words.specs.declared.answer.By.{By}
 use Rattle.nf_words.specs.declared.answer.Goal.TheVariants.{Store}
 use Rattle.nf_words.specs.declared.answer.LockKey.{LockKey}
 use Rattle.nf_words.specs.declared.answer.LockKey.TheVariants.{Node, Slot}
 use Rattle.nf_words.specs.declared.answer.Reply.TheVariants.{Granted}
 use Rattle.nf_words.specs.declared.history.Entry.{Entry}
-use Rattle.nf_words.specs.declared.history.Event.{Event}
-use Rattle.nf_words.specs.declared.history.Event.TheVariants.{Begin, End}
+use Rattle.nf_words.specs.declared.history.Event.TheVariants.{Begin, End, Sweep}
 use Rattle.nf_words.specs.declared.history.Outcome.TheVariants.{Body, Gone}
 use Rattle.nf_words.specs.declared.request.Request.{Request}
 use Rattle.nf_words.specs.declared.request.Spot.{Spot}
-use Rattle.nf_words.specs.declared.request.Transfer.{Transfer}
 use Rattle.nf_words.specs.declared.request.Wanted.TheVariants.{Delete, Mkcol, Move, Put, Trash}
 use Rattle.nf_words.specs.declared.request.TrashAsk.TheVariants as trash
 use Rattle.nf_words.specs.declared.request.Words.{Words}
@@ -76,21 +72,33 @@ pub record AreEmptied (before after : Tables) (user : ℕ) (tops : List ℕ) : T
 abbrev pub IsUnderOne : List NodeRow → List ℕ → ℕ → Type 0
 IsUnderOne rows tops node = (top : ℕ) × Contains tops top × Under rows top node
 
+-- ---- what leaves its place
+
+-- the node is an item in the trash of the owner of one of those
+abbrev pub IsBeside : Tables → List ℕ → ℕ → Type 0
+IsBeside t leave node = (top : ℕ) × Contains leave top × IsItemOf t (owner_of t.nodes top) node
+
+-- each of those nodes left its place: it is in its owner's trash, or gone for good with all under it where the trash can't hold it. So
+-- are items of these owners that the trash can't hold any more, each with all under it; every other item is as it was. The shares of what
+-- is under the nodes are ended, and the others as they were
+pub record HaveLeft (before after : Tables) (now : ℕ) (leave tops : List ℕ) : Type 0 where
+  pub left : All (λ (top : ℕ). IsInTrash before after now top ⊎ IsGoneWith before.nodes after.nodes top) leave
+  pub beside : All (IsBeside before leave) tops
+  pub gone : All (IsGoneWith before.nodes after.nodes) tops
+  pub none : All (λ (top : ℕ). item_row after.items top ≡ None) tops
+  pub items : (node : ℕ) → (Contains leave node → ⊥) → (Contains tops node → ⊥) → item_row after.items node ≡ item_row before.items node
+  pub shares : AreEnded before.shares after.shares (IsUnderOne before.nodes leave)
+
 -- ---- DELETE
 
--- the node to which the path leads is in its owner's trash, or gone for good with all under it where the trash can't hold it; so are items
--- that the trash can't hold any more. Every other node and item is as it was, the shares of what is under the node are ended and the
--- others as they were, and of the meta row the moment alone is another
+-- the node to which the path leads left its place. Every other node is as it was, and of the meta row the moment alone is another
 pub record IsDeleted (call : Call) (spot : Spot) (after : Tables) : Type 0 where
   pub top : ℕ
   pub led : LeadsBy call spot (mount_of call spot) top
-  pub itself : IsInTrash call.state.tables after call.now top ⊎ IsGoneWith call.state.tables.nodes after.nodes top
   pub tops : List ℕ
-  pub emptied : AreEmptied call.state.tables after (owner_of call.state.tables.nodes top) tops
+  pub left : HaveLeft call.state.tables after call.now (top ∷ []) tops
   pub others : (node : ℕ) → (Under call.state.tables.nodes top node → ⊥) → (IsUnderOne call.state.tables.nodes tops node → ⊥)
       → node_row after.nodes node ≡ node_row call.state.tables.nodes node
-  pub items : (node : ℕ) → node ≢ top → (Contains tops node → ⊥) → item_row after.items node ≡ item_row call.state.tables.items node
-  pub shares : AreEnded call.state.tables.shares after.shares (Under call.state.tables.nodes top)
   pub rest : after ≡ record call.state.tables {
     meta = record call.state.tables.meta { last = call.now };
     nodes = after.nodes;
@@ -101,23 +109,24 @@ pub record IsDeleted (call : Call) (spot : Spot) (after : Tables) : Type 0 where
 -- of a path that isn't a mount's own
 abbrev pub DeletesKeep : Type 0
 DeletesKeep =
-    (s : State) (seat now : ℕ) (words : Words) (request : Request) (spot : Spot) → IsSound s → MayAsk s seat (Begin words request)
+    (s : State) (seat now : ℕ) (words : Words) (request : Request) (spot : Spot) → IsSound s → s.seen ≤ now → MayAsk s seat (Begin words request)
     → request.wanted ≡ Delete spot → (way_of (call_of s seat now words request) spot).itself ≡ false
     → IsOk (answer_to s seat now (Begin words request))
     → IsDeleted (call_of s seat now words request) spot (step s seat now (Begin words request)).tables
 
 -- ---- what is asked about the trash
 
--- those items of the caller's are gone for good, each with all under it, and nothing else is another but the moment, if anything is
-pub record IsEmptied (call : Call) (after : Tables) (tops : List ℕ) : Type 0 where
-  pub emptied : AreEmptied call.state.tables after (asker_of call) tops
-  pub others : (node : ℕ) → (IsUnderOne call.state.tables.nodes tops node → ⊥) → node_row after.nodes node ≡ node_row call.state.tables.nodes node
-  pub items : (node : ℕ) → (Contains tops node → ⊥) → item_row after.items node ≡ item_row call.state.tables.items node
-  pub rest : after ≡ record call.state.tables {
-    meta = record call.state.tables.meta { last = after.meta.last };
-    nodes = after.nodes;
-    items = after.items;
-  }
+-- those are gone for good, each with all under it, and nothing else is another but the moment, if anything is
+pub record AreTaken (before after : Tables) (tops : List ℕ) : Type 0 where
+  pub gone : All (IsGoneWith before.nodes after.nodes) tops
+  pub none : All (λ (top : ℕ). item_row after.items top ≡ None) tops
+  pub others : (node : ℕ) → (IsUnderOne before.nodes tops node → ⊥) → node_row after.nodes node ≡ node_row before.nodes node
+  pub items : (node : ℕ) → (Contains tops node → ⊥) → item_row after.items node ≡ item_row before.items node
+  pub rest : after ≡ record before { meta = record before.meta { last = after.meta.last }; nodes = after.nodes; items = after.items }
+
+-- they are items of the caller's
+abbrev pub IsEmptied : Call → Tables → List ℕ → Type 0
+IsEmptied call after tops = All (IsItemOf call.state.tables (asker_of call)) tops × AreTaken call.state.tables after tops
 
 -- an item of the caller's that is to be dropped is among them
 abbrev pub DropsKeep : Type 0
@@ -201,39 +210,16 @@ MountsAreRenamed =
     → (way_of (call_of s seat now words request) source).itself ≡ true → IsOk (answer_to s seat now (Begin words request))
     → IsMountChanged (call_of s seat now words request) source (step s seat now (Begin words request)).tables (named_row (last_name target))
 
--- ---- MOVE to another owner
+-- ---- a sweep
 
--- what goes with it: what is under the node, and what is replaced
-abbrev pub Goes : List NodeRow → Option ℕ → ℕ → ℕ → Type 0
-Goes rows replaced node other = (is_under rows other node ≡ true) ⊎ (is_replaced rows replaced other ≡ true)
-
--- a copy of the node and of each node under it is there, under a new number and of the owner of the folder that it is moved to. The node
--- and all under it are gone, and so is what was replaced; every other node is as it was. The shares of what is gone are ended and the
--- others as they were. Of the meta row these alone are others: the moment, and the next number of a node, which is as many more as there
--- are copies
-pub record IsCrossed (t after : Tables) (now : ℕ) (rows : List NodeRow) (replaced : Option ℕ) (node : ℕ) : Type 0 where
-  pub transfer : Transfer
-  pub name : List ℕ
-  pub replaced_is : replaced ≡ transfer.replaced
-  pub node_is : node ≡ transfer.node
-  pub owners : owner_of t.nodes node ≢ owner_of t.nodes transfer.folder
-  pub mirrors : Mirrors t now transfer name rows
-  pub there : (k : ℕ) (copy : NodeRow) → slice_get rows k ≡ Some copy → node_row after.nodes copy.id ≡ Some copy
-  pub gone : (other : ℕ) → Goes t.nodes replaced node other → node_row after.nodes other ≡ None
-  pub others : (other : ℕ) → other < t.meta.next_node → (Goes t.nodes replaced node other → ⊥)
-      → node_row after.nodes other ≡ node_row t.nodes other
-  pub shares : AreEnded t.shares after.shares (Goes t.nodes replaced node)
-  pub rest : after ≡ record t {
-    meta = record t.meta { next_node = t.meta.next_node + length rows; last = now };
-    nodes = after.nodes;
-    shares = after.shares;
-  }
-
-abbrev pub CrossesMove : Type 0
-CrossesMove =
-    (s : State) (seat now : ℕ) (event : Event) (rows : List NodeRow) (replaced : Option ℕ) (node : ℕ) → IsSound s → MayAsk s seat event
-    → decision_of s seat now event ≡ Ok (allowed.Cross rows replaced node)
-    → IsCrossed s.tables (step s seat now event).tables now rows replaced node
+-- just those items are taken that the trash of their owner doesn't hold any more
+abbrev pub SweepsTake : Type 0
+SweepsTake =
+    (s : State) (seat now : ℕ) → IsSound s
+    → (tops : List ℕ)
+    × ((node : ℕ) → Contains tops node
+    ↔ ((item : ItemRow) × (item_row s.tables.items node ≡ Some item) × Contains (gone_from s.tables now item.owner) node))
+    × AreTaken s.tables (step s seat now Sweep).tables tops
 
 -- ---- a node more
 

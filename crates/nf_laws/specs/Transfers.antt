@@ -1,36 +1,57 @@
--- What MOVE and COPY keep, and what a copy is.
-use Rattle.std.specs.Prelude.{◌≡◌, ◌≢◌, ℕ, zero, suc, ◌+◌, ◌<◌, Bool, true, false, List, length, Option, None, Some, Ok, option_map, slice_get}
+-- What MOVE and COPY change, and that they change nothing else.
+use Rattle.std.specs.Prelude.{◌≡◌, ◌≢◌, ◌⊎◌, ℕ, zero, suc, ◌+◌, ◌<◌, ◌≤◌, Bool, false, List, [], ◌∷◌, length, Option, None, Some, IsOk, option_map, slice_get}
 use Rattle.std.specs.Option.{option_map_or}
 use Rattle.nf_base.specs.declared.rows.NodeRow.{NodeRow}
 use Rattle.nf_base.specs.declared.rows.Place.TheVariants.{Inside}
-use Rattle.nf_defs.specs.Prelude.{is_under, node_row, owner_of, relinked, Tables, walk_of}
-use Rattle.nf_words.specs.Prelude.{decision_of, IsSound, MayAsk, State, step}
-use Rattle.nf_words.specs.declared.answer.Allowed.TheVariants as allowed
-use Rattle.nf_words.specs.declared.history.Event.{Event}
+use Rattle.nf_defs.specs.Prelude.{node_row, owner_of, parent_of, relinked, Tables, walk_of}
+use Rattle.nf_laws.specs.Access.{LeadsBy}
+use Rattle.nf_laws.specs.Acts.{HaveLeft, IsUnderOne, LeadsToKeyBy}
+use Rattle.nf_laws.specs.Tree.{Under}
+use Rattle.nf_words.specs.Prelude.{answer_to, Call, call_of, IsSound, last_name, MayAsk, mount_of, State, step, way_of}
+use Rattle.nf_words.specs.declared.answer.LockKey.TheVariants.{Slot}
+use Rattle.nf_words.specs.declared.history.Event.TheVariants.{Begin}
+use Rattle.nf_words.specs.declared.request.Request.{Request}
+use Rattle.nf_words.specs.declared.request.Spot.{Spot}
 use Rattle.nf_words.specs.declared.request.Transfer.{Transfer}
+use Rattle.nf_words.specs.declared.request.Wanted.TheVariants.{Copy, Move}
+use Rattle.nf_words.specs.declared.request.Words.{Words}
 
--- the node is one of those that have to go, if any have
-abbrev pub is_replaced : List NodeRow → Option ℕ → ℕ → Bool
-is_replaced rows replaced node = option_map_or (λ top. is_under rows node top) replaced false
+-- ---- what is transferred, and where to
+
+-- the target's path leads to a name that is free in the folder, or to what is there in it and is replaced
+abbrev pub LeadsToTarget : Call → Spot → ℕ → Option ℕ → Type 0
+LeadsToTarget call target folder None = LeadsToKeyBy call target (mount_of call target) (Slot folder (last_name target))
+LeadsToTarget call target folder (Some replaced) =
+    LeadsBy call target (mount_of call target) replaced × (parent_of call.state.tables.nodes replaced ≡ Some folder)
+
+-- the source's path leads to the node
+pub record IsTransferOf (call : Call) (source target : Spot) (transfer : Transfer) : Type 0 where
+  pub from : LeadsBy call source (mount_of call source) transfer.node
+  pub to : LeadsToTarget call target transfer.folder transfer.replaced
+
+-- what is replaced, if anything is
+abbrev pub replaced_by : Transfer → List ℕ
+replaced_by transfer = option_map_or (λ node. node ∷ []) transfer.replaced []
 
 -- ---- MOVE
 
--- the node is in the folder and under the name, with all that was under it; of the others those that had to go are gone, and
--- the rest are as they were. Every node keeps its number, its owner, its content and its moment
-pub record IsMoved (before after : List NodeRow) (transfer : Transfer) (name : List ℕ) : Type 0 where
-  pub itself : node_row after transfer.node ≡ option_map (relinked transfer.folder name) (node_row before transfer.node)
-  pub below : walk_of after transfer.node ≡ walk_of before transfer.node
-  pub gone : (node : ℕ) → is_replaced before transfer.replaced node ≡ true → node_row after node ≡ None
-  pub others : (node : ℕ) → node ≢ transfer.node → is_replaced before transfer.replaced node ≡ false
-      → node_row after node ≡ node_row before node
+-- the node is in the folder and under the name, and all under it is as it was; what was replaced left its place. Every other node is as
+-- it was, and of the meta row the moment alone is another
+pub record IsMoved (before after : Tables) (now : ℕ) (transfer : Transfer) (name : List ℕ) : Type 0 where
+  pub itself : node_row after.nodes transfer.node ≡ option_map (relinked transfer.folder name) (node_row before.nodes transfer.node)
+  pub below : (node : ℕ) → Under before.nodes transfer.node node → node ≢ transfer.node → node_row after.nodes node ≡ node_row before.nodes node
+  pub tops : List ℕ
+  pub left : HaveLeft before after now (replaced_by transfer) tops
+  pub others : (node : ℕ) → node ≢ transfer.node → (IsUnderOne before.nodes (replaced_by transfer) node → ⊥)
+      → (IsUnderOne before.nodes tops node → ⊥) → node_row after.nodes node ≡ node_row before.nodes node
+  pub rest : after ≡ record before {
+    meta = record before.meta { last = now };
+    nodes = after.nodes;
+    shares = after.shares;
+    items = after.items;
+  }
 
-abbrev pub MovesKeep : Type 0
-MovesKeep =
-    (s : State) (seat now : ℕ) (event : Event) (transfer : Transfer) (name : List ℕ) → IsSound s → MayAsk s seat event
-    → decision_of s seat now event ≡ Ok (allowed.Move transfer name)
-    → IsMoved s.tables.nodes (step s seat now event).tables.nodes transfer name
-
--- ---- COPY
+-- ---- COPY, and MOVE to another owner
 
 -- the k-th copy is in the folder of the transfer, and under its name, for the first; and for each later one in the copy of the
 -- folder in which its node is, under the same name
@@ -60,20 +81,46 @@ pub record Mirrors (t : Tables) (now : ℕ) (transfer : Transfer) (name : List �
   pub all : length rows ≡ length (walk_of t.nodes transfer.node)
   pub each : (k : ℕ) (copy : NodeRow) → slice_get rows k ≡ Some copy → IsCopyOf t now transfer name k copy
 
--- the copies are there; what had to go is gone, and the other nodes are as they were, the source with all under it among them
-pub record AreCopied (t : Tables) (after : List NodeRow) (now : ℕ) (rows : List NodeRow) (replaced : Option ℕ) : Type 0 where
-  pub transfer : Transfer
-  pub name : List ℕ
-  pub replaced_is : replaced ≡ transfer.replaced
-  pub mirrors : Mirrors t now transfer name rows
-  pub there : (k : ℕ) (copy : NodeRow) → slice_get rows k ≡ Some copy → node_row after copy.id ≡ Some copy
-  pub source : (node : ℕ) → is_under t.nodes node transfer.node ≡ true → node_row after node ≡ node_row t.nodes node
-  pub gone : (node : ℕ) → is_replaced t.nodes replaced node ≡ true → node_row after node ≡ None
-  pub others : (node : ℕ) → node < t.meta.next_node → is_replaced t.nodes replaced node ≡ false
-      → node_row after node ≡ node_row t.nodes node
+-- the copies are there, and those nodes left their places. Every other node is as it was. Of the meta row these alone are others: the
+-- moment, and the next number of a node, which is as many more as there are copies
+pub record AreCopied (before after : Tables) (now : ℕ) (transfer : Transfer) (name : List ℕ) (leave : List ℕ) : Type 0 where
+  pub rows : List NodeRow
+  pub mirrors : Mirrors before now transfer name rows
+  pub there : (k : ℕ) (copy : NodeRow) → slice_get rows k ≡ Some copy → node_row after.nodes copy.id ≡ Some copy
+  pub tops : List ℕ
+  pub left : HaveLeft before after now leave tops
+  pub others : (node : ℕ) → node < before.meta.next_node → (IsUnderOne before.nodes leave node → ⊥)
+      → (IsUnderOne before.nodes tops node → ⊥) → node_row after.nodes node ≡ node_row before.nodes node
+  pub rest : after ≡ record before {
+    meta = record before.meta { next_node = before.meta.next_node + length rows; last = now };
+    nodes = after.nodes;
+    shares = after.shares;
+    items = after.items;
+  }
 
+-- where what is moved stays its owner's, it is in the folder; else copies of it and of all under it are there, which are the folder's
+-- owner's, and it left its place
+abbrev pub IsCarried : Tables → Tables → ℕ → Transfer → List ℕ → Type 0
+IsCarried before after now transfer name =
+    ((owner_of before.nodes transfer.node ≡ owner_of before.nodes transfer.folder) × IsMoved before after now transfer name)
+    ⊎ ((owner_of before.nodes transfer.node ≢ owner_of before.nodes transfer.folder)
+    × AreCopied before after now transfer name (transfer.node ∷ replaced_by transfer))
+
+-- of a path that isn't a mount's own
+abbrev pub MovesKeep : Type 0
+MovesKeep =
+    (s : State) (seat now : ℕ) (words : Words) (request : Request) (source target : Spot) (overwrite : Bool) → IsSound s → s.seen ≤ now
+    → MayAsk s seat (Begin words request) → request.wanted ≡ Move source target overwrite
+    → (way_of (call_of s seat now words request) source).itself ≡ false → IsOk (answer_to s seat now (Begin words request))
+    → (transfer : Transfer) × IsTransferOf (call_of s seat now words request) source target transfer
+    × IsCarried s.tables (step s seat now (Begin words request)).tables now transfer (last_name target)
+
+-- the source with all under it is as it was
 abbrev pub CopiesMirror : Type 0
 CopiesMirror =
-    (s : State) (seat now : ℕ) (event : Event) (rows : List NodeRow) (replaced : Option ℕ) → IsSound s → MayAsk s seat event
-    → decision_of s seat now event ≡ Ok (allowed.Copy rows replaced)
-    → AreCopied s.tables (step s seat now event).tables.nodes now rows replaced
+    (s : State) (seat now : ℕ) (words : Words) (request : Request) (source target : Spot) (overwrite : Bool) → IsSound s → s.seen ≤ now
+    → MayAsk s seat (Begin words request) → request.wanted ≡ Copy source target overwrite → IsOk (answer_to s seat now (Begin words request))
+    → (transfer : Transfer) × IsTransferOf (call_of s seat now words request) source target transfer
+    × AreCopied s.tables (step s seat now (Begin words request)).tables now transfer (last_name target) (replaced_by transfer)
+    × ((node : ℕ) → Under s.tables.nodes transfer.node node
+    → node_row (step s seat now (Begin words request)).tables.nodes node ≡ node_row s.tables.nodes node)

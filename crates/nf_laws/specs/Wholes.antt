@@ -9,7 +9,7 @@ use Rattle.nf_words.specs.declared.answer.Goal.{Goal}
 use Rattle.nf_words.specs.declared.answer.Goal.TheVariants.{Serve, Store}
 use Rattle.nf_words.specs.declared.history.Entry.{Entry}
 use Rattle.nf_words.specs.declared.history.Event.{Event}
-use Rattle.nf_words.specs.declared.history.Event.TheVariants.{Begin, End}
+use Rattle.nf_words.specs.declared.history.Event.TheVariants.{Begin, End, Sweep}
 use Rattle.nf_words.specs.declared.history.Mark.{Mark}
 use Rattle.nf_words.specs.declared.history.Mark.TheVariants as mark
 use Rattle.nf_words.specs.declared.history.Outcome.TheVariants.{Sent, Gone, Body}
@@ -64,6 +64,7 @@ Brings body (Begin words request) = Unit {0}
 Brings body (End Sent) = Unit {0}
 Brings body (End Gone) = Unit {0}
 Brings body (End (Body digest size)) = (digest ≡ sha256 body) × (size ≡ length body)
+Brings body Sweep = Unit {0}
 
 -- the blob that an entry stores
 abbrev pub blob_under : State → Entry → Mark → Option ℕ

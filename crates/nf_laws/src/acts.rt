@@ -1,6 +1,6 @@
-//! What DELETE, MKCOL, PUT and MOVE change, and what is asked about the trash, and nothing else.
+//! What DELETE, MKCOL, PUT, a MOVE of a mount and a sweep change, and what is asked about the trash, and nothing else.
 
-ghost use Rattle.nf_laws.specs.Acts.{CrossesMove, CutBodiesKeep, DeletesKeep, DropsKeep, EmptyingKeeps, FoldersAreMade, ItemsComeBack, MountsAreLeft, MountsAreRenamed, PutsAreGranted, PutsKeep};
+ghost use Rattle.nf_laws.specs.Acts.{CutBodiesKeep, DeletesKeep, DropsKeep, EmptyingKeeps, FoldersAreMade, ItemsComeBack, MountsAreLeft, MountsAreRenamed, PutsAreGranted, PutsKeep, SweepsTake};
 
 /// A DELETE puts the node to which its path leads into its owner's trash with all under it, or takes it out for good where the trash
 /// can't hold it, as it does items that the trash can't hold any more. It ends the shares of what is under the node, and touches no
@@ -29,11 +29,9 @@ pub fn mounts_are_renamed()
     ensures { MountsAreRenamed }
 {}
 
-/// A MOVE to another owner leaves copies there of the node and of all under it, which are that owner's, takes out the node and all
-/// under it and what it replaces, ends the shares of what is gone, and touches no other node or share.
-#[tactic(auto, using(crate::proofs::Crossing::crosses))]
-pub fn crosses_move()
-    ensures { CrossesMove }
+/// A sweep takes the items that their owners' trashes don't hold any more, each for good with all under it, and touches nothing else.
+pub fn sweeps_take()
+    ensures { SweepsTake }
 {}
 
 /// A MKCOL makes one folder, at the end of its path, and touches no other node.

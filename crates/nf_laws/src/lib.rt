@@ -19,8 +19,8 @@ pub use access::{
     serves_what_may_be_read, what_may_be_read_is_listed, what_may_be_read_is_served,
 };
 pub use acts::{
-    crosses_move, cut_bodies_keep, deletes_keep, drops_keep, folders_are_made, items_come_back,
-    mounts_are_renamed, puts_keep,
+    cut_bodies_keep, deletes_keep, drops_keep, folders_are_made, items_come_back,
+    mounts_are_renamed, puts_keep, sweeps_take,
 };
 pub use charges::{
     charge_is_size_of_root, charges_leave_out_trash, quota_exactly, quotas_are_kept,

@@ -14,7 +14,7 @@ use Rattle.nf_dav.specs.Asked.{request_of}
 use Rattle.nf_dav.specs.Reply.{file_head, refusal_reply}
 use Rattle.nf_dav.specs.declared.replies.Manner.{Manner}
 use Rattle.nf_http.specs.Head.{Head, closes_session, expects_continue, length_of}
-use Rattle.nf_words.proofs.Steps.{put_grants_nothing, reports_nothing}
+use Rattle.nf_words.proofs.Steps.{reports_nothing}
 use Rattle.nf_words.specs.Prelude.{answer_at, answered_by, answer_to, blob_for, changes_by, changes_to, content_in, decision_of, is_about_files, MayBear, State}
 use Rattle.nf_words.specs.History.{HasBody}
 use Rattle.nf_words.specs.declared.answer.Allowed.{Allowed}
@@ -88,10 +88,7 @@ serves_nothing : (t : Tables) (now : ℕ) (d : Result Allowed Denial) (content :
     → changes_by t now d ≡ []
 serves_nothing t now (Ok (allowed.Get node other)) content is = refl
 serves_nothing t now (Ok (allowed.Change changes blob report)) content is = absurd (reports_nothing report (Serve content) (cc))
-serves_nothing t now (Ok (allowed.Trash did gone report)) content is = absurd (reports_nothing report (Serve content) (cc))
-serves_nothing t now (Ok (allowed.Move transfer name)) content is = absurd (put_grants_nothing transfer.replaced (Serve content) (cc))
-serves_nothing t now (Ok (allowed.Copy rows replaced)) content is = absurd (put_grants_nothing replaced (Serve content) (cc))
-serves_nothing t now (Ok (allowed.Cross rows replaced node)) content is = absurd (put_grants_nothing replaced (Serve content) (cc))
+serves_nothing t now (Ok (allowed.Deeds deeds report)) content is = absurd (reports_nothing report (Serve content) (cc))
 serves_nothing t now (Err refusal) content is = refl
 serves_nothing t now other content is = absurd (cc)
 

@@ -19,7 +19,7 @@ use Rattle.nf_laws.proofs.Stays.{sound_after}
 use Rattle.nf_laws.specs.Reads.{IsFreeToRead, IsLetRead, IsReadBy, IsStored, LeadsToKey}
 use Rattle.nf_words.proofs.Passing.{Passes, call_passes}
 use Rattle.nf_words.proofs.Starts.{no_link_shown, none_unlinked, unlinked_root}
-use Rattle.nf_words.proofs.Steps.{granted_step, put_grants_nothing, reports_nothing}
+use Rattle.nf_words.proofs.Steps.{granted_step, reports_nothing}
 use Rattle.nf_words.specs.Prelude.{access_of, after, after_mark, answer_at, answer_to, answered_by, AreSound, blob_by, blob_for, blob_of, blob_to, by_of, call_of, content_in, decided, decision_of, end_refusal, ends_at, forbidden_rule, found, goal_at, is_by_link, is_caller, IsSound, last_name, MayAsk, MayCome, named_in, not_you_rule, refusal_of, reply_to, root_of, seeker_of, State, way_by, step, stored, stored_at, stores, token_rule, unless_refused}
 use Rattle.nf_words.specs.Calls.{caller_of}
 use Rattle.nf_words.specs.Reached.{unlinked_by}
@@ -69,10 +69,7 @@ put_only : (d : Result Allowed Denial) (by : By) (key : LockKey) (size : ℕ) �
     → d ≡ Ok (allowed.Put by key size)
 put_only (Ok (allowed.Put who at length)) by key size is = cc
 put_only (Ok (allowed.Change changes blob report)) by key size is = absurd (reports_nothing report (Store by key size) (cc))
-put_only (Ok (allowed.Trash did gone report)) by key size is = absurd (reports_nothing report (Store by key size) (cc))
-put_only (Ok (allowed.Move transfer name)) by key size is = absurd (put_grants_nothing transfer.replaced (Store by key size) (cc))
-put_only (Ok (allowed.Copy rows replaced)) by key size is = absurd (put_grants_nothing replaced (Store by key size) (cc))
-put_only (Ok (allowed.Cross rows replaced node)) by key size is = absurd (put_grants_nothing replaced (Store by key size) (cc))
+put_only (Ok (allowed.Deeds deeds report)) by key size is = absurd (reports_nothing report (Store by key size) (cc))
 put_only other by key size is = absurd (cc)
 
 -- the answers of a PUT's Begin, but for refusals

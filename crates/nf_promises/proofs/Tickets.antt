@@ -5,7 +5,7 @@ use Rattle.nf_words.proofs.Steps.{decided_tickets}
 use Rattle.nf_words.specs.Prelude.{after, after_mark, decision_of, replay, State, without}
 use Rattle.nf_words.specs.declared.history.Entry.{Entry}
 use Rattle.nf_words.specs.declared.history.Event.{Event}
-use Rattle.nf_words.specs.declared.history.Event.TheVariants.{Begin, End}
+use Rattle.nf_words.specs.declared.history.Event.TheVariants.{Begin, End, Sweep}
 use Rattle.nf_words.specs.declared.history.Mark.{Mark}
 use Rattle.nf_words.specs.declared.history.Mark.TheVariants as mark
 use Rattle.nf_words.specs.declared.history.Ticket.{Ticket}
@@ -15,6 +15,7 @@ few_without s seat (Begin words request) = omega arith
 few_without s seat (End outcome) =
     let test : (Ticket → Bool) = λ (ticket : Ticket). not (ticket.seat == seat) in
     omega (arith, length-filter test s.tickets, count_by-le-length test s.tickets)
+few_without s seat Sweep = omega arith
 
 few_after : (s : State) (e : Entry) → length (after s e).tickets ≤ length s.tickets + 1
 few_after s e = here e.mark

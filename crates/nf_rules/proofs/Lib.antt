@@ -1,6 +1,7 @@
 pub mod After
 pub mod Among
 pub mod Apart
+pub mod Deeds
 pub mod Firsts
 pub mod Items
 pub mod Kept
@@ -15,5 +16,4 @@ pub mod Shared
 pub mod Shares
 pub mod Stacked
 pub mod Stays
-pub mod Trashing
 pub mod Unbroken

@@ -25,12 +25,11 @@ use Rattle.nf_laws.proofs.Peopled.{people_alone}
 use Rattle.nf_laws.proofs.Purged.{purged_keeps}
 use Rattle.nf_laws.proofs.Rows.{each_fails, finds_none, found_is, stamped_has}
 use Rattle.nf_laws.proofs.Stays.{sound_after}
-use Rattle.nf_laws.specs.Access.{ChangesAllowed, has_quota, has_token, is_left, is_renamed, IsProviding, IsRemounted, IsRestoring, IsSharing, joins, KeepsShares, leaves, makes_group, makes_user, NodesAllowed, Provides, Remounts}
-use Rattle.nf_laws.specs.Acts.{IsItemOf}
+use Rattle.nf_laws.specs.Access.{ChangesAllowed, has_quota, has_token, is_left, is_renamed, IsItemSettled, IsProviding, IsRemounted, IsRestoring, IsSharing, joins, KeepsShares, leaves, makes_group, makes_user, NodesAllowed, Provides, Remounts}
 use Rattle.nf_laws.specs.Numbers.{AreHigher}
 use Rattle.nf_words.proofs.Ends.{known_change}
 use Rattle.nf_words.proofs.Known.{Known}
-use Rattle.nf_words.specs.Prelude.{after, altered, AreSound, asker_of, Call, call_of, changed, ended_row, IsInBounds, IsModest, IsSound, item_if_of, MayAsk, MayCome, new_user, purged, purged_all, State, told}
+use Rattle.nf_words.specs.Prelude.{after, altered, AreSound, asker_of, Call, call_of, changed, deeds_done, ended_row, IsInBounds, IsModest, IsSound, item_if_of, MayAsk, MayCome, new_user, purged, purges, State, told}
 use Rattle.nf_words.specs.declared.answer.Allowed.{Allowed}
 use Rattle.nf_words.specs.declared.answer.Allowed.TheVariants as allowed
 use Rattle.nf_words.specs.declared.answer.Deed.{Deed}
@@ -46,7 +45,7 @@ use Rattle.nf_rules.proofs.Items.{from_still, given_gone, items_ruled}
 use Rattle.nf_rules.proofs.Kept.{apart, EndsSome, ends_unless, others_ruled, shares_ruled, still_mounted}
 use Rattle.nf_rules.proofs.OneShare.{mounts_ruled, one_apart, one_ruled}
 use Rattle.nf_rules.proofs.Peopled.{people_ruled}
-use Rattle.nf_rules.proofs.Trashing.{AreModest, trash_ruled}
+use Rattle.nf_rules.proofs.Deeds.{AreModest, step_ruled}
 
 -- ---- mounts
 
@@ -147,21 +146,22 @@ nodes_ruled s e made ruled is same changes =
     (subst (λ (u : Tables). All (IsMountRuled u) u.mounts) changes.rest kept.mounts)
     (subst (λ (u : Tables). All (IsItemRuled u) u.items) changes.rest items))
 
--- ---- an act that isn't of the trash
+-- ---- an act that does no deeds
+
+abbrev HasNoDeeds : Allowed → Type 0
+HasNoDeeds act = (deeds : List Deed) (report : Report) → act ≡ allowed.Deeds deeds report → ⊥
 
 -- it leaves the items as they were
-items_same : (t : Tables) (now : ℕ) (act : Allowed) → AreSound t → Known t now act
-    → ((did : Deed) (gone : List ℕ) (report : Report) → act ≡ allowed.Trash did gone report → ⊥) → (changed t now act).items ≡ t.items
+items_same : (t : Tables) (now : ℕ) (act : Allowed) → AreSound t → Known t now act → HasNoDeeds act → (changed t now act).items ≡ t.items
 items_same t now act sound known other =
     stamped_has (λ (u : Tables). u.items ≡ t.items) t (altered t now act) now (told t act) refl (here act known other)
   where
-    here : (act : Allowed) → Known t now act → ((did : Deed) (gone : List ℕ) (report : Report) → act ≡ allowed.Trash did gone report → ⊥)
-        → (altered t now act).items ≡ t.items
+    here : (act : Allowed) → Known t now act → HasNoDeeds act → (altered t now act).items ≡ t.items
     here (allowed.Change changes blob report) known other =
         changes_have (λ (u : Tables). u.items ≡ t.items) t now changes blob report sound.rising known (λ u row same it. same) (λ u row same it. same)
         (λ u row same it. same) (λ u row same it. same) (λ u change same it. ap (λ (v : Tables). v.items) (people_alone u change it) ∙ same)
         (λ u row root same it. same) refl
-    here (allowed.Trash did gone report) known other = absurd (other did gone report refl)
+    here (allowed.Deeds deeds report) known other = absurd (other deeds report refl)
     here act known other = refl
 
 -- so that none of them goes
@@ -171,26 +171,23 @@ none_goes s e made same changes = here changes.settled.tops changes.settled.item
     t : Tables
     t = s.tables
 
-    user : ℕ
-    user = changes.settled.user
-
     IsNot : ℕ → ItemRow → Type 0
     IsNot top item = (item.node == top) ≡ false
 
-    left : (top : ℕ) (tops : List ℕ) → All (IsNot top) (purged_all (purged changes.between top) tops).items
+    left : (top : ℕ) (tops : List ℕ) → All (IsNot top) (deeds_done (purged changes.between top) (purges tops)).items
     left top tops =
         purged_keeps (λ (u : Tables). All (IsNot top) u.items)
         (λ u node all. All-filter (λ (item : ItemRow). not (bytes_eq (node ∷ []) (item_key item))) (IsNot top) u.items all)
         (purged changes.between top) tops
         (each_fails (λ (item : ItemRow). item.node == top) (purged changes.between top).items (item_gone top changes.between.items))
 
-    here : (tops : List ℕ) → All (IsItemOf t user) tops → made ≡ purged_all changes.between tops → made ≡ changes.between
+    here : (tops : List ℕ) → All (IsItemSettled s e) tops → made ≡ deeds_done changes.between (purges tops) → made ≡ changes.between
     here [] items gone = gone
     here (top ∷ tops) items gone =
-        let item = All-head (IsItemOf t user) top tops items in
+        let item = All-head (IsItemSettled s e) top tops items in
         let none : item_row t.items top ≡ None =
         ap (λ (rows : List ItemRow). item_row rows top) (sym same ∙ ap (λ (u : Tables). u.items) gone)
-        ∙ finds_none (λ (item : ItemRow). item.node == top) (purged_all (purged changes.between top) tops).items (left top tops) in
+        ∙ finds_none (λ (item : ItemRow). item.node == top) (deeds_done (purged changes.between top) (purges tops)).items (left top tops) in
         absurd (none-some item.0 (sym none ∙ item.1))
 
 -- nor does one come back
@@ -249,14 +246,14 @@ modest_after s e made h changes =
 -- each act that may come keeps the rules
 act_ruled : (s : State) (e : Entry) (act : Allowed) → AreRuled s.tables → s.tables.meta.last ≤ e.moment → Known s.tables e.moment act
     → IsAfter s e (changed s.tables e.moment act) → AreRuled (changed s.tables e.moment act)
-act_ruled s e (allowed.Trash did gone report) ruled later known is =
-    let act : Allowed = allowed.Trash did gone report in
+act_ruled s e (allowed.Deeds deeds report) ruled later known is =
+    let act : Allowed = allowed.Deeds deeds report in
     stamped_has (λ (u : Tables). AreModest u → AreRuled u) s.tables (altered s.tables e.moment act) e.moment (told s.tables act) (λ modest. ruled)
-    (trash_ruled s.tables e.moment did gone ruled later known)
+    (step_ruled s.tables e.moment deeds ruled later known)
     (modest_after s e (changed s.tables e.moment act) ruled is.allowed)
 act_ruled s e act ruled later known is =
     plain_ruled s e (changed s.tables e.moment act) ruled is
-    (items_same s.tables e.moment act ruled.sound known (λ did gone report same. cc))
+    (items_same s.tables e.moment act ruled.sound known (λ deeds report same. cc))
 
 ruled_after : (n : ℕ) (s : State) (e : Entry) → AreRuled s.tables → IsSound s → MayCome n s e → AreRuled (after s e).tables
 ruled_after n s e ruled sound may =

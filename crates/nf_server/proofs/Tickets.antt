@@ -11,7 +11,7 @@ use Rattle.nf_words.specs.declared.answer.Goal.{Goal}
 use Rattle.nf_words.specs.declared.answer.Hold.{Hold}
 use Rattle.nf_words.specs.declared.history.Entry.{Entry}
 use Rattle.nf_words.specs.declared.history.Event.{Event}
-use Rattle.nf_words.specs.declared.history.Event.TheVariants.{Begin, End}
+use Rattle.nf_words.specs.declared.history.Event.TheVariants.{Begin, End, Sweep}
 use Rattle.nf_words.specs.declared.history.Mark.{Mark}
 use Rattle.nf_words.specs.declared.history.Mark.TheVariants as mark
 use Rattle.nf_words.specs.declared.history.Ticket.{Ticket}
@@ -66,6 +66,8 @@ one_ended s e differ = here e.event e.mark
     here (End outcome) mark.Answered =
         omega (arith, one_taken e.seat s.tickets differ, ap (λ (ts : List Ticket). length ts) (end_tickets s e.seat e.moment outcome))
     here (End outcome) other = one_taken e.seat s.tickets differ
+    here Sweep mark.Answered = omega arith
+    here Sweep other = omega arith
 
 ended_by : (n : ℕ) (s : State) (es : List Entry) → Differ s.tickets → IsLegalFrom n s es
     → length s.tickets ≤ length (replay s es).tickets + length es

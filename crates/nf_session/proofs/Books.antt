@@ -7,7 +7,7 @@ use Rattle.nf_words.specs.declared.answer.Goal.{Goal}
 use Rattle.nf_words.specs.declared.answer.Reply.TheVariants as reply
 use Rattle.nf_words.specs.declared.history.Entry.{Entry}
 use Rattle.nf_words.specs.declared.history.Event.{Event}
-use Rattle.nf_words.specs.declared.history.Event.TheVariants.{Begin, End}
+use Rattle.nf_words.specs.declared.history.Event.TheVariants.{Begin, End, Sweep}
 use Rattle.nf_words.specs.declared.history.Mark.{Mark}
 use Rattle.nf_words.specs.declared.history.Mark.TheVariants as mark
 use Rattle.nf_words.specs.declared.history.Ticket.{Ticket}
@@ -37,6 +37,10 @@ none_of : (ticket : Option Ticket) → IsNone ticket → ticket ≡ None
 none_of None none = refl
 none_of (Some ticket) none = absurd (cc)
 
+-- where there is no ticket nothing is
+none_held : (s : State) (seat : ℕ) → IsNone (ticket_of s seat) → None ≡ goal_at s seat
+none_held s seat none = sym (ap (option_map (λ (t : Ticket). t.goal)) (none_of (ticket_of s seat) none))
+
 plain_none : (answer : Answer) → IsPlain answer → granted answer ≡ None
 plain_none (Ok (reply.Granted goal)) plain = absurd (plain goal refl)
 plain_none other plain = refl
@@ -61,10 +65,12 @@ step_holds s seat now (Begin words request) asked = begin_holds s seat now words
 step_holds s seat now (End outcome) asked =
     plain_none (answer_to s seat now (End outcome)) (ends_grant_nothing s seat now outcome)
     ∙ sym (ap (option_map (λ (t : Ticket). t.goal)) (end_frees s seat now outcome))
+step_holds s seat now Sweep asked = none_held s seat asked
 
 failed_holds : (s : State) (seat now : ℕ) (event : Event) → MayAsk s seat event → None ≡ goal_at (failed s seat now event) seat
-failed_holds s seat now (Begin words request) asked = sym (ap (option_map (λ (t : Ticket). t.goal)) (none_of (ticket_of s seat) asked.0))
+failed_holds s seat now (Begin words request) asked = none_held s seat asked.0
 failed_holds s seat now (End outcome) asked = sym (ap (option_map (λ (t : Ticket). t.goal)) (freed s seat))
+failed_holds s seat now Sweep asked = none_held s seat asked
 
 mark_holds : (s : State) (e : Entry) (m : Mark) → MayAsk s e.seat e.event → granted (answer_at s e m) ≡ goal_at (after_mark s e m) e.seat
 mark_holds s e mark.Answered asked = step_holds s e.seat e.moment e.event asked

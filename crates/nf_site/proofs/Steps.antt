@@ -18,7 +18,7 @@ use Rattle.nf_words.specs.declared.answer.Allowed.{Allowed}
 use Rattle.nf_words.specs.declared.answer.Denial.{Denial}
 use Rattle.nf_words.specs.declared.history.Entry.{Entry}
 use Rattle.nf_words.specs.declared.history.Event.{Event}
-use Rattle.nf_words.specs.declared.history.Event.TheVariants.{Begin, End}
+use Rattle.nf_words.specs.declared.history.Event.TheVariants.{Begin, End, Sweep}
 use Rattle.nf_words.specs.declared.history.Mark.{Mark}
 use Rattle.nf_words.specs.declared.history.Mark.TheVariants.{Answered}
 use Rattle.nf_words.specs.declared.history.Outcome.{Outcome}
@@ -57,6 +57,11 @@ begin_adds : (s : State) (seat moment : ℕ) (words : Words) (request : Request)
 begin_adds s seat moment words request Answered = decided_tickets s seat moment (decision_of s seat moment (Begin words request))
 begin_adds s seat moment words request mark = omega arith
 
+-- a sweep adds none
+sweep_adds : (s : State) (seat moment : ℕ) (mark : Mark) → (after s (entry seat moment Sweep mark)).tickets ≡ s.tickets
+sweep_adds s seat moment Answered = refl
+sweep_adds s seat moment mark = refl
+
 -- an End takes one away
 end_leaves : (s : State) (seat moment : ℕ) (outcome : Outcome) (mark : Mark)
     → (after s (entry seat moment (End outcome) mark)).tickets ≡ (without_ticket s seat).tickets
@@ -81,12 +86,20 @@ ends_left site seat moment (End outcome) mark ends asked room =
       ap length (end_leaves s seat moment outcome mark),
       length-found (λ ticket. ticket.seat == seat) s.tickets (has_ticket (ticket_of s seat) outcome asked),
     )
+ends_left site seat moment Sweep mark ends asked room =
+    omega (arith, room.entries, ap length (sweep_adds site.kept.state seat moment mark))
+
+-- so the entry itself fits
+pub entry_fits : (site : Held) (seat : ℕ) (event : Event) → length site.kept.history + length site.kept.state.tickets ≤ site.entries
+    → MayAsk site.kept.state seat event → HasEntryRoom site event → length site.kept.history + 1 ≤ site.entries
+entry_fits site seat event ends asked room = omega (arith, ends_left site seat 0 event Answered ends asked room)
 
 -- ---- an entry
 
 leaves_room : (site : Held) (event : Event) → HasEntryRoom site event → LeavesRoom (length site.kept.history) site.kept.state event
 leaves_room site (Begin words request) room = room.run
 leaves_room site (End outcome) room = tt
+leaves_room site Sweep room = room.run
 
 history_more : (k : Kept) (e : Entry) → IsHistory k → MayCome (length k.history) k.state e → IsHistory (entered k e)
 history_more k e h may =
@@ -131,10 +144,10 @@ held_step old new site e is held before asked marked room kept capacity =
 -- ---- a decision
 
 -- the tables bear an act that is decided
-pub bears_step : (s : State) (seat now : ℕ) (event : Event) (act : Allowed) → IsSound s → MayAsk s seat event
+pub bears_step : (s : State) (seat now : ℕ) (event : Event) (act : Allowed) → IsSound s → s.seen ≤ now → MayAsk s seat event
     → decision_of s seat now event ≡ Ok act → BearsAct s.tables act
-bears_step s seat now event act sound asked decides =
-    known_bears s.tables now act sound.rows (known_change s seat now event act sound asked decides)
+bears_step s seat now event act sound late asked decides =
+    known_bears s.tables now act sound.rows (omega (arith, sound.seen, late)) (known_change s seat now event act sound asked decides)
 
 -- ---- a site's fields
 
@@ -160,9 +173,10 @@ opened_held site rows ruled opening state none =
 
 -- the tables bear what is decided
 pub bears_held : (old : Inside) (site : Held) (seat now : ℕ) (event : Event) (act : Allowed) → held_of old ≡ site → IsHeld old
-    → MayAsk site.kept.state seat event → decision_of site.kept.state seat now event ≡ Ok act → BearsAct old.current.state.tables act
-bears_held old site seat now event act is held asked decides =
-    bears_step old.current.state seat now event act held.sound
+    → site.kept.state.seen ≤ now → MayAsk site.kept.state seat event → decision_of site.kept.state seat now event ≡ Ok act
+    → BearsAct old.current.state.tables act
+bears_held old site seat now event act is held late asked decides =
+    bears_step old.current.state seat now event act held.sound (subst (λ (x : Held). x.kept.state.seen ≤ now) (sym is) late)
     (subst (λ (x : Held). MayAsk x.kept.state seat event) (sym is) asked)
     (subst (λ (x : Held). decision_of x.kept.state seat now event ≡ Ok act) (sym is) decides)
 
@@ -170,7 +184,7 @@ bears_held old site seat now event act is held asked decides =
 pub bears_plan : (old : Inside) (site : Held) (plan : PlanInside) (act : Allowed) → held_of old ≡ site → IsHeld old
     → IsReady site (planned_in plan) → decision_in plan.decided ≡ Ok act → BearsAct old.current.state.tables act
 bears_plan old site plan act is held ready decides =
-    bears_held old site plan.seat plan.moment plan.event act is held ready.asked
+    bears_held old site plan.seat plan.moment plan.event act is held ready.not_before ready.asked
     (sym (ap (λ (p : Planned). p.decision) ready.planned) ∙ decides)
 
 -- ---- what an act adds
@@ -197,6 +211,7 @@ fits_ticket site seat moment (Begin words request) act room is some = room.ticke
 fits_ticket site seat moment (End outcome) act room is some =
     let none : goal_of act ≡ None = subst GrantsNothing is (end_nothing site.kept.state seat moment outcome) in
     absurd (false≢true (sym (ap is_some none) ∙ some))
+fits_ticket site seat moment Sweep act room is some = room.tickets
 
 -- what a plan does that is ready fits
 pub fits_plan : (old : Inside) (site : Held) (plan : PlanInside) (act : Allowed) → held_of old ≡ site

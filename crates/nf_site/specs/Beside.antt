@@ -20,7 +20,7 @@ beside_report other = reported other
 abbrev pub beside : Allowed → Reply
 beside (allowed.List listing) = Closed
 beside (allowed.Change changes blob told) = beside_report told
-beside (allowed.Trash deed gone told) = beside_report told
+beside (allowed.Deeds deeds told) = beside_report told
 beside other = reply_to other
 
 -- another act does the same, whatever is told of it

@@ -5,7 +5,7 @@ use Rattle.nf_defs.specs.Tables.{Tables}
 use Rattle.nf_words.specs.declared.answer.Allowed.{Allowed}
 use Rattle.nf_words.specs.declared.answer.Denial.{Denial}
 use Rattle.nf_words.specs.declared.history.Event.{Event}
-use Rattle.nf_words.specs.declared.history.Event.TheVariants.{Begin, End}
+use Rattle.nf_words.specs.declared.history.Event.TheVariants.{Begin, End, Sweep}
 use Rattle.nf_decide.specs.Counts.{FitsRows, only_nodes}
 use Rattle.nf_decide.specs.Current.{FitsTicket, Room, added_by}
 use Rattle.nf_decide.specs.declared.counts.RowCounts.{RowCounts}
@@ -21,16 +21,17 @@ pub record Held : Type 0 where
 abbrev pub entries_wanted : Kept → ℕ
 entries_wanted k = length k.history + length k.state.tickets + 2
 
--- a Begin fits, in the run and in memory
+-- a Begin or a sweep fits, in the run and in memory
 pub record HasRoom (site : Held) : Type 0 where
   pub run : entries_wanted site.kept ≤ MAX_ENTRIES
   pub entries : entries_wanted site.kept ≤ site.entries
   pub tickets : FitsTicket site.kept.state site.room
 
--- the event's entry and ticket fit, whatever becomes of its step: a Begin has its room, an End the room that its ticket keeps
+-- the event's entry and ticket fit, whatever becomes of its step: a Begin or a sweep has its room, an End the room that its ticket keeps
 abbrev pub HasEntryRoom : Held → Event → Type 0
 HasEntryRoom site (Begin words request) = HasRoom site
 HasEntryRoom site (End outcome) = Unit {0}
+HasEntryRoom site Sweep = HasRoom site
 
 -- how many rows a decision adds at most
 abbrev pub added_in : Tables → Result Allowed Denial → RowCounts

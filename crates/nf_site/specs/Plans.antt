@@ -5,7 +5,7 @@ use Rattle.nf_words.specs.Prelude.{changes_to, decision_of, MayAsk, State}
 use Rattle.nf_words.specs.declared.answer.Allowed.{Allowed}
 use Rattle.nf_words.specs.declared.answer.Denial.{Denial}
 use Rattle.nf_words.specs.declared.history.Event.{Event}
-use Rattle.nf_words.specs.declared.history.Event.TheVariants.{Begin, End}
+use Rattle.nf_words.specs.declared.history.Event.TheVariants.{Begin, End, Sweep}
 use Rattle.nf_words.specs.declared.history.Outcome.TheVariants.{Sent, Gone, Body}
 use Rattle.nf_site.specs.Held.{Held, FitsDecision, HasEntryRoom}
 use Rattle.nf_site.specs.Kept.{moment_of}
@@ -46,3 +46,4 @@ IsPlannedAtEnd (Begin words request) result = ⊤
 IsPlannedAtEnd (End Sent) result = IsOk result
 IsPlannedAtEnd (End Gone) result = IsOk result
 IsPlannedAtEnd (End (Body digest length)) result = ⊤
+IsPlannedAtEnd Sweep result = ⊤

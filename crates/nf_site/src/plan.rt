@@ -3,7 +3,7 @@
 ghost use Rattle.std.specs.Prelude.{◌≡◌, [], IfOk, Ok};
 ghost use Rattle.nf_site.specs.Held.{added_in};
 ghost use Rattle.nf_site.specs.Beside.{DoesSame, beside, beside_report};
-ghost use Rattle.nf_words.specs.Prelude.{blob_by, hold_of, reply_by, reply_to, reported};
+ghost use Rattle.nf_words.specs.Prelude.{blob_by, hold_of, reply_to, reported};
 ghost use Rattle.nf_words.specs.declared.answer.Allowed.TheVariants.{Close};
 
 use crate::copies::copy_share;
@@ -142,10 +142,9 @@ pub(crate) fn parted(act: Allowed, reply: Reply) -> (Allowed, Reply)
             };
             (act, handed_over(report, reply))
         }
-        Allowed::Trash { deed, gone, report } => {
-            let act = Allowed::Trash {
-                deed,
-                gone,
+        Allowed::Deeds { deeds, report } => {
+            let act = Allowed::Deeds {
+                deeds,
                 report: Report::Plain,
             };
             (act, handed_over(report, reply))
@@ -186,10 +185,7 @@ fn beside(alloc: Global, act: &Allowed) -> Result<Reply, AllocError>
             key: key.copy()?,
             length: *length,
         })),
-        Allowed::Change { report, .. } | Allowed::Trash { report, .. } => beside_report(report),
-        Allowed::Move { transfer, name: _ } => Ok(reply_by(transfer.replaced)),
-        Allowed::Copy { rows: _, replaced } => Ok(reply_by(*replaced)),
-        Allowed::Cross { replaced, .. } => Ok(reply_by(*replaced)),
+        Allowed::Change { report, .. } | Allowed::Deeds { report, .. } => beside_report(report),
         Allowed::List(_) | Allowed::Close => Ok(Reply::Closed),
     }
 }
@@ -203,15 +199,5 @@ fn beside_report(report: &Report) -> Result<Reply, AllocError>
         Report::Share(line) => Ok(Reply::Share(copy_share(line)?)),
         Report::Shares(_) | Report::Items(_) => Ok(Reply::Closed),
         Report::Plain => Ok(Reply::Plain),
-    }
-}
-
-/// What is put at a place is made, where nothing was there.
-fn reply_by(replaced: Option<NodeId>) -> Reply
-    ensures { result ≡ reply_by replaced }
-{
-    match replaced {
-        Some(_) => Reply::Done,
-        None => Reply::Made,
     }
 }

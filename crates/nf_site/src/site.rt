@@ -1,11 +1,13 @@
 //! The site.
 
-ghost use Rattle.std.specs.Prelude.{◌≡◌, ◌≢◌, ◌<◌, ◌↔◌, Err, IfOk, OnOk};
+ghost use Rattle.std.specs.Prelude.{◌≡◌, ◌≢◌, ℕ, ◌<◌, ◌≤◌, ◌↔◌, Contains, length, Err, IfOk, OnOk};
 ghost use Rattle.nf_defs.specs.Tables.{rows_of};
+ghost use Rattle.nf_laws.specs.Named.{blobs_named};
 ghost use Rattle.nf_rules.specs.Ruled.{AreRuled};
 ghost use Rattle.nf_site.specs.Built.{IsBuilt};
 ghost use Rattle.nf_site.specs.Held.{HasEntryRoom, HasRoom, entries_wanted};
 ghost use Rattle.nf_site.specs.Kept.{IsHistory, entry, entered, moment_of, stepped};
+ghost use Rattle.nf_site.specs.Naming.{NamesBlob};
 ghost use Rattle.nf_site.specs.PlanView.{decision_in};
 ghost use Rattle.nf_site.specs.Plans.{IsPlannedAtEnd, IsReady, plan_at, plan_of};
 ghost use Rattle.nf_words.specs.Prelude.{access_of, answer_to, changes_to, decision_of, end_decision, IsSound, MayAsk, MayBear};
@@ -14,9 +16,10 @@ ghost use Rattle.nf_words.specs.declared.history.Mark.TheVariants.{Answered};
 ghost use Rattle.nf_site.specs.declared.site.RoomFault.TheVariants.{Full};
 
 use crate::Plan;
+use crate::named::{name_nodes, name_tickets};
 use crate::plan::{Deed, parted};
-use nf_base::{Changes, MAX_ENTRIES, Moment, RowList};
-use nf_decide::{Call, State, changes, decide_end};
+use nf_base::{BlobId, Changes, MAX_ENTRIES, Moment, RowList};
+use nf_decide::{Call, State, changes, decide_end, swept};
 use nf_opening::{SiteFault, judge};
 use nf_words::{Allowed, Answer, Denial, Entry, Event, Mark, Outcome};
 use std::alloc::{AllocError, Global};
@@ -111,7 +114,7 @@ impl Site {
                 self.current.keeps_room();
                 return Ok(Plan::closing(alloc, seat, moment, event));
             }
-            Event::End(Outcome::Body { .. }) | Event::Begin { .. } => {}
+            Event::End(Outcome::Body { .. }) | Event::Begin { .. } | Event::Sweep => {}
         }
         let plan = self.plan_step(alloc, seat, moment, event)?;
         let added = plan.added(&self.current.view());
@@ -127,7 +130,8 @@ impl Site {
         moment: Moment,
         event: Event,
     ) -> Result<Plan, AllocError>
-        requires { MayAsk self.now.kept.state seat event }
+        requires asked { MayAsk self.now.kept.state seat event }
+        requires late { self.now.kept.state.seen ≤ moment }
         ensures { IfOk result (λ plan. plan ≡ plan_at self.entry.now.kept.state seat moment event) }
     {
         let (decided, changes) = self.decided(alloc, seat, moment, &event)?;
@@ -142,7 +146,8 @@ impl Site {
         moment: Moment,
         event: &Event,
     ) -> Result<(Result<Deed, Denial>, Changes), AllocError>
-        requires { MayAsk self.now.kept.state seat event.now }
+        requires asked { MayAsk self.now.kept.state seat event.now }
+        requires late { self.now.kept.state.seen ≤ moment }
         ensures decision { IfOk result (λ made. decision_in made.0 ≡ decision_of self.now.kept.state seat moment event.now) }
         ensures changes { IfOk result (λ made. made.1 ≡ changes_to self.now.kept.state seat moment event.now) }
     {
@@ -182,6 +187,7 @@ impl Site {
             }
             .decide(alloc),
             Event::End(outcome) => self.decide_end(alloc, seat, moment, outcome),
+            Event::Sweep => Ok(Ok(swept(alloc, &self.current.view(), moment)?)),
         }
     }
 
@@ -201,7 +207,8 @@ impl Site {
         }
     }
 
-    /// Makes the planned step. It takes no memory.
+    /// Makes the planned step. It needs no memory.
+    #[tactic(auto, using(crate::proofs::Steps::entry_fits))]
     pub fn adopt(&mut self, plan: Plan) -> Answer
         requires { IsReady self.old plan }
         ensures answer { result ≡ answer_to self.old.kept.state plan.seat plan.moment plan.event }
@@ -265,6 +272,26 @@ impl Site {
         ensures { IfOk result (λ rows. rows ≡ rows_of self.now.kept.state.tables) }
     {
         self.current.rows(alloc)
+    }
+
+    /// How many items the trashes hold.
+    pub fn items(&self) -> usize
+        ensures { result ≡ length self.now.kept.state.tables.items }
+    {
+        self.current.view().items.count()
+    }
+
+    /// The numbers of the blobs that a row or a granted GET names. One that is named twice comes twice.
+    pub fn named(&self, alloc: Global) -> Result<Vec<BlobId>, AllocError>
+        ensures blobs { IfOk result (λ blobs. blobs.items ≡ blobs_named self.now.kept.state) }
+        ensures named { (id : ℕ) → Contains (blobs_named self.now.kept.state) id ↔ NamesBlob self.now.kept.state id }
+    {
+        let view = self.current.view();
+        let mut blobs = Vec::new(alloc);
+        // Rows of the other kinds name none, since there are no versions and no chunks yet.
+        name_nodes(&mut blobs, view.tree.nodes())?;
+        name_tickets(&mut blobs, view.tickets)?;
+        Ok(blobs)
     }
 
     pub fn history(&self) -> &[Entry]

@@ -1,10 +1,10 @@
 -- What is known of a Begin that no rule refuses.
-use Rattle.std.proofs.Common.{◌≡◌, ℕ, ◌+◌, ◌<◌, ◌≤◌, ◌==◌, ◌||◌, ◌&&◌, not, Bool, true, false, List, [], Option, option_map, Ok, if◌then◌else◌, refl, sym, ap, subst, ◌∙◌, arith}
+use Rattle.std.proofs.Common.{◌≡◌, ℕ, ◌+◌, ◌<◌, ◌≤◌, ◌==◌, ◌||◌, ◌&&◌, not, Bool, true, false, List, [], ◌∷◌, ◌++◌, Option, option_map, Ok, if◌then◌else◌, refl, sym, ap, subst, ◌∙◌, arith}
 use Rattle.std.specs.Prelude.{None, Some, is_some}
 use Rattle.std.specs.List.{All}
 use Rattle.std.specs.Option.{IfSome, option_map_or, option_or}
 use Rattle.std.proofs.lemmas.Bool.{both_ways, eqb-true}
-use Rattle.std.proofs.lemmas.List.Elements.{All-head}
+use Rattle.std.proofs.lemmas.List.Elements.{All-head, All-nil}
 use Rattle.std.proofs.lemmas.Option.{none-some, same_Some}
 use Rattle.nf_access.proofs.LookUps.{find_among}
 use Rattle.nf_access.specs.Mounts.{mount_at, root_folder}
@@ -23,19 +23,20 @@ use Rattle.nf_defs.specs.declared.Seeker.{Seeker}
 use Rattle.nf_defs.specs.declared.Seeker.TheVariants.{User}
 use Rattle.nf_words.proofs.Fits.{new_known, within}
 use Rattle.nf_words.proofs.Found.{found_has, found_passes}
-use Rattle.nf_words.proofs.Known.{Known}
+use Rattle.nf_words.proofs.Known.{IsItem, Known, KnownDeeds, KnownLeaving}
+use Rattle.nf_words.proofs.Known.KnownDeeds.{by_going, by_leaving}
 use Rattle.nf_words.proofs.Mounting.{IsFreeName, left_known, renamed_known}
 use Rattle.nf_words.proofs.Passing.{acts_pass, call_passes, no_fault, no_limit, Passes, PlacePasses, place_passes, no_rule}
 use Rattle.nf_words.proofs.Starts.{has_asker, IsAsking, itself_asker, link_found, link_mount, link_seeks, only_files, root_is, row_of_caller, user_root, user_seeks}
 use Rattle.nf_words.proofs.Starts.IsAsking.{by_link, by_user}
-use Rattle.nf_words.proofs.Transfers.{copied_known, fit_parts, moved_known, off}
-use Rattle.nf_words.proofs.Ways.{bounded, free_no_mount, node_present, present_inside, slot_known, slot_present, way_there}
+use Rattle.nf_words.proofs.Transfers.{copied_known, fit_parts, moved_known, off, row_leaves}
+use Rattle.nf_words.proofs.Ways.{bounded, free_no_mount, node_present, slot_known, slot_present, way_there}
 use Rattle.nf_words.specs.Asked.{asked_about}
 use Rattle.nf_words.specs.Calls.{link_by}
 use Rattle.nf_words.specs.declared.request.Caller.{Caller}
 use Rattle.nf_words.specs.declared.request.Caller.TheVariants.{Link}
 use Rattle.nf_words.specs.History.{IsShort}
-use Rattle.nf_words.specs.Prelude.{access_of, AreSound, asked_of, asked_of_trash, asker_of, by_of, Call, call_decision, caller_row, deleted, discard, exists_rule, fault_by, folder_seen, found, given, is_about_files, is_by_link, is_free_in, IsLinkTo, IsNodeSound, is_off_mount, is_owner, is_root_at, IsSound, is_taken, is_there, is_within, last_name, LeadsToRoot, limit_at, limit_by, limited, limit_rule, linked_of, link_of, listing_of, made_folder, may_by, MayWant, mount_left, mount_of, mount_renamed, moved, Need, needs, needs_between, needs_in, node_at, node_found, nothing_done, own_item, people_done, people_limit, places_by, requoted, room_rule, root_of, row_named, seeker_of, served, sharing_rule, stored, taken, target_rule, transfer_between, transfer_of, trash_done, unfit, unfit_between, unreached, user_of, way_by, way_of, ways_for}
+use Rattle.nf_words.specs.Prelude.{access_of, AreSound, asked_of, asked_of_trash, asker_of, beside, by_of, Call, call_decision, caller_row, deleted, discard, exists_rule, fault_by, folder_seen, found, given, is_about_files, is_by_link, is_free_in, IsLinkTo, IsNodeSound, is_off_mount, is_owner, is_root_at, IsSound, is_taken, is_there, is_within, last_name, limit_at, limit_by, limited, limit_rule, linked_of, link_of, listing_of, made_folder, may_by, MayWant, mount_left, mount_of, mount_renamed, moved, Need, needs, needs_between, needs_in, node_at, node_found, nothing_done, own_item, people_done, people_limit, places_by, requoted, room_rule, root_of, row_at, row_named, seeker_of, served, sharing_rule, stored, taken, target_rule, transfer_between, transfer_of, trash_done, unfit, unfit_between, unreached, user_of, way_by, way_of, ways_for}
 use Rattle.nf_words.specs.Needed.{target_needs}
 use Rattle.nf_words.specs.Sound.{MayStoreBy}
 use Rattle.nf_words.specs.declared.answer.Allowed.{Allowed}
@@ -53,7 +54,7 @@ use Rattle.nf_words.specs.declared.request.ShareAsk.TheVariants as ask
 use Rattle.nf_words.proofs.Provided.{not_taken, people_known, row_there}
 use Rattle.nf_words.specs.declared.answer.Breach.TheVariants as rule
 use Rattle.nf_words.proofs.Asks.{asks_known, nothing_known}
-use Rattle.nf_words.proofs.Trashing.{discard_known, dropped_known, emptied_known, requoted_known, restored_known}
+use Rattle.nf_words.proofs.Trashing.{dropped_known, emptied_known, requoted_known, restored_known}
 use Rattle.nf_words.specs.declared.request.PeopleAsk.{PeopleAsk}
 use Rattle.nf_words.specs.declared.request.TrashAsk.{TrashAsk}
 use Rattle.nf_words.specs.declared.request.PeopleAsk.TheVariants as people
@@ -211,18 +212,20 @@ module _ (call : Call) (spot : Spot) (sound : AreSound call.state.tables) (is : 
   folder_known (Missing found) leads some = tt
 
   -- what is deleted is in a folder: it is no root, and present
+  pub deleted_leaves : (place : Found) → found call spot ≡ place → is_there (λ node. node == root_of call || is_root t.nodes node) (Some place) ≡ false
+      → (row : NodeRow) → row_at t (node_at (Some place)) ≡ Some row → KnownLeaving t row
+  deleted_leaves (At node) leads fits row there =
+      row_leaves t row node there (off (node == root_of call) (is_root t.nodes node) fits) (node_present call spot sound is node reached leads)
+  deleted_leaves nowhere leads fits row there = absurd (none-some row there)
+
   deleted_known : (place : Found) → found call spot ≡ place → is_there (λ node. node == root_of call || is_root t.nodes node) (Some place) ≡ false
       → Known t call.now (deleted t call.now (node_at (Some place)))
-  deleted_known (At node) leads fits =
-      let no_root = off (node == root_of call) (is_root t.nodes node) fits in
-      let present = node_present call spot sound is node reached leads in
-      let there = way_there call spot sound is node reached leads in
-      let id : there.0.id ≡ node = eqb-true there.0.id node (found_passes (λ (row : NodeRow). row.id == node) t.nodes there.0 there.1) in
-      let inside = present_inside t.nodes node there.0 there.1 no_root present in
-      subst (λ (o : Option NodeRow). Known t call.now (option_map_or (discard t call.now) o nothing_done)) (sym there.1)
-      (discard_known t sound call.now there.0 (ap (node_row t.nodes) id ∙ there.1) (ap (is_root t.nodes) id ∙ no_root) inside.0 inside.1
-      (subst (LeadsToRoot t.nodes) (sym id) present))
-  deleted_known nowhere leads fits = nothing_known t call.now
+  deleted_known place leads fits = here (row_at t (node_at (Some place))) refl
+    where
+      here : (o : Option NodeRow) → row_at t (node_at (Some place)) ≡ o
+          → KnownDeeds t call.now (option_map_or (λ row. discard t call.now row ∷ []) o [] ++ option_map_or (beside t call.now) o [])
+      here None e = by_going [] (record { items = All-nil (IsItem t); once = λ i j d before within. absurd (omega (arith, within)) })
+      here (Some row) e = by_leaving row (deleted_leaves place leads fits row e)
 
 -- ---- a mount that gets another name
 
@@ -301,6 +304,13 @@ module _ (call : Call) (sound : AreSound call.state.tables) (is : IsAsking call)
       else deleted all call.now (node_at (only_at b (found call spot)).source))
   delete_known spot true itself reached fits = left_known call spot sound itself
   delete_known spot false itself reached fits = deleted_known call spot sound is (reached refl) (found call spot) refl (passed _ _ fits)
+
+  -- who leaves by that
+  pub delete_leaves : (spot : Spot) (b : Bool) → (b ≡ false → unreached (access_of call.state) call (way_of call spot) ≡ None)
+      → (if not b && is_root_at all.nodes (root_of call) (Some (way_of call spot)) then Some target.Root else None) ≡ None
+      → (row : NodeRow) → row_at all (node_at (only_at b (found call spot)).source) ≡ Some row → KnownLeaving all row
+  delete_leaves spot true reached fits row there = absurd (none-some row there)
+  delete_leaves spot false reached fits row there = deleted_leaves call spot sound is (reached refl) (found call spot) refl (passed _ _ fits) row there
 
   move_known : (source to : Spot) (b : Bool) → (way_of call source).itself ≡ b
       → (b ≡ false → unreached (access_of call.state) call (way_of call source) ≡ None)

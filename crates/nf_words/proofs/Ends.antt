@@ -1,5 +1,5 @@
 -- What is known of an End, and of every step, that no rule refuses.
-use Rattle.std.proofs.Common.{◌≡◌, ℕ, ◌+◌, ◌≤◌, ◌==◌, ◌&&◌, inl, not, sym, Bool, true, false, List, Result, Ok, Option, refl, subst, arith}
+use Rattle.std.proofs.Common.{◌≡◌, ℕ, ◌+◌, ◌≤◌, ◌==◌, ◌&&◌, inl, not, sym, Bool, true, false, List, Result, Ok, Option, refl, subst, arith, flat_map}
 use Rattle.std.specs.Prelude.{None, Some, is_some, option_map, if◌then◌else◌}
 use Rattle.std.specs.Option.{IfSome, option_map_or}
 use Rattle.std.proofs.lemmas.Bool.{not-true}
@@ -12,9 +12,10 @@ use Rattle.nf_words.proofs.Begins.{call_known}
 use Rattle.nf_words.proofs.Bodies.{body_known}
 use Rattle.nf_words.proofs.Fits.{Within, new_known, over_known, within}
 use Rattle.nf_words.proofs.Found.{found_has}
-use Rattle.nf_words.proofs.Known.{Known}
+use Rattle.nf_words.proofs.Known.{by_going, Known}
 use Rattle.nf_words.proofs.Passing.{end_passes, not_refused}
-use Rattle.nf_words.specs.Prelude.{access_of, AreSound, blob_for, call_of, content_in, decision_of, end_lost, end_refusal, ends_at, ends_goal, goal_at, HoldsFor, IsGoalSound, IsHeld, IsSound, IsStorable, IsTicketSound, IsUnmounted, LeadsToRoot, limit_at, MayAsk, MayBring, MayEnd, node_of_key, pieces_of, place_of, refilled, State, stored_at, ticket_of}
+use Rattle.nf_words.proofs.Sweeping.{swept_goes}
+use Rattle.nf_words.specs.Prelude.{access_of, AreSound, blob_for, call_of, content_in, decision_of, end_lost, end_refusal, ends_at, ends_goal, goal_at, gone_from, HoldsFor, IsGoalSound, IsHeld, IsSound, IsStorable, IsTicketSound, IsUnmounted, LeadsToRoot, limit_at, MayAsk, MayBring, MayEnd, node_of_key, owners_of, pieces_of, place_of, refilled, State, stored_at, swept, ticket_of}
 use Rattle.nf_words.specs.declared.answer.Allowed.{Allowed}
 use Rattle.nf_words.specs.declared.answer.Allowed.TheVariants as allowed
 use Rattle.nf_words.specs.declared.answer.Denial.TheVariants as denial
@@ -26,7 +27,7 @@ use Rattle.nf_words.specs.declared.answer.LockKey.{LockKey}
 use Rattle.nf_words.specs.declared.answer.LockKey.TheVariants.{Node, Slot}
 use Rattle.nf_words.specs.declared.answer.Report.TheVariants.{Done}
 use Rattle.nf_words.specs.declared.history.Event.{Event}
-use Rattle.nf_words.specs.declared.history.Event.TheVariants.{Begin, End}
+use Rattle.nf_words.specs.declared.history.Event.TheVariants.{Begin, End, Sweep}
 use Rattle.nf_words.specs.declared.history.Outcome.{Outcome}
 use Rattle.nf_words.specs.declared.history.Outcome.TheVariants.{Body}
 use Rattle.nf_words.specs.declared.history.Ticket.{Ticket}
@@ -117,3 +118,6 @@ pub known_change : (s : State) (seat now : ℕ) (event : Event) (act : Allowed) 
 known_change s seat now (Begin words request) act sound asked is = call_known (call_of s seat now words request) act sound asked.1 is
 known_change s seat now (End outcome) act sound asked is =
     end_known (access_of s) s.tables now (goal_at s seat) outcome act sound.rows (goal_sound s seat sound) (goal_held s seat sound) asked is
+known_change s seat now Sweep act sound asked is =
+    let same : swept s.tables now ≡ act = cc in
+    subst (Known s.tables now) same (by_going (flat_map (gone_from s.tables now) (owners_of s.tables.items)) (swept_goes s.tables sound.rows now))

@@ -19,3 +19,4 @@ pub mod Orders
 pub mod Asks
 pub mod Provided
 pub mod Trashing
+pub mod Sweeping

@@ -35,7 +35,7 @@ use Rattle.nf_words.specs.declared.answer.LockKey.TheVariants.{Node, Slot}
 use Rattle.nf_words.specs.declared.answer.TargetFault.{TargetFault}
 use Rattle.nf_words.specs.declared.history.Entry.{Entry}
 use Rattle.nf_words.specs.declared.history.Event.{Event}
-use Rattle.nf_words.specs.declared.history.Event.TheVariants.{Begin, End}
+use Rattle.nf_words.specs.declared.history.Event.TheVariants.{Begin, End, Sweep}
 use Rattle.nf_words.specs.declared.history.Mark.{Mark}
 use Rattle.nf_words.specs.declared.history.Mark.TheVariants as mark
 use Rattle.nf_words.specs.declared.history.Outcome.{Outcome}
@@ -372,6 +372,7 @@ decides s seat now (Begin words request) =
     let call = call_of s seat now words request in
     unless_fine (refusal_of (access_of s) call) (allowed_of (access_of s) call) (refusals (access_of s) call)
 decides s seat now (End outcome) = at_fine (access_of s) s.tables now outcome (goal_at s seat)
+decides s seat now Sweep = tt
 
 no_failure : (decision : Result Allowed Denial) (refusal : Denial) → IsDecided decision → is_failure refusal ≡ true
     → answered_by decision ≡ Err refusal → ⊥

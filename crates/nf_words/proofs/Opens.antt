@@ -1,12 +1,12 @@
 -- What an event isn't answered.
-use Rattle.std.proofs.Common.{◌≡◌, ◌≢◌, ℕ, Bool, true, false, List, Result, Ok, Err, refl, sym, ap, ◌∙◌, subst, [], ◌==◌, ◌∷◌, filter, not}
+use Rattle.std.proofs.Common.{◌≡◌, ◌≢◌, ℕ, Bool, true, false, List, Result, Ok, Err, refl, sym, ap, ◌∙◌, subst, [], ◌==◌, ◌∷◌}
 use Rattle.std.specs.Prelude.{Option, None, Some, is_some, if◌then◌else◌}
 use Rattle.std.specs.Option.{option_and_then, option_map_or, option_or}
 use Rattle.nf_base.specs.declared.rows.NodeRow.{NodeRow}
-use Rattle.nf_defs.specs.Prelude.{Access, content_of, is_folder, node_row, Tables}
+use Rattle.nf_defs.specs.Prelude.{Access, content_of, is_folder, Tables}
 use Rattle.nf_defs.specs.declared.Found.{Found}
 use Rattle.nf_defs.specs.declared.Found.TheVariants.{At, Free, Missing}
-use Rattle.nf_words.specs.Prelude.{access_of, allowed_of, answered_by, answer_to, asked_of, by_of, Call, call_of, copied, copies_to, crosses, decided, decision_of, deleted, discard, end_refusal, ends_at, exists_rule, found, given, goal_at, goal_of, gone_of, hold_of, is_off_mount, is_root_at, item_dropped, item_for, item_restored, items_of, last_name, listing_of, made_folder, mount_left, mount_renamed, moved, node_at, node_found, nothing_done, offered, own_item, people_done, perms_after, quota_of, refusal_of, reply_by, reply_to, reported, requoted, root_of, row_named, served, shared, share_ended, share_made, share_set, share_shown, share_steered, share_told, shown, source_lost, State, step, stored, stored_at, taken, target_lost, target_rule, transfer_between, transfer_by, transfer_of, transfer_to, trash_done, unfit, unfit_between, unless_refused, until_after, Way, way_of, ways_for, with_goal}
+use Rattle.nf_words.specs.Prelude.{access_of, allowed_of, answered_by, answer_to, asked_of, by_of, Call, call_of, copied, decided, decision_of, deleted, done, end_refusal, ends_at, exists_rule, found, given, goal_at, goal_of, gone_of, hold_of, is_off_mount, is_root_at, item_dropped, item_restored, items_of, last_name, listing_of, made_folder, mount_left, mount_renamed, moved, node_at, node_found, nothing_done, offered, own_item, people_done, perms_after, purges, refusal_of, reply_to, reported, requoted, root_of, row_named, served, shared, share_ended, share_made, share_set, share_shown, share_steered, share_told, shown, source_lost, State, step, stored, stored_at, taken, target_lost, target_rule, transfer_between, transfer_by, transfer_of, transfer_to, trash_done, unfit, unfit_between, unless_refused, until_after, Way, way_of, ways_for, with_goal}
 use Rattle.nf_words.specs.declared.answer.Allowed.{Allowed}
 use Rattle.nf_words.specs.declared.answer.Allowed.TheVariants as allowed
 use Rattle.nf_words.specs.declared.answer.Denial.{Denial}
@@ -46,13 +46,8 @@ use Rattle.nf_words.specs.declared.request.PeopleAsk.TheVariants as people
 use Rattle.nf_words.specs.declared.request.TrashAsk.TheVariants as trash
 use Rattle.nf_words.specs.declared.answer.Deed.TheVariants as deed
 use Rattle.std.proofs.lemmas.Bool.{cond_both}
-use Rattle.std.specs.List.{list_any}
 
 -- ---- never as the End of what stores nothing
-
-put_opens : (replaced : Option ℕ) → reply_by replaced ≢ Closed
-put_opens None = λ is. cc
-put_opens (Some node) = λ is. cc
 
 report_opens : (report : Report) → reported report ≢ Closed
 report_opens report.Made = λ is. cc
@@ -64,10 +59,7 @@ report_opens report.Plain = λ is. cc
 
 closes : (act : Allowed) → reply_to act ≡ Closed → act ≡ allowed.Close
 closes (allowed.Change changes blob report) is = absurd (report_opens report is)
-closes (allowed.Trash did gone report) is = absurd (report_opens report is)
-closes (allowed.Move transfer name) is = absurd (put_opens transfer.replaced is)
-closes (allowed.Copy rows replaced) is = absurd (put_opens replaced is)
-closes (allowed.Cross rows replaced node) is = absurd (put_opens replaced is)
+closes (allowed.Deeds deeds report) is = absurd (report_opens report is)
 closes allowed.Close is = refl
 closes act is = cc
 
@@ -90,25 +82,13 @@ open_served : (access : Access) (call : Call) (mount : Option ℕ) (place : Foun
 open_served access call mount (At node) there = open_shown access call mount node
 open_served access call mount nowhere there = absurd (cc)
 
-open_discard : (t : Tables) (now : ℕ) (row : NodeRow) → discard t now row ≢ allowed.Close
-open_discard t now row =
-    cond_both (list_any (λ node. node == row.id) gone) (allowed.Trash deed.Nothing (row.id ∷ filter (λ node. not (node == row.id)) gone) report.Done)
-    (allowed.Trash (deed.Discard (item_for now row)) gone report.Done) (λ (a : Allowed). a ≢ allowed.Close) (λ e is. cc) (λ e is. cc)
-  where
-    gone : List ℕ
-    gone = gone_of t now (quota_of t row.owner) (item_for now row ∷ items_of t row.owner)
-
 open_deleted : (t : Tables) (now : ℕ) (node : Option ℕ) → deleted t now node ≢ allowed.Close
-open_deleted t now node = here (option_and_then (node_row t.nodes) node)
-  where
-    here : (o : Option NodeRow) → option_map_or (discard t now) o nothing_done ≢ allowed.Close
-    here None = λ is. cc
-    here (Some row) = open_discard t now row
+open_deleted t now node = λ is. cc
 
 open_requoted : (t : Tables) (now quota : ℕ) (row : UserRow) → requoted t now quota row ≢ allowed.Close
 open_requoted t now quota row =
     cond_both (row.quota == quota) nothing_done
-    (allowed.Trash (deed.Requote (record row { quota = quota })) (gone_of t now quota (items_of t row.id)) report.Plain)
+    (done (deed.Requote (record row { quota = quota }) ∷ purges (gone_of t now quota (items_of t row.id))) report.Plain)
     (λ (a : Allowed). a ≢ allowed.Close) (λ e is. cc) (λ e is. cc)
 
 open_people : (t : Tables) (now : ℕ) (asked : PeopleAsk) → people_done t now asked ≢ allowed.Close
@@ -145,12 +125,7 @@ open_made t now name place there free = absurd (cc)
 -- what has a transfer is put somewhere
 open_moved : (t : Tables) (now : ℕ) (name : List ℕ) (transfer : Option Transfer) → is_some transfer ≡ true → moved t now name transfer ≢ allowed.Close
 open_moved t now name None some = absurd (cc)
-open_moved t now name (Some transfer) some = here (crosses t.nodes transfer)
-  where
-    here : (b : Bool)
-        → (if b then allowed.Cross (copies_to t now transfer name) transfer.replaced transfer.node else allowed.Move transfer name) ≢ allowed.Close
-    here true = λ is. cc
-    here false = λ is. cc
+open_moved t now name (Some transfer) some = λ is. cc
 
 open_copied : (t : Tables) (now : ℕ) (name : List ℕ) (transfer : Option Transfer) → is_some transfer ≡ true → copied t now name transfer ≢ allowed.Close
 open_copied t now name None some = absurd (cc)

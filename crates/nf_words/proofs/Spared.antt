@@ -1,10 +1,10 @@
 -- What a step that no rule refuses leaves to the others who hold something.
-use Rattle.std.proofs.Common.{◌≡◌, ◌≢◌, ℕ, ◌<◌, ◌≤◌, ◌==◌, ◌&&◌, ◌||◌, not, find, filter, get_or, Bool, true, false, List, [], ◌∷◌, length, suc, Option, Ok, Result, if◌then◌else◌, refl, sym, subst, arith, ◌⊎◌, inl, inr, map}
-use Rattle.std.specs.Prelude.{None, Some, IsNone, nat_lt, option_and_then, option_map, slice_get}
+use Rattle.std.proofs.Common.{◌≡◌, ◌≢◌, ℕ, ◌<◌, ◌≤◌, ◌==◌, ◌&&◌, ◌||◌, not, find, filter, get_or, Bool, true, false, List, [], ◌∷◌, ◌++◌, length, suc, Option, Ok, Result, if◌then◌else◌, refl, sym, subst, arith, ◌⊎◌, inl, inr, map, flat_map}
+use Rattle.std.specs.Prelude.{None, Some, IsNone, nat_lt, option_and_then, option_map}
 use Rattle.std.specs.List.{All, AllPairs, list_any}
 use Rattle.std.specs.Option.{IfSome, option_map_or}
-use Rattle.std.proofs.lemmas.Bool.{both_ways, eq-eqb, eqb-true, not-true}
-use Rattle.std.proofs.lemmas.List.Elements.{All-cons, All-filter, All-head, All-map, All-nil, All-tail, filter_passes, All-weaker}
+use Rattle.std.proofs.lemmas.Bool.{both_ways, cond_both, eq-eqb, eqb-true, not-true}
+use Rattle.std.proofs.lemmas.List.Elements.{All-append, All-cons, All-filter, All-head, All-map, All-nil, All-tail, All-weaker, filter_passes}
 use Rattle.std.proofs.lemmas.Option.{none-some, same_Some}
 use Rattle.std.proofs.lemmas.Slice.Eq.{bytes_eq-Decides}
 use Rattle.nf_base.specs.Content.{content_eq}
@@ -20,17 +20,18 @@ use Rattle.nf_base.specs.declared.rows.NodeRow.{NodeRow}
 use Rattle.nf_base.specs.declared.rows.Place.TheVariants.{Inside}
 use Rattle.nf_base.specs.declared.rows.Row.TheVariants as rows
 use Rattle.nf_base.specs.declared.rows.UserRow.{UserRow}
-use Rattle.nf_defs.specs.Prelude.{Access, content_of, is_folder, is_under, node_row, Tables, user_named}
+use Rattle.nf_defs.specs.Prelude.{Access, content_of, is_folder, is_under, node_row, Tables, user_named, walk_of}
 use Rattle.nf_defs.specs.declared.Found.{Found}
 use Rattle.nf_defs.specs.declared.Found.TheVariants.{At, Free, Missing}
-use Rattle.nf_words.proofs.Begins.{only_at, places_at, wanted_known, wanted_passes, WantedPasses}
+use Rattle.nf_words.proofs.Begins.{delete_leaves, only_at, places_at, wanted_passes, WantedPasses}
 use Rattle.nf_words.proofs.Found.{found_has, found_passes}
-use Rattle.nf_words.proofs.Known.{IsItem, Known, KnownCopies, KnownGoes}
+use Rattle.nf_words.proofs.Fits.{within}
+use Rattle.nf_words.proofs.Known.{IsItem, KnownLeaving, KnownTransfer}
 use Rattle.nf_words.proofs.Passing.{place_passes, call_passes, no_key, not_refused}
 use Rattle.nf_words.proofs.Starts.{has_asker, IsAsking}
 use Rattle.nf_words.proofs.Steps.{fails_each}
-use Rattle.nf_words.proofs.Transfers.{copies_known}
-use Rattle.nf_words.specs.Prelude.{access_of, AreApartHolds, AreKeysApart, AreSound, asked_by, asked_of, asked_of_trash, asker_of, blob_for, blocks, by_of, Call, call_decision, call_of, carry_limit, clashes, content_in, copied, copies_to, copy_limit, crosses, decision_of, deleted, discard, end_decision, ended_row, end_refusal, ends_at, ends_goal, found, given, gone_beside, gone_of, HoldsFor, home_of, is_exclusive, is_member, IsNodeSound, IsSound, IsTicketSound, item_dropped, item_for, item_restored, items_of, joined_by, key_in_way, last_name, least, left_by, left_row, lesser, limited, listing_of, locked_rule, made_folder, makes, MayAsk, MayWant, membership, mount_left, mount_renamed, mounts_for, mounts_joined, moved, move_limit, name_back, named_row, new_node, new_root, new_share, new_user, node_at, node_of_key, nothing_done, offered, own_item, own_mount, people_changed, people_done, perms_after, places_of, put_mounts, quota_of, refilled, requoted, restore_touches, root_of, row_named, same_end, same_key, served, set_row, shared, share_ended, share_made, share_set, share_shown, share_steered, share_told, source_touches, State, stored, stored_at, target_touches, ticket_of, Touch, touched, touches, touch_key, touch_under, transfer_of, transfer_touches, trash_done, unfit_between, unreached, until_after, way_of, with_mount_row, without, without_ticket}
+use Rattle.nf_words.proofs.Transfers.{copies_known, replaced_leaves, row_leaves, transfer_known}
+use Rattle.nf_words.specs.Prelude.{access_of, AreApartHolds, AreKeysApart, AreSound, asked_by, asked_of, asked_of_trash, asker_of, beside, besides, blob_for, blocks, by_of, Call, call_decision, call_of, carry_limit, clashes, content_in, copied, copies, copies_to, copy_limit, crosses, crossing, decision_of, deepest_in, deleted, discard, discards, done, end_decision, ended_row, end_refusal, ends_at, ends_goal, found, given, goes_itself, gone_beside, gone_from, gone_of, HoldsFor, home_of, is_exclusive, is_member, IsNodeSound, IsSound, IsTicketSound, item_dropped, item_for, item_restored, items_of, joined_by, key_in_way, last_name, least, left_by, left_row, lesser, limited, listing_of, locked_rule, made_folder, makes, MayAsk, MayWant, membership, mount_left, mount_renamed, mounts_for, mounts_joined, moved, move_limit, moves, name_back, named_row, new_node, new_root, new_share, new_user, node_at, node_of_key, nothing_done, offered, owners_of, own_item, own_mount, people_changed, people_done, perms_after, pieces_in, places_of, purges, put_mounts, refilled, requoted, restore_touches, root_of, row_at, row_named, same_end, same_key, served, set_row, shared, share_ended, share_made, share_set, share_shown, share_steered, share_told, source_touches, State, stored, stored_at, swept, target_touches, ticket_of, Touch, touched, touches, touch_key, touch_under, transfer_of, transfer_touches, trash_done, unfit_between, unreached, until_after, way_of, with_mount_row, without, without_ticket}
 use Rattle.nf_words.specs.declared.answer.Allowed.{Allowed}
 use Rattle.nf_words.specs.declared.answer.Allowed.TheVariants as allowed
 use Rattle.nf_words.specs.declared.answer.By.{By}
@@ -47,7 +48,7 @@ use Rattle.nf_words.specs.declared.answer.Report.TheVariants as report
 use Rattle.nf_words.specs.declared.request.Making.TheVariants as making
 use Rattle.nf_words.specs.declared.request.Spot.{Spot}
 use Rattle.nf_words.specs.declared.history.Event.{Event}
-use Rattle.nf_words.specs.declared.history.Event.TheVariants.{Begin, End}
+use Rattle.nf_words.specs.declared.history.Event.TheVariants.{Begin, End, Sweep}
 use Rattle.nf_words.specs.declared.history.Outcome.{Outcome}
 use Rattle.nf_words.specs.declared.history.Outcome.TheVariants.{Body, Gone, Sent}
 use Rattle.nf_words.specs.declared.history.Ticket.{Ticket}
@@ -58,11 +59,14 @@ use Rattle.nf_words.specs.declared.request.PeopleAsk.TheVariants as people
 use Rattle.nf_words.specs.declared.request.Places.{Places}
 use Rattle.nf_words.specs.declared.request.ShareAsk.{ShareAsk}
 use Rattle.nf_words.specs.declared.request.ShareAsk.TheVariants as ask
+use Rattle.nf_base.specs.declared.limits.TheConstants.{MAX_DEPTH}
+use Rattle.nf_words.specs.declared.answer.Limit.{Limit}
 use Rattle.nf_words.specs.declared.request.Transfer.{Transfer}
 use Rattle.nf_words.specs.declared.request.Wanted.{Wanted}
 use Rattle.nf_words.specs.declared.request.Wanted.TheVariants.{Copy, Delete, Get, Mkcol, Move}
 use Rattle.nf_words.specs.declared.request.Wanted.TheVariants as wanted
-use Rattle.nf_words.proofs.Trashing.{beside_goes, emptied_items, own_is, own_there, user_goes}
+use Rattle.nf_words.proofs.Sweeping.{swept_goes}
+use Rattle.nf_words.proofs.Trashing.{beside_goes, emptied_items, own_is, own_there, rest_goes, user_goes}
 use Rattle.nf_base.specs.declared.rows.ItemRow.{ItemRow}
 use Rattle.nf_words.specs.declared.answer.Deed.{Deed}
 use Rattle.nf_words.specs.declared.answer.Deed.TheVariants as deed
@@ -89,16 +93,16 @@ pub record SparesTarget (t : Tables) (key : LockKey) (transfer : Transfer) (name
   pub slot : key ≢ Slot transfer.folder name
   pub replaced : IfSome transfer.replaced (SparesUnder t key)
 
--- nor is it under what is put in the trash, and no item comes back under a name that is held
-abbrev pub SparesDeed : Tables → LockKey → Deed → Type 0
-SparesDeed t key deed.Nothing = Unit {0}
-SparesDeed t key (deed.Discard item) = SparesUnder t key item.node
-SparesDeed t key (deed.Restore node folder name) = key ≢ Slot folder name
-SparesDeed t key (deed.Requote row) = Unit {0}
-
--- nor under what goes for good, unless that is an item: what is held isn't in the trash
-abbrev pub SparesGone : Tables → LockKey → ℕ → Type 0
-SparesGone t key node = IsItem t node ⊎ SparesUnder t key node
+-- a deed leaves alone what is held: that isn't under what leaves its place, unless that is an item, since what is held isn't in the
+-- trash; and nothing is put under a name that is held
+abbrev pub SparesDeed : Tables → ℕ → LockKey → Deed → Type 0
+SparesDeed t now key (deed.Discard item) = SparesUnder t key item.node
+SparesDeed t now key (deed.Purge node) = IsItem t node ⊎ SparesUnder t key node
+SparesDeed t now key (deed.Restore node folder name) = key ≢ Slot folder name
+SparesDeed t now key (deed.Relink node folder name) = SparesUnder t key node × key ≢ Slot folder name
+SparesDeed t now key (deed.Join rows) =
+    (transfer : Transfer) × (name : List ℕ) × (rows ≡ copies_to t now transfer name) × key ≢ Slot transfer.folder name
+SparesDeed t now key (deed.Requote row) = Unit {0}
 
 -- an act leaves alone what is held, and what it grants is another key, or both read
 abbrev pub Spares : Tables → ℕ → Hold → Allowed → Type 0
@@ -106,12 +110,7 @@ Spares t now hold (allowed.Get node content) = AreKeysApart (Node node) Shared h
 Spares t now hold (allowed.List listing) = Unit {0}
 Spares t now hold (allowed.Put by key length) = AreKeysApart key Exclusive hold.key hold.mode
 Spares t now hold (allowed.Change changes blob report) = All (SparesChange t hold.key) changes
-Spares t now hold (allowed.Trash did gone report) = SparesDeed t hold.key did × All (SparesGone t hold.key) gone
-Spares t now hold (allowed.Move transfer name) = SparesUnder t hold.key transfer.node × SparesTarget t hold.key transfer name
-Spares t now hold (allowed.Copy rows replaced) =
-    (known : KnownCopies t now rows replaced) × SparesTarget t hold.key known.transfer known.name
-Spares t now hold (allowed.Cross rows replaced node) =
-    (known : KnownCopies t now rows replaced) × SparesTarget t hold.key known.transfer known.name × SparesUnder t hold.key node
+Spares t now hold (allowed.Deeds deeds report) = All (SparesDeed t now hold.key) deeds
 Spares t now hold allowed.Close = Unit {0}
 
 -- ---- keys
@@ -212,43 +211,48 @@ folder_spares t now hold name (Free folder) clear =
 folder_spares t now hold name (Missing depth) clear = tt
 
 -- those that go of whom nothing else is known are items
-gone_spared : (t : Tables) (hold : Hold) (nodes : List ℕ) → All (IsItem t) nodes → All (SparesGone t hold.key) nodes
-gone_spared t hold nodes all = All-weaker (IsItem t) (SparesGone t hold.key) (λ node is. inl is) nodes all
+module _ (t : Tables) (now : ℕ) (hold : Hold) where
+  abbrev IsLeft : Deed → Type 0
+  IsLeft one = SparesDeed t now hold.key one
 
--- of what goes the first may be present, and has to be touched then
-goes_spared : (t : Tables) (hold : Hold) (nodes : List ℕ) → KnownGoes t nodes → IfSome (slice_get nodes 0) (λ node. IsItem t node ⊎ SparesUnder t hold.key node)
-    → All (SparesGone t hold.key) nodes
-goes_spared t hold [] goes first = All-nil (SparesGone t hold.key)
-goes_spared t hold (node ∷ nodes) goes first = All-cons (SparesGone t hold.key) node nodes first (gone_spared t hold nodes goes.1)
+  gone_spared : (nodes : List ℕ) → All (IsItem t) nodes → All IsLeft (purges nodes)
+  gone_spared nodes all =
+      All-map IsLeft (λ (node : ℕ). deed.Purge node) nodes
+      (All-weaker (IsItem t) (λ (node : ℕ). IsItem t node ⊎ SparesUnder t hold.key node) (λ node is. inl is) nodes all)
 
--- what is put in the trash, or goes, is touched with all under it
-discard_spares : (t : Tables) (now : ℕ) (hold : Hold) (row : NodeRow) → Known t now (discard t now row) → SparesUnder t hold.key row.id
-    → Spares t now hold (discard t now row)
-discard_spares t now hold row known under = here (list_any (λ node. node == row.id) nodes) known
-  where
-    nodes : List ℕ
-    nodes = gone_of t now (quota_of t row.owner) (item_for now row ∷ items_of t row.owner)
+  -- what is put in the trash, or goes, is touched with all under it
+  discard_spares : (row : NodeRow) → SparesUnder t hold.key row.id → IsLeft (discard t now row)
+  discard_spares row under =
+      cond_both (goes_itself t now row) (deed.Purge row.id) (deed.Discard (item_for now row)) IsLeft (λ e. inr under) (λ e. under)
 
-    rest : List ℕ
-    rest = filter (λ node. not (node == row.id)) nodes
+  -- what leaves its place, if anything does
+  module _ (sound : AreSound t) where
+    discards_spare : (node : Option ℕ) → IfSome node (SparesUnder t hold.key) → All IsLeft (discards t now node)
+    discards_spare None under = All-nil IsLeft
+    discards_spare (Some node) under = here (node_row t.nodes node) refl
+      where
+        here : (o : Option NodeRow) → node_row t.nodes node ≡ o → All IsLeft (option_map_or (λ row. discard t now row ∷ []) o [])
+        here None e = All-nil IsLeft
+        here (Some row) e =
+            let id : row.id ≡ node = eqb-true row.id node (found_passes (λ (row : NodeRow). row.id == node) t.nodes row e) in
+            All-cons IsLeft (discard t now row) [] (discard_spares row (subst (SparesUnder t hold.key) (sym id) under)) (All-nil IsLeft)
 
-    here : (b : Bool)
-        → Known t now (if b then allowed.Trash deed.Nothing (row.id ∷ rest) report.Done else allowed.Trash (deed.Discard (item_for now row)) nodes report.Done)
-        → Spares t now hold (if b then allowed.Trash deed.Nothing (row.id ∷ rest) report.Done else allowed.Trash (deed.Discard (item_for now row)) nodes report.Done)
-    here true known = (tt, goes_spared t hold (row.id ∷ rest) known.goes (inr under))
-    here false known = (under, gone_spared t hold nodes (known.items (λ same. cc)))
+    besides_spare : (node : Option ℕ) → ((row : NodeRow) → row_at t node ≡ Some row → KnownLeaving t row) → All IsLeft (besides t now node)
+    besides_spare node known = here (row_at t node) refl
+      where
+        here : (o : Option NodeRow) → row_at t node ≡ o → All IsLeft (option_map_or (beside t now) o [])
+        here None e = All-nil IsLeft
+        here (Some row) e = gone_spared _ (rest_goes t sound now row (known row e)).items
 
-deleted_spares : (t : Tables) (now : ℕ) (hold : Hold) (node : Option ℕ) → Known t now (deleted t now node)
+deleted_spares : (t : Tables) (now : ℕ) (hold : Hold) (node : Option ℕ) → AreSound t → ((row : NodeRow) → row_at t node ≡ Some row → KnownLeaving t row)
     → IsClear t hold (option_map_or (source_touches t.nodes true) node []) → Spares t now hold (deleted t now node)
-deleted_spares t now hold None known clear = All-nil (SparesChange t hold.key)
-deleted_spares t now hold (Some node) known clear = here (node_row t.nodes node) refl known
+deleted_spares t now hold node sound known clear =
+    All-append (SparesDeed t now hold.key) (discards t now node) (besides t now node) (discards_spare t now hold sound node (here node clear))
+    (besides_spare t now hold sound node known)
   where
-    here : (o : Option NodeRow) → node_row t.nodes node ≡ o → Known t now (option_map_or (discard t now) o nothing_done)
-        → Spares t now hold (option_map_or (discard t now) o nothing_done)
-    here None e known = All-nil (SparesChange t hold.key)
-    here (Some row) e known =
-        let id : row.id ≡ node = eqb-true row.id node (found_passes (λ (row : NodeRow). row.id == node) t.nodes row e) in
-        discard_spares t now hold row known (subst (SparesUnder t hold.key) (sym id) (under_spared t hold node [] clear))
+    here : (node : Option ℕ) → IsClear t hold (option_map_or (source_touches t.nodes true) node []) → IfSome node (SparesUnder t hold.key)
+    here None clear = tt
+    here (Some node) clear = under_spared t hold node [] clear
 
 -- what is replaced, if anything is
 abbrev gone_touches : Option ℕ → List Touch
@@ -294,25 +298,43 @@ module _ (call : Call) (hold : Hold) (sound : AreSound call.state.tables) (is : 
   nowhere = record { source = None; target = None }
 
   delete_spares : (spot : Spot) (b : Bool) → IsClear t hold (option_map_or (source_touches t.nodes true) (node_at (only_at b (found call spot)).source) [])
-      → Known t call.now (if b then mount_left call (way_of call spot) else deleted t call.now (node_at (only_at b (found call spot)).source))
+      → ((row : NodeRow) → row_at t (node_at (only_at b (found call spot)).source) ≡ Some row → KnownLeaving t row)
       → IsSpared (if b then mount_left call (way_of call spot) else deleted t call.now (node_at (only_at b (found call spot)).source))
   delete_spares spot true clear known =
       mount_spares t call.now hold (option_map left_row (own_mount call (way_of call spot).mount)) report.Done
-  delete_spares spot false clear known = deleted_spares t call.now hold (node_at (Some (found call spot))) known clear
+  delete_spares spot false clear known = deleted_spares t call.now hold (node_at (Some (found call spot))) sound known clear
 
-  -- a transfer that a rule let pass
-  abbrev Copies : Spot → Transfer → Type 0
-  Copies to transfer = KnownCopies t call.now (copies_to t call.now transfer (last_name to)) transfer.replaced
+  -- a transfer that a rule let pass: what is replaced, and what is put in its place
+  replaced_spares : (transfer : Transfer) (name : List ℕ) (one : Deed) → KnownTransfer t transfer name → SparesTarget t hold.key transfer name
+      → SparesDeed t call.now hold.key one
+      → All (SparesDeed t call.now hold.key) (discards t call.now transfer.replaced ++ one ∷ besides t call.now transfer.replaced)
+  replaced_spares transfer name one known target left =
+      All-append (SparesDeed t call.now hold.key) (discards t call.now transfer.replaced) (one ∷ besides t call.now transfer.replaced)
+      (discards_spare t call.now hold sound transfer.replaced target.replaced)
+      (All-cons (SparesDeed t call.now hold.key) one (besides t call.now transfer.replaced) left
+      (besides_spare t call.now hold sound transfer.replaced (replaced_leaves t sound transfer name known)))
+
+  copied_spares : (transfer : Transfer) (name : List ℕ) → KnownTransfer t transfer name → SparesTarget t hold.key transfer name
+      → All (SparesDeed t call.now hold.key) (copies t call.now name transfer)
+  copied_spares transfer name known target =
+      replaced_spares transfer name (deed.Join (copies_to t call.now transfer name)) known target (transfer, name, refl, target.slot)
 
   carried_spares : (to : Spot) (transfer : Option Transfer) → option_and_then (carry_limit t) transfer ≡ None
-      → ((one : Transfer) → transfer ≡ Some one → copy_limit t one ≡ None → (known : Copies to one) × (known.transfer ≡ one) × (known.name ≡ last_name to))
+      → ((one : Transfer) → transfer ≡ Some one → (if crosses t.nodes one then copy_limit t one else move_limit t one) ≡ None
+      → KnownTransfer t one (last_name to))
       → IsClear t hold (option_map_or (transfer_touches Exclusive (last_name to)) transfer [])
       → IsSpared (moved t call.now (last_name to) transfer)
   carried_spares to None few known clear = tt
-  carried_spares to (Some transfer) few known clear = here (crosses t.nodes transfer) few
+  carried_spares to (Some transfer) few known clear = here (crosses t.nodes transfer)
     where
       name : List ℕ
       name = last_name to
+
+      IsLeft : Deed → Type 0
+      IsLeft one = SparesDeed t call.now hold.key one
+
+      is_known : KnownTransfer t transfer name
+      is_known = known transfer refl few
 
       under : SparesUnder t hold.key transfer.node
       under = under_spared t hold transfer.node (touch_key (Slot transfer.folder name) Exclusive ∷ gone_touches transfer.replaced) clear
@@ -320,16 +342,20 @@ module _ (call : Call) (hold : Hold) (sound : AreSound call.state.tables) (is : 
       target : SparesTarget t hold.key transfer name
       target = transfer_spared t hold Exclusive name transfer clear
 
-      here : (b : Bool) → (if b then copy_limit t transfer else move_limit t transfer) ≡ None
-          → IsSpared (if b then allowed.Cross (copies_to t call.now transfer name) transfer.replaced transfer.node else allowed.Move transfer name)
-      here false few = (under, target)
-      here true few =
-          let copies = known transfer refl few in (
-            copies.0,
-            subst (λ (x : Transfer). SparesTarget t hold.key x copies.0.name) (sym copies.1)
-                (subst (λ (n : List ℕ). SparesTarget t hold.key transfer n) (sym copies.2) target),
-            under,
-          )
+      here : (b : Bool) → All (SparesDeed t call.now hold.key) (if b then crossing t call.now name transfer else moves t call.now name transfer)
+      here false = replaced_spares transfer name (deed.Relink transfer.node transfer.folder name) is_known target (under, target.slot)
+      here true =
+          let joins : Deed = deed.Join (copies_to t call.now transfer name) in
+          let source : List Deed = discards t call.now (Some transfer.node) in
+          let first : List Deed = besides t call.now transfer.replaced in
+          let last : List Deed = besides t call.now (Some transfer.node) in
+          All-append IsLeft (discards t call.now transfer.replaced) (joins ∷ (source ++ (first ++ last)))
+          (discards_spare t call.now hold sound transfer.replaced target.replaced)
+          (All-cons IsLeft joins (source ++ (first ++ last)) (transfer, name, refl, target.slot)
+          (All-append IsLeft source (first ++ last) (discards_spare t call.now hold sound (Some transfer.node) under)
+          (All-append IsLeft first last (besides_spare t call.now hold sound transfer.replaced (replaced_leaves t sound transfer name is_known))
+          (besides_spare t call.now hold sound (Some transfer.node)
+          (λ row there. row_leaves t row transfer.node there is_known.no_root is_known.present)))))
 
   move_spares : (from to : Spot) (b : Bool) → (way_of call from).itself ≡ b
       → (b ≡ false → unreached (access_of call.state) call (way_of call from) ≡ None)
@@ -344,7 +370,13 @@ module _ (call : Call) (hold : Hold) (sound : AreSound call.state.tables) (is : 
       mount_spares t call.now hold (option_map (named_row (last_name to)) (own_mount call (way_of call from).mount)) report.Made
   move_spares from to false itself from_reached to_reached fits few clear =
       carried_spares to (transfer_of t.nodes (led from to)) few
-      (λ one e some. (copies_known call from to sound is (from_reached refl) to_reached one e fits some, refl, refl)) clear
+      (λ one e some.
+      transfer_known call from to sound is (from_reached refl) to_reached one e fits
+      (cond_both (crosses t.nodes one) (copy_limit t one) (move_limit t one)
+      (λ (limit : Option Limit). limit ≡ None → deepest_in t.nodes one.node one.folder ≤ MAX_DEPTH)
+      (λ e some. (within t (length (walk_of t.nodes one.node)) (deepest_in t.nodes one.node one.folder) (pieces_in t.nodes (walk_of t.nodes one.node)) 0 some).deep)
+      (λ e some. (within t 0 (deepest_in t.nodes one.node one.folder) 0 0 some).deep)
+      some)) clear
 
   copy_spares : (from to : Spot) → unreached (access_of call.state) call (way_of call from) ≡ None
       → unreached (access_of call.state) call (way_of call to) ≡ None
@@ -352,12 +384,10 @@ module _ (call : Call) (hold : Hold) (sound : AreSound call.state.tables) (is : 
       → (o : Option Transfer) → transfer_of t.nodes (led from to) ≡ o → option_and_then (copy_limit t) o ≡ None
       → IsClear t hold (option_map_or (transfer_touches Shared (last_name to)) o [])
       → IsSpared (copied t call.now (last_name to) o)
-  unfolding copies_known
   copy_spares from to from_reached to_reached fits None e some clear = tt
-  copy_spares from to from_reached to_reached fits (Some transfer) e some clear = (
-    copies_known call from to sound is from_reached to_reached transfer e fits some,
-    transfer_spared t hold Shared (last_name to) transfer clear,
-  )
+  copy_spares from to from_reached to_reached fits (Some transfer) e some clear =
+      copied_spares transfer (last_name to) (copies_known call from to sound is from_reached to_reached transfer e fits some).known
+      (transfer_spared t hold Shared (last_name to) transfer clear)
 
   -- no key is of a share or of a mount
   mounts_spare : (mounts : List MountRow) → All (SparesChange t hold.key) (put_mounts mounts)
@@ -443,9 +473,12 @@ module _ (call : Call) (hold : Hold) (sound : AreSound call.state.tables) (is : 
   persons_spare (people.SetQuota user quota) = here (row_named t user)
     where
       another : (row : UserRow) (b : Bool) → IsSpared (if b then nothing_done
-          else allowed.Trash (deed.Requote (record row { quota = quota })) (gone_of t call.now quota (items_of t row.id)) report.Plain)
+          else done (deed.Requote (record row { quota = quota }) ∷ purges (gone_of t call.now quota (items_of t row.id))) report.Plain)
       another row true = All-nil (SparesChange t hold.key)
-      another row false = (tt, gone_spared t hold (gone_of t call.now quota (items_of t row.id)) (user_goes t sound call.now quota row.id))
+      another row false =
+          let gone = gone_of t call.now quota (items_of t row.id) in
+          All-cons (SparesDeed t call.now hold.key) (deed.Requote (record row { quota = quota })) (purges gone) tt
+          (gone_spared t call.now hold gone (user_goes t sound call.now quota row.id))
 
       here : (o : Option UserRow) → IsSpared (option_map_or (requoted t call.now quota) o nothing_done)
       here None = All-nil (SparesChange t hold.key)
@@ -464,13 +497,11 @@ module _ (call : Call) (hold : Hold) (sound : AreSound call.state.tables) (is : 
     where
       here : (o : Option ItemRow) → own_item call node ≡ o → IsSpared (option_map_or (item_dropped t call.now) o nothing_done)
       here None e = All-nil (SparesChange t hold.key)
-      here (Some item) e = (
-        tt,
-        gone_spared t hold (item.node ∷ gone_beside t call.now item)
-            (All-cons (IsItem t) item.node (gone_beside t call.now item) (own_is t sound (asker_of call) node item e) (beside_goes t sound call.now item)),
-      )
+      here (Some item) e =
+          gone_spared t call.now hold (item.node ∷ gone_beside t call.now item)
+          (All-cons (IsItem t) item.node (gone_beside t call.now item) (own_is t sound (asker_of call) node item e) (beside_goes t sound call.now item))
   trash_spares (trash.Empty user) clear =
-      (tt, gone_spared t hold (map (λ item. item.node) (items_of t (asker_of call))) (emptied_items t sound (asker_of call)))
+      gone_spared t call.now hold (map (λ item. item.node) (items_of t (asker_of call))) (emptied_items t sound (asker_of call))
   trash_spares (trash.Restore user node) clear = here (own_item call node) refl
     where
       here : (o : Option ItemRow) → own_item call node ≡ o → IsSpared (option_map_or (item_restored t call.now) o nothing_done)
@@ -479,7 +510,9 @@ module _ (call : Call) (hold : Hold) (sound : AreSound call.state.tables) (is : 
           let there = own_there t sound (asker_of call) node item e in
           let slot : LockKey = Slot (home_of t item) (name_back t item) in
           let free : IsClear t hold (touch_key slot Exclusive ∷ []) = subst (λ (o : Option ItemRow). IsClear t hold (option_map_or (restore_touches t) o [])) there clear in
-          (other_key slot hold (key_apart t hold slot Exclusive [] free), gone_spared t hold (gone_beside t call.now item) (beside_goes t sound call.now item))
+          All-cons (SparesDeed t call.now hold.key) (deed.Restore item.node (home_of t item) (name_back t item)) (purges (gone_beside t call.now item))
+          (other_key slot hold (key_apart t hold slot Exclusive [] free))
+          (gone_spared t call.now hold (gone_beside t call.now item) (beside_goes t sound call.now item))
 
   wanted_spares : (wanted : Wanted) → WantedPasses call wanted → IsClear t hold (touches t (asked_of wanted) (places_at call wanted))
       → IsSpared (given (access_of call.state) call (places_at call wanted) wanted)
@@ -487,7 +520,8 @@ module _ (call : Call) (hold : Hold) (sound : AreSound call.state.tables) (is : 
   wanted_spares (wanted.Put spot size) p clear =
       stored_spares t call.now hold (by_of call spot) (last_name spot) size (found call spot) clear
   wanted_spares (Mkcol spot) p clear = folder_spares t call.now hold (last_name spot) (found call spot) clear
-  wanted_spares (Delete spot) p clear = delete_spares spot (way_of call spot).itself clear (wanted_known call sound is (Delete spot) p)
+  wanted_spares (Delete spot) p clear = delete_spares spot (way_of call spot).itself clear
+      (delete_leaves call sound is spot (way_of call spot).itself p.place.source p.fits)
   wanted_spares (Move from to overwrite) p clear =
       move_spares from to (way_of call from).itself refl p.place.source p.place.target p.fits p.few clear
   wanted_spares (Copy from to overwrite) p clear =
@@ -707,3 +741,12 @@ pub step_spares : (s : State) (seat now : ℕ) (event : Event) (act : Allowed) �
 step_spares s seat now (Begin words request) act sound asked is =
     begin_spares (call_of s seat now words request) act sound asked.1 asked.0 is
 step_spares s seat now (End outcome) act sound asked is = end_spares s seat now outcome act sound is
+step_spares s seat now Sweep act sound asked is =
+    let same : swept s.tables now ≡ act = cc in
+    subst (λ (act : Allowed). All (λ ticket. IfSome ticket.hold (λ hold. Spares s.tables now hold act)) s.tickets) same
+    (λ k d within. some_spared (get_or s.tickets k d).hold)
+  where
+    some_spared : (hold : Option Hold) → IfSome hold (λ hold. Spares s.tables now hold (swept s.tables now))
+    some_spared None = tt
+    some_spared (Some hold) =
+        gone_spared s.tables now hold (flat_map (gone_from s.tables now) (owners_of s.tables.items)) (swept_goes s.tables sound.rows now).items

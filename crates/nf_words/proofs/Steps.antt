@@ -8,7 +8,7 @@ use Rattle.std.proofs.lemmas.List.Kept.{AllPairs-filter}
 use Rattle.std.proofs.lemmas.List.Quantifiers.{all_pairs_push}
 use Rattle.std.proofs.lemmas.Grind.{common_steps}
 use Rattle.nf_defs.specs.Prelude.{Access, Tables}
-use Rattle.nf_words.specs.Prelude.{access_of, after, after_mark, answer_to, answered_by, decided, decision_of, end_decision, end_refusal, ends_at, ends_goal, failed, goal_at, goal_of, hold_of, IsLegalFrom, MayAsk, replay, reply_by, reply_to, reported, State, step, stored_at, ticket_for, ticket_of, unless_refused, with_goal, without, without_ticket}
+use Rattle.nf_words.specs.Prelude.{access_of, after, after_mark, answer_to, answered_by, decided, decision_of, end_decision, end_refusal, ends_at, ends_goal, failed, goal_at, goal_of, hold_of, IsLegalFrom, MayAsk, replay, reply_to, reported, State, step, stored_at, ticket_for, ticket_of, unless_refused, with_goal, without, without_ticket}
 use Rattle.nf_words.specs.declared.answer.Allowed.{Allowed}
 use Rattle.nf_words.specs.declared.answer.Allowed.TheVariants as allowed
 use Rattle.nf_words.specs.declared.answer.Denial.{Denial}
@@ -23,7 +23,7 @@ use Rattle.nf_words.specs.declared.answer.Report.{Report}
 use Rattle.nf_words.specs.declared.answer.Report.TheVariants as report
 use Rattle.nf_words.specs.declared.history.Entry.{Entry}
 use Rattle.nf_words.specs.declared.history.Event.{Event}
-use Rattle.nf_words.specs.declared.history.Event.TheVariants.{Begin, End}
+use Rattle.nf_words.specs.declared.history.Event.TheVariants.{Begin, End, Sweep}
 use Rattle.nf_words.specs.declared.history.Mark.{Mark}
 use Rattle.nf_words.specs.declared.history.Mark.TheVariants as mark
 use Rattle.nf_words.specs.declared.history.Outcome.{Outcome}
@@ -66,6 +66,7 @@ freed s seat = find-filter-not (λ ticket. ticket.seat == seat) s.tickets
 
 pub other_without : (s : State) (seat : ℕ) (event : Event) (other : ℕ) → other ≢ seat → ticket_of (without s seat event) other ≡ ticket_of s other
 other_without s seat (Begin words request) other differ = refl
+other_without s seat Sweep other differ = refl
 other_without s seat (End outcome) other differ =
     find-filter (λ ticket. ticket.seat == other) (λ ticket. not (ticket.seat == seat)) (λ ticket is. grind (arith, common_steps)) s.tickets
 
@@ -156,12 +157,7 @@ gone_keeps s seat now = goal_keeps s seat now Gone (goal_at s seat) (λ goal. re
 
 -- ---- a granted step
 
--- what is put at a place grants nothing
-pub put_grants_nothing : (replaced : Option ℕ) (goal : Goal) → reply_by replaced ≢ Granted goal
-put_grants_nothing None goal = λ is. cc
-put_grants_nothing (Some node) goal = λ is. cc
-
--- nor does a change
+-- a change grants nothing
 pub reports_nothing : (report : Report) (goal : Goal) → reported report ≢ Granted goal
 reports_nothing report.Made goal = λ is. cc
 reports_nothing report.Done goal = λ is. cc
@@ -172,10 +168,7 @@ reports_nothing report.Plain goal = λ is. cc
 
 goal_of_reply : (act : Allowed) (goal : Goal) → reply_to act ≡ Granted goal → goal_of act ≡ Some goal
 goal_of_reply (allowed.Change changes blob report) goal is = absurd (reports_nothing report goal is)
-goal_of_reply (allowed.Trash did gone report) goal is = absurd (reports_nothing report goal is)
-goal_of_reply (allowed.Move transfer name) goal is = absurd (put_grants_nothing transfer.replaced goal is)
-goal_of_reply (allowed.Copy rows replaced) goal is = absurd (put_grants_nothing replaced goal is)
-goal_of_reply (allowed.Cross rows replaced node) goal is = absurd (put_grants_nothing replaced goal is)
+goal_of_reply (allowed.Deeds deeds report) goal is = absurd (reports_nothing report goal is)
 goal_of_reply act goal is = cc
 
 pub ok_reply : (x y : Reply) → ◌≡◌ {A = Result Reply Denial} (Ok x) (Ok y) → x ≡ y
@@ -205,6 +198,7 @@ pub granted_step : (s : State) (seat now : ℕ) (event : Event) (goal : Goal)
     → IsNone (ticket_of s seat) → answer_to s seat now event ≡ Ok (Granted goal)
     → goal_at (step s seat now event) seat ≡ Some goal
 granted_step s seat now (Begin words request) goal none is = granted_decided s seat now (decision_of s seat now (Begin words request)) goal none is
+granted_step s seat now Sweep goal none is = cc
 granted_step s seat now (End outcome) goal none is =
     absurd (never_granted (end_decision (access_of s) s seat now outcome) goal (end_nothing s seat now outcome) is)
 
@@ -232,11 +226,13 @@ differ_decided s seat now (Err refusal) none h = h
 
 differ_step : (s : State) (seat now : ℕ) (event : Event) → MayAsk s seat event → Differ s → Differ (step s seat now event)
 differ_step s seat now (Begin words request) asked h = differ_decided s seat now (decision_of s seat now (Begin words request)) asked.0 h
+differ_step s seat now Sweep asked h = h
 differ_step s seat now (End outcome) asked h =
     subst (λ (ts : List Ticket). AllPairs OfTwoSeats ts) (sym (end_tickets s seat now outcome)) (differ_without s seat h)
 
 differ_failed : (s : State) (seat now : ℕ) (event : Event) → Differ s → Differ (failed s seat now event)
 differ_failed s seat now (Begin words request) h = h
+differ_failed s seat now Sweep h = h
 differ_failed s seat now (End outcome) h = differ_without s seat h
 
 differ_after : (s : State) (e : Entry) (mark : Mark) → MayAsk s e.seat e.event → Differ s → Differ (after_mark s e mark)

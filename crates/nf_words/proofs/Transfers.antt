@@ -1,19 +1,20 @@
 -- What is known of a MOVE or a COPY that no rule refuses.
-use Rattle.std.proofs.Common.{◌≡◌, ℕ, ◌≤◌, ◌==◌, ◌||◌, Bool, true, false, List, length, ◌∙◌, Option, option_map, if◌then◌else◌, refl, sym, ap, subst, arith}
+use Rattle.std.proofs.Common.{◌≡◌, ℕ, ◌≤◌, ◌==◌, ◌||◌, Bool, true, false, List, length, ◌∙◌, Option, option_map, if◌then◌else◌, refl, sym, ap, subst, arith, eqb-true}
 use Rattle.std.specs.Prelude.{None, Some}
 use Rattle.std.specs.Option.{option_and_then, option_map_or, option_or}
 use Rattle.std.proofs.lemmas.Option.{none-some, same_Some}
 use Rattle.nf_base.specs.declared.limits.TheConstants.{MAX_DEPTH}
 use Rattle.nf_base.specs.declared.rows.NodeRow.{NodeRow}
-use Rattle.nf_defs.specs.Prelude.{child_of, is_folder, is_root, Tables, walk_of}
+use Rattle.nf_defs.specs.Prelude.{child_of, is_folder, is_root, node_row, Tables, walk_of}
 use Rattle.nf_defs.specs.declared.Found.{Found}
 use Rattle.nf_defs.specs.declared.Found.TheVariants.{At, Free, Missing}
 use Rattle.nf_words.proofs.Fits.{within}
-use Rattle.nf_words.proofs.Known.{Known, KnownCopies, KnownTransfer}
+use Rattle.nf_words.proofs.Found.{child_parent, found_passes}
+use Rattle.nf_words.proofs.Known.{Known, KnownCopies, KnownDeeds, KnownLeaving, KnownTransfer}
+use Rattle.nf_words.proofs.Known.KnownDeeds.{by_copying, by_crossing, by_moving}
 use Rattle.nf_words.proofs.Starts.{IsAsking}
-use Rattle.nf_words.proofs.Ways.{at_in, folder_present, HasRow, node_present, slot_known, slot_present, taken_unmounted, way_there}
-use Rattle.nf_words.specs.Prelude.{access_of, AreSound, Call, carry_limit, copied, copies_to, copy_limit, crosses, deepest_in, folder_at, folder_seen, found, is_off_mount, is_root_at, is_start, is_there, IsUnmounted, last_name, LeadsToRoot, misplaced, misplaced_by, moved, move_limit, node_found, pieces_in, root_of, transfer_between, transfer_by, transfer_of, transfer_to, unfit_between, unreached, Way, way_of, Ways}
-use Rattle.nf_words.specs.declared.answer.Allowed.TheVariants as allowed
+use Rattle.nf_words.proofs.Ways.{at_in, folder_present, HasRow, inside_no_root, inside_present, node_present, present_inside, slot_known, slot_present, taken_unmounted, way_there}
+use Rattle.nf_words.specs.Prelude.{access_of, AreSound, Call, carry_limit, copied, copy_limit, crosses, crossing, deepest_in, folder_at, folder_seen, found, is_off_mount, is_root_at, is_start, is_there, IsUnmounted, last_name, LeadsToRoot, misplaced, misplaced_by, moved, move_limit, moves, node_found, pieces_in, root_of, row_at, transfer_between, transfer_by, transfer_of, transfer_to, unfit_between, unreached, Way, way_of, Ways}
 use Rattle.nf_words.specs.declared.answer.TargetFault.{TargetFault}
 use Rattle.nf_words.specs.declared.answer.TargetFault.TheVariants as target
 use Rattle.nf_words.specs.declared.request.Places.{Places}
@@ -200,17 +201,12 @@ module _ (call : Call) (source target : Spot) (sound : AreSound call.state.table
       here nowhere leads led fits = absurd (none-some transfer led)
 
   unfoldable pub copies_known : (transfer : Transfer) → transfer_of t.nodes places ≡ Some transfer → unfit_between t.nodes (root_of call) false ways ≡ None
-      → copy_limit t transfer ≡ None
-      → KnownCopies t call.now (copies_to t call.now transfer (last_name target)) transfer.replaced
+      → copy_limit t transfer ≡ None → KnownCopies t transfer (last_name target)
   copies_known transfer e fits some =
       let nodes = walk_of t.nodes transfer.node in
       let fits_in = within t (length nodes) (deepest_in t.nodes transfer.node transfer.folder) (pieces_in t.nodes nodes) 0 some in
       record {
-        transfer = transfer;
-        name = last_name target;
         known = transfer_known transfer e fits fits_in.deep;
-        replaced_is = refl;
-        copies = refl;
         nodes = fits_in.nodes;
         next_node = fits_in.next_node;
         pieces = fits_in.pieces;
@@ -222,20 +218,22 @@ module _ (call : Call) (source target : Spot) (sound : AreSound call.state.table
   unfolding copies_known
   moved_known fits some = here (transfer_of t.nodes places) refl some
     where
-      carries : (transfer : Transfer) (b : Bool) → crosses t.nodes transfer ≡ b → transfer_of t.nodes places ≡ Some transfer
+      carried : (transfer : Transfer) (b : Bool) → crosses t.nodes transfer ≡ b → transfer_of t.nodes places ≡ Some transfer
           → (if b then copy_limit t transfer else move_limit t transfer) ≡ None
-          → Known t call.now (if b then allowed.Cross (copies_to t call.now transfer (last_name target)) transfer.replaced transfer.node
-          else allowed.Move transfer (last_name target))
-      carries transfer true across e some = record { copies = copies_known transfer e fits some; node_is = refl; crosses = across }
-      carries transfer false across e some = record {
-        known = transfer_known transfer e fits (within t 0 (deepest_in t.nodes transfer.node transfer.folder) 0 0 some).deep;
-        within = across;
-      }
+          → KnownDeeds t call.now (if b then crossing t call.now (last_name target) transfer else moves t call.now (last_name target) transfer)
+      carried transfer true across e some =
+          by_crossing transfer (last_name target) (record { copies = copies_known transfer e fits some; crosses = across })
+      carried transfer false across e some =
+          by_moving transfer (last_name target)
+          (record {
+            known = transfer_known transfer e fits (within t 0 (deepest_in t.nodes transfer.node transfer.folder) 0 0 some).deep;
+            within = across;
+          })
 
       here : (o : Option Transfer) → transfer_of t.nodes places ≡ o → option_and_then (carry_limit t) o ≡ None
           → Known t call.now (moved t call.now (last_name target) o)
       here None e some = tt
-      here (Some transfer) e some = carries transfer (crosses t.nodes transfer) refl e some
+      here (Some transfer) e some = carried transfer (crosses t.nodes transfer) refl e some
 
   pub copied_known : unfit_between t.nodes (root_of call) false ways ≡ None → option_and_then (copy_limit t) (transfer_of t.nodes places) ≡ None
       → Known t call.now (copied t call.now (last_name target) (transfer_of t.nodes places))
@@ -244,4 +242,35 @@ module _ (call : Call) (source target : Spot) (sound : AreSound call.state.table
       here : (o : Option Transfer) → transfer_of t.nodes places ≡ o → option_and_then (copy_limit t) o ≡ None
           → Known t call.now (copied t call.now (last_name target) o)
       here None e some = tt
-      here (Some transfer) e some = copies_known transfer e fits some
+      here (Some transfer) e some = by_copying transfer (last_name target) (copies_known transfer e fits some)
+
+-- ---- what leaves its place
+
+-- a node that is present and no root is in a folder
+pub row_leaves : (t : Tables) (row : NodeRow) (node : ℕ) → node_row t.nodes node ≡ Some row → is_root t.nodes node ≡ false → LeadsToRoot t.nodes node
+    → KnownLeaving t row
+row_leaves t row node there no_root present =
+    let id : row.id ≡ node = eqb-true row.id node (found_passes (λ (row : NodeRow). row.id == node) t.nodes row there) in
+    let inside = present_inside t.nodes node row there no_root present in
+    record {
+      there = ap (node_row t.nodes) id ∙ there;
+      no_root = ap (is_root t.nodes) id ∙ no_root;
+      folder = inside.0;
+      inside = inside.1;
+      present = subst (LeadsToRoot t.nodes) (sym id) present;
+    }
+
+-- ---- what is replaced
+
+-- it is in the target's folder, and present as that is
+pub replaced_leaves : (t : Tables) → AreSound t → (transfer : Transfer) (name : List ℕ) → KnownTransfer t transfer name → (row : NodeRow)
+    → row_at t transfer.replaced ≡ Some row → KnownLeaving t row
+replaced_leaves t sound transfer name known row there = here transfer.replaced known.there there
+  where
+    here : (o : Option ℕ) → child_of t.nodes transfer.folder name ≡ o → row_at t o ≡ Some row → KnownLeaving t row
+    here None e there = absurd (none-some row there)
+    here (Some node) e there =
+        let parent = child_parent t.nodes transfer.folder name node sound.rising e in
+        let no_root = inside_no_root t.nodes node transfer.folder parent in
+        let present = inside_present t.nodes node transfer.folder parent known.folder_present in
+        row_leaves t row node there no_root present

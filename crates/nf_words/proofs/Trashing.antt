@@ -1,7 +1,7 @@
 -- What is known of a DELETE, of what is asked about the trash, and of another quota: which nodes go for good.
-use Rattle.std.proofs.Common.{◌≡◌, ◌≢◌, ◌⊎◌, ℕ, zero, suc, ◌==◌, ◌||◌, inl, inr, Bool, true, false, not, List, [], ◌∷◌, ◌∙◌, drop, filter, get_or, map, Option, unwrap_or, if◌then◌else◌, refl, sym, ap, subst, arith}
+use Rattle.std.proofs.Common.{◌≡◌, ◌≢◌, ◌⊎◌, ℕ, zero, suc, ◌==◌, inl, inr, Bool, true, false, not, List, [], ◌∷◌, ◌∙◌, drop, filter, get_or, map, Option, if◌then◌else◌, refl, sym, ap, subst, arith}
 use Rattle.std.specs.Prelude.{None, Some, is_some}
-use Rattle.std.specs.List.{All, AllPairs, list_any}
+use Rattle.std.specs.List.{All, AllPairs}
 use Rattle.std.specs.Option.{option_and_then, option_map_or}
 use Rattle.std.proofs.lemmas.Cmp.{tied_itself}
 use Rattle.std.proofs.lemmas.Bool.{both_ways, cond_both, eq-eqb, eqb-true, not-true}
@@ -13,15 +13,15 @@ use Rattle.nf_base.specs.declared.rows.NodeRow.{NodeRow}
 use Rattle.nf_base.specs.declared.rows.Place.TheVariants.{Inside, Trash}
 use Rattle.nf_base.specs.declared.rows.UserRow.{UserRow}
 use Rattle.nf_defs.proofs.Puts.{key_total}
-use Rattle.nf_defs.specs.Prelude.{folder_of, is_root, item_key, item_row, key_cmp, node_row, Tables, user_row}
+use Rattle.nf_defs.specs.Prelude.{item_key, item_row, key_cmp, node_row, Tables, user_row}
 use Rattle.nf_retention.specs.Trash.{is_newer, newest_first, put_newest}
 use Rattle.nf_words.proofs.Asks.{nothing_known}
 use Rattle.nf_words.proofs.Fits.{within}
 use Rattle.nf_words.proofs.Found.{found_passes}
-use Rattle.nf_words.proofs.Known.{IsItem, Known, KnownGoes, KnownTrash}
-use Rattle.nf_words.specs.Prelude.{AreSound, deepest_in, discard, gone_beside, gone_of, home_of, IsItemSound, item_dropped, item_for, item_if_of, item_restored, items_but, items_of, LeadsToRoot, nothing_done, quota_of, requoted, restore_limit}
+use Rattle.nf_words.proofs.Known.{IsItem, Known, KnownDeeds, KnownGoes, KnownLeaving, KnownRestore}
+use Rattle.nf_words.proofs.Known.KnownDeeds.{by_going, by_requoting, by_restoring}
+use Rattle.nf_words.specs.Prelude.{AreSound, deepest_in, done, gone_beside, gone_of, home_of, IsItemSound, item_dropped, item_for, item_if_of, item_restored, items_but, items_of, name_back, nothing_done, purges, quota_of, requoted, restore_limit}
 use Rattle.nf_words.specs.declared.answer.Allowed.{Allowed}
-use Rattle.nf_words.specs.declared.answer.Allowed.TheVariants as allowed
 use Rattle.nf_words.specs.declared.answer.Deed.TheVariants as deed
 use Rattle.nf_words.specs.declared.answer.Report.TheVariants as report
 
@@ -46,10 +46,10 @@ AreTwo a b = a.node ≢ b.node
 turned : (a b : ItemRow) → AreTwo a b → AreTwo b a
 turned a b two = λ same. two (sym same)
 
-heads : {X : Type 0} (R : X → X → Type 0) (x : X) (xs : List X) → AllPairs R (x ∷ xs) → All (R x) xs
+pub heads : {X : Type 0} (R : X → X → Type 0) (x : X) (xs : List X) → AllPairs R (x ∷ xs) → All (R x) xs
 heads R x xs pairs k d within = pairs 0 (suc k) d (omega arith) (omega (arith, within))
 
-tails : {X : Type 0} (R : X → X → Type 0) (x : X) (xs : List X) → AllPairs R (x ∷ xs) → AllPairs R xs
+pub tails : {X : Type 0} (R : X → X → Type 0) (x : X) (xs : List X) → AllPairs R (x ∷ xs) → AllPairs R xs
 tails R x xs pairs i j d before within = pairs (suc i) (suc j) d (omega (arith, before)) (omega (arith, within))
 
 put_two : (item : ItemRow) (items : List ItemRow) → All (AreTwo item) items → AllPairs AreTwo items → AllPairs AreTwo (put_newest item items)
@@ -74,7 +74,7 @@ drop_two (suc n) (item ∷ items) pairs = drop_two n items (tails AreTwo item it
 
 -- ---- what goes
 
-abbrev Distinct : List ℕ → Type 0
+abbrev pub Distinct : List ℕ → Type 0
 Distinct nodes = AllPairs (λ (a b : ℕ). a ≢ b) nodes
 
 nodes_two : (items : List ItemRow) → AllPairs AreTwo items → Distinct (map (λ item. item.node) items)
@@ -93,16 +93,6 @@ gone_has P t now quota items all =
 
 gone_once : (t : Tables) (now quota : ℕ) (items : List ItemRow) → AllPairs AreTwo items → Distinct (gone_of t now quota items)
 gone_once t now quota items pairs = nodes_two _ (drop_two _ (newest_first items) (newest_two items pairs))
-
--- where none passes, each fails
-none_such : {X : Type 0} (test : X → Bool) (xs : List X) → list_any test xs ≡ false → All (λ x. test x ≡ false) xs
-none_such test [] none = All-nil (λ x. test x ≡ false)
-none_such {X = X} test (x ∷ xs) none = here (test x) (list_any test xs) refl refl none (λ none. none_such test xs none)
-  where
-    here : (a b : Bool) → test x ≡ a → list_any test xs ≡ b → (a || b) ≡ false
-        → (list_any test xs ≡ false → All (λ x. test x ≡ false) xs) → All (λ x. test x ≡ false) (x ∷ xs)
-    here false false e f none rest = All-cons (λ x. test x ≡ false) x xs e (rest f)
-    here a b e f none rest = absurd (cc)
 
 module _ (t : Tables) (sound : AreSound t) where
   -- ---- the items that are there
@@ -135,19 +125,15 @@ module _ (t : Tables) (sound : AreSound t) where
   NodeOf item = item.node
 
   -- an item that is found is of its node
-  item_is : (node : ℕ) (item : ItemRow) → item_row t.items node ≡ Some item → item.node ≡ node
+  pub item_is : (node : ℕ) (item : ItemRow) → item_row t.items node ≡ Some item → item.node ≡ node
   item_is node item found = eqb-true item.node node (found_passes (λ (item : ItemRow). item.node == node) t.items item found)
 
   -- those that go of a user's
   pub user_goes : (now quota user : ℕ) → All (IsItem t) (gone_of t now quota (items_of t user))
   user_goes now quota user = gone_has (IsItem t) t now quota (items_of t user) (of_user user)
 
-  user_once : (now quota user : ℕ) → Distinct (gone_of t now quota (items_of t user))
+  pub user_once : (now quota user : ℕ) → Distinct (gone_of t now quota (items_of t user))
   user_once now quota user = gone_once t now quota (items_of t user) (user_two user)
-
-  goes_all : (nodes : List ℕ) → All (IsItem t) nodes → KnownGoes t nodes
-  goes_all [] all = tt
-  goes_all (node ∷ nodes) all = (inl (All-head (IsItem t) node nodes all), All-tail (IsItem t) node nodes all)
 
   -- ---- an item that goes or comes back, and of the others those that go
 
@@ -168,16 +154,6 @@ module _ (t : Tables) (sound : AreSound t) where
   beside_once now item =
       gone_once t now _ (items_but t item.owner item.node)
       (AllPairs-filter AreTwo (λ (other : ItemRow). not (other.node == item.node)) (items_of t item.owner) (user_two item.owner))
-
-  -- nothing else is done, and those go
-  only_gone : (now : ℕ) (gone : List ℕ) → KnownGoes t gone → Distinct gone → KnownTrash t now deed.Nothing gone
-  only_gone now gone goes once = record {
-    known = tt;
-    goes = goes;
-    once = once;
-    stays = λ k d within same. none-some _ same;
-    items = λ other. absurd (other refl);
-  }
 
   abbrev IsKnown : ℕ → Allowed → Type 0
   IsKnown now act = Known t now act
@@ -200,43 +176,61 @@ module _ (t : Tables) (sound : AreSound t) where
   own_is user node item is =
       let there = own_there user node item is in subst (IsItem t) (sym (item_is node item there)) (ap is_some there)
 
+  -- it goes, and of the others those that do
+  pub dropped_goes : (now : ℕ) (item : ItemRow) → IsItem t item.node → KnownGoes t (item.node ∷ gone_beside t now item)
+  dropped_goes now item is =
+      let gone = gone_beside t now item in
+      record {
+        items = All-cons (IsItem t) item.node gone is (beside_goes now item);
+        once = AllPairs-cons (λ (a b : ℕ). a ≢ b) item.node gone (beside_others now item) (beside_once now item);
+      }
+
   pub dropped_known : (now user node : ℕ) (o : Option ItemRow) → option_and_then (item_if_of user) (item_row t.items node) ≡ o
       → IsKnown now (option_map_or (item_dropped t now) o nothing_done)
   dropped_known now user node None is = nothing_known t now
   dropped_known now user node (Some item) is =
-      only_gone now (item.node ∷ gone_beside t now item) (inl (own_is user node item is), beside_goes now item)
-      (AllPairs-cons (λ (a b : ℕ). a ≢ b) item.node (gone_beside t now item) (beside_others now item) (beside_once now item))
+      by_going (item.node ∷ gone_beside t now item) (dropped_goes now item (own_is user node item is))
 
   pub emptied_items : (user : ℕ) → All (IsItem t) (map (λ item. item.node) (items_of t user))
   emptied_items user = All-map (IsItem t) NodeOf (items_of t user) (of_user user)
 
-  pub emptied_known : (now user : ℕ) → KnownTrash t now deed.Nothing (map (λ item. item.node) (items_of t user))
-  emptied_known now user =
-      let nodes = map NodeOf (items_of t user) in
-      only_gone now nodes (goes_all nodes (emptied_items user)) (nodes_two (items_of t user) (user_two user))
+  -- all of a user's go
+  pub emptied_goes : (user : ℕ) → KnownGoes t (map (λ item. item.node) (items_of t user))
+  emptied_goes user = record { items = emptied_items user; once = nodes_two (items_of t user) (user_two user) }
+
+  pub emptied_known : (now user : ℕ) → KnownDeeds t now (purges (map (λ item. item.node) (items_of t user)))
+  emptied_known now user = by_going (map NodeOf (items_of t user)) (emptied_goes user)
+
+  -- it comes back, and of the others some go
+  pub record KnownBack (now : ℕ) (item : ItemRow) : Type 0 where
+    pub restore : KnownRestore t item.node (home_of t item) (name_back t item)
+    pub goes : KnownGoes t (gone_beside t now item)
+    pub others : All (λ (node : ℕ). item.node ≢ node) (gone_beside t now item)
+
+  pub back_known : (now user node : ℕ) (item : ItemRow) → option_and_then (item_if_of user) (item_row t.items node) ≡ Some item
+      → option_and_then (restore_limit t) (item_row t.items node) ≡ None → KnownBack now item
+  back_known now user node item is few =
+      let there = own_there user node item is in
+      let id = item_is node item there in
+      let fits : restore_limit t item ≡ None = sym (ap (option_and_then (restore_limit t)) there) ∙ few in
+      record {
+        restore = record {
+          item = item;
+          there = ap (item_row t.items) id ∙ there;
+          home = refl;
+          named = refl;
+          deep = (within t 0 (deepest_in t.nodes item.node (home_of t item)) 0 0 fits).deep;
+        };
+        goes = record { items = beside_goes now item; once = beside_once now item };
+        others = beside_others now item;
+      }
 
   pub restored_known : (now user node : ℕ) (o : Option ItemRow) → option_and_then (item_if_of user) (item_row t.items node) ≡ o
       → option_and_then (restore_limit t) (item_row t.items node) ≡ None → IsKnown now (option_map_or (item_restored t now) o nothing_done)
   restored_known now user node None is few = nothing_known t now
   restored_known now user node (Some item) is few =
-      let there = own_there user node item is in
-      let id = item_is node item there in
-      let at : item_row t.items item.node ≡ Some item = ap (item_row t.items) id ∙ there in
-      let fits : restore_limit t item ≡ None = sym (ap (option_and_then (restore_limit t)) there) ∙ few in
-      record {
-        known = record {
-          item = item;
-          there = at;
-          home = refl;
-          named = refl;
-          deep = (within t 0 (deepest_in t.nodes item.node (home_of t item)) 0 0 fits).deep;
-        };
-        goes = goes_all (gone_beside t now item) (beside_goes now item);
-        once = beside_once now item;
-        stays = All-weaker (λ (other : ℕ). item.node ≢ other) (λ (other : ℕ). Some item.node ≢ Some other)
-            (λ other differs same. differs (same_Some item.node other same)) (gone_beside t now item) (beside_others now item);
-        items = λ other. beside_goes now item;
-      }
+      let back = back_known now user node item is few in
+      by_restoring item.node (home_of t item) (name_back t item) (gone_beside t now item) back.restore back.goes back.others
 
   -- ---- another quota
 
@@ -246,30 +240,28 @@ module _ (t : Tables) (sound : AreSound t) where
       gone : List ℕ
       gone = gone_of t now quota (items_of t row.id)
 
-      here : (b : Bool) → (row.quota == quota) ≡ b
-          → IsKnown now (if b then nothing_done else allowed.Trash (deed.Requote (record row { quota = quota })) gone report.Plain)
+      another : UserRow
+      another = record row { quota = quota }
+
+      here : (b : Bool) → (row.quota == quota) ≡ b → IsKnown now (if b then nothing_done else done (deed.Requote another ∷ purges gone) report.Plain)
       here true e = nothing_known t now
-      here false e = record {
-        known = record {
-          old = row;
-          there = there;
-          same = refl;
-          other = λ same. both_ways (row.quota == quota) e (eq-eqb row.quota quota (sym (ap (λ (r : UserRow). r.quota) same)));
-        };
-        goes = goes_all gone (user_goes now quota row.id);
-        once = user_once now quota row.id;
-        stays = λ k d within same. none-some _ same;
-        items = λ other. user_goes now quota row.id;
-      }
+      here false e =
+          by_requoting another gone
+          (record {
+            old = row;
+            there = there;
+            same = refl;
+            other = λ same. both_ways (row.quota == quota) e (eq-eqb row.quota quota (sym (ap (λ (r : UserRow). r.quota) same)));
+          })
+          (record { items = user_goes now quota row.id; once = user_once now quota row.id })
 
-  -- ---- a DELETE
+  -- ---- what leaves its place
 
-  module _ (now : ℕ) (row : NodeRow) (there : node_row t.nodes row.id ≡ Some row) (no_root : is_root t.nodes row.id ≡ false)
-      (folder : ℕ) (inside : row.place ≡ Inside folder) (present : LeadsToRoot t.nodes row.id) where
-    abbrev item : ItemRow
+  module _ (now : ℕ) (row : NodeRow) (known : KnownLeaving t row) where
+    abbrev pub item : ItemRow
     item = item_for now row
 
-    abbrev all : List ItemRow
+    abbrev pub all : List ItemRow
     all = item ∷ items_of t row.owner
 
     -- what is in the trash is in no folder, so that it isn't an item yet
@@ -278,8 +270,8 @@ module _ (t : Tables) (sound : AreSound t) where
         All-filter (λ (other : ItemRow). other.owner == row.owner) (λ (other : ItemRow). row.id ≢ other.node) t.items
         (All-weaker (IsItemSound t) (λ (other : ItemRow). row.id ≢ other.node)
         (λ other is same.
-        let of : row ≡ is.of = same_Some row is.of (sym there ∙ ap (node_row t.nodes) same ∙ is.there) in
-        let place : Inside folder ≡ Trash = sym inside ∙ ap (λ (r : NodeRow). r.place) of ∙ is.place in cc)
+        let of : row ≡ is.of = same_Some row is.of (sym known.there ∙ ap (node_row t.nodes) same ∙ is.there) in
+        let place : Inside known.folder ≡ Trash = sym known.inside ∙ ap (λ (r : NodeRow). r.place) of ∙ is.place in cc)
         t.items sound.others.items)
 
     all_apart : AllPairs AreTwo all
@@ -295,7 +287,7 @@ module _ (t : Tables) (sound : AreSound t) where
         (All-weaker (λ (other : ItemRow). IsItem t other.node) (λ (other : ItemRow). EitherOf other.node) (λ other is. inr is) (items_of t row.owner)
         (of_user row.owner))
 
-    abbrev gone : ℕ → List ℕ
+    abbrev pub gone : ℕ → List ℕ
     gone quota = gone_of t now quota all
 
     either_gone : (quota : ℕ) → All EitherOf (gone quota)
@@ -306,46 +298,23 @@ module _ (t : Tables) (sound : AreSound t) where
     others_items nodes either other k d within =
         elim (either k d within) [ inl same ↦ absurd (other k d within same) | inr is ↦ is ]
 
-    pub discard_known : IsKnown now (discard t now row)
-    discard_known = here (list_any (λ node. node == row.id) nodes) refl
-      where
-        nodes : List ℕ
-        nodes = gone (quota_of t row.owner)
+    abbrev pub off : ℕ → Bool
+    off node = not (node == row.id)
 
-        off : ℕ → Bool
-        off node = not (node == row.id)
+    abbrev pub nodes : List ℕ
+    nodes = gone (quota_of t row.owner)
 
-        rest : List ℕ
-        rest = filter off nodes
+    abbrev pub rest : List ℕ
+    rest = filter off nodes
 
-        apart : All (λ (node : ℕ). node ≢ row.id) rest
-        apart k d within same =
-            both_ways (get_or rest k d == row.id) (not-true (get_or rest k d == row.id) (filter_passes off nodes k d within))
-            (eq-eqb (get_or rest k d) row.id same)
+    pub rest_apart : All (λ (node : ℕ). node ≢ row.id) rest
+    rest_apart k d within same =
+        both_ways (get_or rest k d == row.id) (not-true (get_or rest k d == row.id) (filter_passes off nodes k d within))
+        (eq-eqb (get_or rest k d) row.id same)
 
-        here : (b : Bool) → list_any (λ node. node == row.id) nodes ≡ b
-            → IsKnown now (if b then allowed.Trash deed.Nothing (row.id ∷ rest) report.Done else allowed.Trash (deed.Discard item) nodes report.Done)
-        here true e =
-            only_gone now (row.id ∷ rest)
-            (inr (record { no_root = no_root; there = (row, there); present = present }), others_items rest (All-filter off EitherOf nodes (either_gone (quota_of t row.owner))) apart)
-            (AllPairs-cons (λ (a b : ℕ). a ≢ b) row.id rest
-            (All-weaker (λ (node : ℕ). node ≢ row.id) (λ (node : ℕ). row.id ≢ node) (λ node differs same. differs (sym same)) rest apart)
-            (AllPairs-filter (λ (a b : ℕ). a ≢ b) off nodes (gone_once t now (quota_of t row.owner) all all_apart)))
-        here false e =
-            let others : All (λ (node : ℕ). node ≢ row.id) nodes =
-            λ k d within same. both_ways (get_or nodes k d == row.id) (none_such (λ node. node == row.id) nodes e k d within) (eq-eqb (get_or nodes k d) row.id same) in
-            let items = others_items nodes (either_gone (quota_of t row.owner)) others in
-            record {
-              known = record {
-                row = row;
-                there = there;
-                inside = inside ∙ ap Inside (sym (ap (λ (o : Option ℕ). unwrap_or o 0) (ap folder_of inside)));
-                present = present;
-                is = refl;
-              };
-              goes = goes_all nodes items;
-              once = gone_once t now (quota_of t row.owner) all all_apart;
-              stays = All-weaker (λ (node : ℕ). node ≢ row.id) (λ (node : ℕ). Some row.id ≢ Some node)
-                  (λ node differs same. differs (sym (same_Some row.id node same))) nodes others;
-              items = λ other. items;
-            }
+    -- what goes beside it is items
+    pub rest_goes : KnownGoes t rest
+    rest_goes = record {
+      items = others_items rest (All-filter off EitherOf nodes (either_gone (quota_of t row.owner))) rest_apart;
+      once = AllPairs-filter (λ (a b : ℕ). a ≢ b) off nodes (gone_once t now (quota_of t row.owner) all all_apart);
+    }

@@ -4,7 +4,7 @@ use Rattle.std.specs.Option.{option_map_or}
 use Rattle.nf_access.specs.Mounts.{mount_row}
 use Rattle.nf_base.specs.Content.{content_eq}
 use Rattle.nf_base.specs.declared.changes.Change.{Change}
-use Rattle.nf_base.specs.declared.changes.Change.TheVariants.{Put, Drop}
+use Rattle.nf_base.specs.declared.changes.Change.TheVariants.{Put}
 use Rattle.nf_base.specs.declared.content.Piece.{Piece}
 use Rattle.nf_base.specs.declared.rows.MetaRow.{MetaRow}
 use Rattle.nf_base.specs.declared.rows.MountRow.{MountRow}
@@ -14,7 +14,7 @@ use Rattle.nf_base.specs.declared.rows.NodeRow.{NodeRow}
 use Rattle.nf_base.specs.declared.rows.Place.TheVariants.{Inside}
 use Rattle.nf_base.specs.declared.rows.Row.TheVariants as rows
 use Rattle.nf_base.specs.declared.rows.ShareRow.{ShareRow}
-use Rattle.nf_defs.specs.Prelude.{Access, content_of, is_folder, node_row, owner_of, put_all, relinked, Tables, with_node}
+use Rattle.nf_defs.specs.Prelude.{Access, content_of, is_folder, node_row, owner_of, put_all, Tables}
 use Rattle.nf_defs.specs.declared.Found.{Found}
 use Rattle.nf_defs.specs.declared.Found.TheVariants.{At, Free, Missing}
 use Rattle.nf_words.specs.State.{State, ticket_for}
@@ -47,8 +47,9 @@ use Rattle.nf_words.specs.declared.answer.Report.{Report}
 use Rattle.nf_words.specs.declared.answer.Report.TheVariants as report
 use Rattle.nf_words.specs.declared.history.Ticket.{Ticket}
 use Rattle.nf_words.specs.Charges.{quota_of}
-use Rattle.nf_words.specs.Deeds.{cleared, deed_done, ended_for, ended_row, gone_for, gone_under, purged_all, removed, told_deed, told_purges}
-use Rattle.nf_words.specs.Trash.{gone_of, item_for, item_lines, items_but, items_of, own_item}
+use Rattle.nf_words.specs.Deeds.{deeds_done, ended_row, told_deeds}
+use Rattle.nf_words.specs.declared.answer.Deed.{Deed}
+use Rattle.nf_words.specs.Trash.{gone_of, item_for, item_lines, items_but, items_of, own_item, owners_of}
 use Rattle.nf_words.specs.Homes.{home_of, name_back}
 use Rattle.nf_base.specs.declared.rows.ItemRow.{ItemRow}
 use Rattle.nf_base.specs.declared.rows.UserRow.{UserRow}
@@ -57,7 +58,7 @@ use Rattle.nf_words.specs.declared.request.PeopleAsk.TheVariants as people
 use Rattle.nf_words.specs.declared.request.TrashAsk.{TrashAsk}
 use Rattle.nf_words.specs.declared.request.TrashAsk.TheVariants as trash
 use Rattle.nf_words.specs.declared.answer.Deed.TheVariants as deed
-use Rattle.std.specs.List.{list_any}
+use Rattle.std.specs.List.{flat_map, list_any}
 
 -- ---- what an act may do at the places that its paths lead to; elsewhere, where a rule refuses it, nothing
 
@@ -108,30 +109,74 @@ made_folder t now name (Some (Missing depth)) = allowed.Close
 abbrev pub nothing_done : Allowed
 nothing_done = allowed.Change [] None report.Plain
 
--- DELETE puts the node that is there in the trash, with all under it, unless the trash can't hold it. What goes for good goes then
-abbrev pub discard : Tables → ℕ → NodeRow → Allowed
-discard t now row =
-    let gone = gone_of t now (quota_of t row.owner) (item_for now row ∷ items_of t row.owner) in
-    if list_any (λ node. node == row.id) gone
-    then allowed.Trash deed.Nothing (row.id ∷ filter (λ node. not (node == row.id)) gone) report.Done
-    else allowed.Trash (deed.Discard (item_for now row)) gone report.Done
+-- what is done, and told so
+abbrev pub done : List Deed → Report → Allowed
+done deeds report = allowed.Deeds deeds report
 
+-- some nodes go for good
+abbrev pub purges : List ℕ → List Deed
+purges nodes = map (λ node. deed.Purge node) nodes
+
+-- of the trash of its owner, the nodes that go when a node is put there
+abbrev pub gone_with : Tables → ℕ → NodeRow → List ℕ
+gone_with t now row = gone_of t now (quota_of t row.owner) (item_for now row ∷ items_of t row.owner)
+
+abbrev pub goes_itself : Tables → ℕ → NodeRow → Bool
+goes_itself t now row = list_any (λ node. node == row.id) (gone_with t now row)
+
+-- a node is put in the trash with all under it, unless the trash can't hold it: then it goes for good
+abbrev pub discard : Tables → ℕ → NodeRow → Deed
+discard t now row = if goes_itself t now row then deed.Purge row.id else deed.Discard (item_for now row)
+
+-- and what else goes then
+abbrev pub beside : Tables → ℕ → NodeRow → List Deed
+beside t now row = purges (filter (λ node. not (node == row.id)) (gone_with t now row))
+
+-- the same of a node that may be there
+abbrev pub row_at : Tables → Option ℕ → Option NodeRow
+row_at t node = option_and_then (node_row t.nodes) node
+
+abbrev pub discards : Tables → ℕ → Option ℕ → List Deed
+discards t now node = option_map_or (λ row. discard t now row ∷ []) (row_at t node) []
+
+abbrev pub besides : Tables → ℕ → Option ℕ → List Deed
+besides t now node = option_map_or (beside t now) (row_at t node) []
+
+-- DELETE
 abbrev pub deleted : Tables → ℕ → Option ℕ → Allowed
-deleted t now node = option_map_or (discard t now) (option_and_then (node_row t.nodes) node) nothing_done
+deleted t now node = done (discards t now node ++ besides t now node) report.Done
+
+-- what is put at a place is made, where nothing was there
+abbrev pub made_or_done : Option ℕ → Report
+made_or_done replaced = option_map_or (λ node. report.Done) replaced report.Made
 
 -- MOVE puts the node that is there, and COPY copies of it and of all under it, into the target's folder under the target's name. What
--- goes to another owner is copied there, and then removed
-abbrev pub carried : Tables → ℕ → List ℕ → Transfer → Allowed
-carried t now name transfer =
-    if crosses t.nodes transfer then allowed.Cross (copies_to t now transfer name) transfer.replaced transfer.node
-    else allowed.Move transfer name
+-- is replaced is put in the trash. What goes to another owner is copied there, and is then put in the trash of its owner. What goes for
+-- good beside these goes last
+abbrev pub moves : Tables → ℕ → List ℕ → Transfer → List Deed
+moves t now name transfer =
+    discards t now transfer.replaced ++ deed.Relink transfer.node transfer.folder name ∷ besides t now transfer.replaced
+
+abbrev pub copies : Tables → ℕ → List ℕ → Transfer → List Deed
+copies t now name transfer =
+    discards t now transfer.replaced ++ deed.Join (copies_to t now transfer name) ∷ besides t now transfer.replaced
+
+abbrev pub crossing : Tables → ℕ → List ℕ → Transfer → List Deed
+crossing t now name transfer =
+    discards t now transfer.replaced
+    ++ deed.Join (copies_to t now transfer name)
+    ∷ (discards t now (Some transfer.node) ++ (besides t now transfer.replaced ++ besides t now (Some transfer.node)))
+
+abbrev pub carries : Tables → ℕ → List ℕ → Transfer → List Deed
+carries t now name transfer = if crosses t.nodes transfer then crossing t now name transfer else moves t now name transfer
 
 abbrev pub moved : Tables → ℕ → List ℕ → Option Transfer → Allowed
-moved t now name transfer = option_map_or (carried t now name) transfer allowed.Close
+moved t now name transfer =
+    option_map_or (λ transfer. done (carries t now name transfer) (made_or_done transfer.replaced)) transfer allowed.Close
 
 abbrev pub copied : Tables → ℕ → List ℕ → Option Transfer → Allowed
 copied t now name transfer =
-    option_map_or (λ transfer. allowed.Copy (copies_to t now transfer name) transfer.replaced) transfer allowed.Close
+    option_map_or (λ transfer. done (copies t now name transfer) (made_or_done transfer.replaced)) transfer allowed.Close
 
 -- the change that puts the row of a mount, if there is one
 abbrev pub mounting : Option MountRow → List Change
@@ -207,18 +252,26 @@ abbrev pub gone_beside : Tables → ℕ → ItemRow → List ℕ
 gone_beside t now item = gone_of t now (quota_of t item.owner) (items_but t item.owner item.node)
 
 abbrev pub item_dropped : Tables → ℕ → ItemRow → Allowed
-item_dropped t now item = allowed.Trash deed.Nothing (item.node ∷ gone_beside t now item) report.Done
+item_dropped t now item = done (purges (item.node ∷ gone_beside t now item)) report.Done
 
 abbrev pub item_restored : Tables → ℕ → ItemRow → Allowed
 item_restored t now item =
-    allowed.Trash (deed.Restore item.node (home_of t item) (name_back t item)) (gone_beside t now item) report.Made
+    done (deed.Restore item.node (home_of t item) (name_back t item) ∷ purges (gone_beside t now item)) report.Made
 
 abbrev pub trash_done : Call → TrashAsk → Allowed
 trash_done call (trash.List user) = allowed.Change [] None (report.Items (item_lines call.state.tables (asker_of call)))
 trash_done call (trash.Drop user item) = option_map_or (item_dropped call.state.tables call.now) (own_item call item) nothing_done
 trash_done call (trash.Empty user) =
-    allowed.Trash deed.Nothing (map (λ item. item.node) (items_of call.state.tables (asker_of call))) report.Done
+    done (purges (map (λ item. item.node) (items_of call.state.tables (asker_of call)))) report.Done
 trash_done call (trash.Restore user item) = option_map_or (item_restored call.state.tables call.now) (own_item call item) nothing_done
+
+-- what the trash of a user doesn't hold any more
+abbrev pub gone_from : Tables → ℕ → ℕ → List ℕ
+gone_from t now user = gone_of t now (quota_of t user) (items_of t user)
+
+-- a sweep: of the trash of each user that goes
+abbrev pub swept : Tables → ℕ → Allowed
+swept t now = done (purges (flat_map (gone_from t now) (owners_of t.items))) report.Plain
 
 -- ---- people
 
@@ -226,7 +279,7 @@ trash_done call (trash.Restore user item) = option_map_or (item_restored call.st
 abbrev pub requoted : Tables → ℕ → ℕ → UserRow → Allowed
 requoted t now quota row =
     if row.quota == quota then nothing_done
-    else allowed.Trash (deed.Requote (record row { quota = quota })) (gone_of t now quota (items_of t row.id)) report.Plain
+    else done (deed.Requote (record row { quota = quota }) ∷ purges (gone_of t now quota (items_of t row.id))) report.Plain
 
 abbrev pub people_done : Tables → ℕ → PeopleAsk → Allowed
 people_done t now (people.SetQuota user quota) = option_map_or (requoted t now quota) (row_named t user) nothing_done
@@ -277,30 +330,12 @@ raised t now changes blob = record t {
   meta = record (counted t.meta changes) { next_blob = blob_after t.meta.next_blob blob; last = now };
 }
 
--- the tables with that node in another place
-abbrev pub transferred : Tables → Transfer → List ℕ → Tables
-transferred t transfer name = record t {
-  nodes = with_node (cleared t.nodes transfer.replaced) transfer.node (relinked transfer.folder name);
-  shares = ended_for t.nodes transfer.replaced t.shares;
-}
-
--- the tables with some nodes more
-abbrev pub joined : Tables → List NodeRow → Option ℕ → Tables
-joined t rows replaced = record t {
-  meta = record t.meta { next_node = t.meta.next_node + length rows };
-  nodes = cleared t.nodes replaced ++ rows;
-  shares = ended_for t.nodes replaced t.shares;
-}
-
 abbrev pub altered : Tables → ℕ → Allowed → Tables
 altered t now (allowed.Get node content) = t
 altered t now (allowed.List listing) = t
 altered t now (allowed.Put by key length) = t
 altered t now (allowed.Change changes blob report) = record (put_all t changes) { meta = (raised t now changes blob).meta }
-altered t now (allowed.Trash deed gone report) = purged_all (deed_done t deed) gone
-altered t now (allowed.Move transfer name) = transferred t transfer name
-altered t now (allowed.Copy rows replaced) = joined t rows replaced
-altered t now (allowed.Cross rows replaced node) = removed (joined t rows replaced) node
+altered t now (allowed.Deeds deeds report) = deeds_done t deeds
 altered t now allowed.Close = t
 
 -- ---- the same, told as a list of the rows that differ
@@ -312,23 +347,13 @@ refilled (Some row) now content =
     if content_eq row.content content && row.changed == now then []
     else Put (rows.Node (record row { content = content; changed = now })) ∷ []
 
--- a node's row in another place
-abbrev pub transferred_row : Option NodeRow → Transfer → List ℕ → List Change
-transferred_row row transfer name =
-    option_map_or (λ row. Put (rows.Node (relinked transfer.folder name row)) ∷ []) row []
-
 -- the rows that an act changes, but for the meta row
 abbrev pub told : Tables → Allowed → List Change
 told t (allowed.Get node content) = []
 told t (allowed.List listing) = []
 told t (allowed.Put by key length) = []
 told t (allowed.Change changes blob report) = changes
-told t (allowed.Trash deed gone report) = told_deed t deed ++ told_purges (deed_done t deed) gone
-told t (allowed.Move transfer name) =
-    gone_for t.nodes t.shares transfer.replaced ++ transferred_row (node_row t.nodes transfer.node) transfer name
-told t (allowed.Copy copies replaced) = gone_for t.nodes t.shares replaced ++ map (λ row. Put (rows.Node row)) copies
-told t (allowed.Cross copies replaced node) =
-    (gone_for t.nodes t.shares replaced ++ map (λ row. Put (rows.Node row)) copies) ++ gone_under t.nodes t.shares node
+told t (allowed.Deeds deeds report) = told_deeds t deeds
 told t allowed.Close = []
 
 -- the meta row after an act: its counters, and the moment
@@ -337,10 +362,7 @@ meta_after t now (allowed.Get node content) = record t.meta { last = now }
 meta_after t now (allowed.List listing) = record t.meta { last = now }
 meta_after t now (allowed.Put by key length) = record t.meta { last = now }
 meta_after t now (allowed.Change changes blob report) = (raised t now changes blob).meta
-meta_after t now (allowed.Trash deed gone report) = record t.meta { last = now }
-meta_after t now (allowed.Move transfer name) = record t.meta { last = now }
-meta_after t now (allowed.Copy rows replaced) = record t.meta { next_node = t.meta.next_node + length rows; last = now }
-meta_after t now (allowed.Cross rows replaced node) = record t.meta { next_node = t.meta.next_node + length rows; last = now }
+meta_after t now (allowed.Deeds deeds report) = record (deeds_done t deeds).meta { last = now }
 meta_after t now allowed.Close = record t.meta { last = now }
 
 abbrev pub same_meta : MetaRow → MetaRow → Bool
@@ -379,10 +401,7 @@ goal_of (allowed.Get node content) = Some (Serve content)
 goal_of (allowed.List listing) = None
 goal_of (allowed.Put by key length) = Some (Store by key length)
 goal_of (allowed.Change changes blob report) = None
-goal_of (allowed.Trash deed gone report) = None
-goal_of (allowed.Move transfer name) = None
-goal_of (allowed.Copy rows replaced) = None
-goal_of (allowed.Cross rows replaced node) = None
+goal_of (allowed.Deeds deeds report) = None
 goal_of allowed.Close = None
 
 -- what it holds for that: a file that is sent beside others who read it, and what is stored over alone
@@ -391,10 +410,7 @@ hold_of (allowed.Get node content) = Some (record { key = Node node; mode = Shar
 hold_of (allowed.List listing) = None
 hold_of (allowed.Put by key length) = Some (record { key = key; mode = Exclusive })
 hold_of (allowed.Change changes blob report) = None
-hold_of (allowed.Trash deed gone report) = None
-hold_of (allowed.Move transfer name) = None
-hold_of (allowed.Copy rows replaced) = None
-hold_of (allowed.Cross rows replaced node) = None
+hold_of (allowed.Deeds deeds report) = None
 hold_of allowed.Close = None
 
 abbrev pub with_goal : List Ticket → ℕ → Option Goal → Option Hold → List Ticket
@@ -409,10 +425,7 @@ blob_of (allowed.Get node content) = None
 blob_of (allowed.List listing) = None
 blob_of (allowed.Put by key length) = None
 blob_of (allowed.Change changes blob report) = blob
-blob_of (allowed.Trash deed gone report) = None
-blob_of (allowed.Move transfer name) = None
-blob_of (allowed.Copy rows replaced) = None
-blob_of (allowed.Cross rows replaced node) = None
+blob_of (allowed.Deeds deeds report) = None
 blob_of allowed.Close = None
 
 -- ---- the state, and the reply
@@ -420,10 +433,6 @@ blob_of allowed.Close = None
 -- the state with an act done
 abbrev pub applied : State → ℕ → ℕ → Allowed → State
 applied s seat now act = record s { tables = changed s.tables now act; tickets = with_goal s.tickets seat (goal_of act) (hold_of act) }
-
--- what is put at a place is made, where nothing was there
-abbrev pub reply_by : Option ℕ → Reply
-reply_by replaced = option_map_or (λ node. Done) replaced Made
 
 abbrev pub reported : Report → Reply
 reported report.Made = Made
@@ -439,8 +448,5 @@ reply_to (allowed.Get node content) = Granted (Serve content)
 reply_to (allowed.List listing) = Listing listing
 reply_to (allowed.Put by key length) = Granted (Store by key length)
 reply_to (allowed.Change changes blob report) = reported report
-reply_to (allowed.Trash deed gone report) = reported report
-reply_to (allowed.Move transfer name) = reply_by transfer.replaced
-reply_to (allowed.Copy rows replaced) = reply_by replaced
-reply_to (allowed.Cross rows replaced node) = reply_by replaced
+reply_to (allowed.Deeds deeds report) = reported report
 reply_to allowed.Close = Closed

@@ -10,7 +10,7 @@ use Rattle.nf_words.specs.declared.answer.Denial.TheVariants as denial
 use Rattle.nf_words.specs.declared.answer.Reply.{Reply}
 use Rattle.nf_words.specs.declared.history.Entry.{Entry}
 use Rattle.nf_words.specs.declared.history.Event.{Event}
-use Rattle.nf_words.specs.declared.history.Event.TheVariants.{Begin, End}
+use Rattle.nf_words.specs.declared.history.Event.TheVariants.{Begin, End, Sweep}
 use Rattle.nf_words.specs.declared.history.Mark.{Mark}
 use Rattle.nf_words.specs.declared.history.Mark.TheVariants as mark
 use Rattle.nf_words.specs.declared.history.Outcome.{Outcome}
@@ -120,10 +120,11 @@ abbrev pub MayEnd : Option Goal → Outcome → Type 0
 MayEnd None outcome = ⊥
 MayEnd (Some goal) outcome = MayBring goal outcome
 
--- the event may come from the seat: a Begin where it has no ticket, an End where it has one
+-- the event may come from the seat: a Begin or a sweep where it has no ticket, an End where it has one
 abbrev pub MayAsk : State → ℕ → Event → Type 0
 MayAsk s seat (Begin words request) = IsNone (ticket_of s seat) × MayWant request
 MayAsk s seat (End outcome) = MayEnd (goal_at s seat) outcome
+MayAsk s seat Sweep = IsNone (ticket_of s seat)
 
 -- an End brings a body
 abbrev pub HasBody : Event → Type 0
@@ -131,11 +132,13 @@ HasBody (Begin words request) = ⊥
 HasBody (End Sent) = ⊥
 HasBody (End Gone) = ⊥
 HasBody (End (Body digest length)) = Unit {0}
+HasBody Sweep = ⊥
 
--- a Begin leaves room for the Ends of all tickets and its own two entries, after n entries
+-- a Begin or a sweep leaves room for the Ends of all tickets and its own two entries, after n entries
 abbrev pub LeavesRoom : ℕ → State → Event → Type 0
 LeavesRoom n s (Begin words request) = n + length s.tickets + 2 ≤ MAX_ENTRIES
 LeavesRoom n s (End outcome) = Unit {0}
+LeavesRoom n s Sweep = n + length s.tickets + 2 ≤ MAX_ENTRIES
 
 -- the step may be marked so: a store fails only where it has something to change
 abbrev pub MayBear : State → Entry → Mark → Type 0

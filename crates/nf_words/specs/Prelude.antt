@@ -3,13 +3,13 @@ pub use Rattle.nf_words.specs.Asked.{Asked, asked_about, asked_of, asked_of_tras
 pub use Rattle.nf_words.specs.Callers.{asks_by_link, is_caller, may_ask}
 unfoldable pub use Rattle.nf_words.specs.Callers.{not_you_rule, token_rule}
 pub use Rattle.nf_words.specs.Calls.{Call, Way, Ways, asked_by, asker_of, behind, caller_row, found, is_by_link, is_itself, is_mount_asked, is_one, last_name, link_of, linked_of, mount_for, mount_of, mounted, place_at, places_by, places_of, root_of, seeker_of, user_of, way_by, way_of, ways_for, ways_of}
-pub use Rattle.nf_words.specs.Changes.{above, allowed_of, altered, blob_after, blob_of, by_of, carried, changed, changes_of, copied, counted, deleted, discard, given, goal_of, gone_beside, hold_of, item_dropped, item_restored, joined, left_row, made_folder, makes, meta_after, mounting, mount_left, mount_renamed, moved, named_row, new_node, nothing_done, own_mount, people_done, raised, refilled, reply_by, reply_to, reported, requoted, same_end, served, set_row, shared, share_ended, share_made, share_set, share_told, shown, stamped, stored, told, transferred, transferred_row, trash_done, with_goal, with_meta, with_mount_row}
+pub use Rattle.nf_words.specs.Changes.{above, allowed_of, altered, beside, besides, blob_after, blob_of, by_of, carries, changed, changes_of, copied, copies, counted, crossing, deleted, discard, discards, done, given, goal_of, goes_itself, gone_beside, gone_from, gone_with, hold_of, item_dropped, item_restored, left_row, made_folder, made_or_done, makes, meta_after, mount_left, mount_renamed, mounting, moved, moves, named_row, new_node, nothing_done, own_mount, people_done, purges, raised, refilled, reply_to, reported, requoted, row_at, same_end, served, set_row, share_ended, share_made, share_set, share_told, shared, shown, stamped, stored, swept, told, trash_done, with_goal, with_meta, with_mount_row}
 pub use Rattle.nf_words.specs.Charges.{carry_excess, copy_excess, counted_for, exceeded, excess, excess_at, is_over, quota_of, restore_excess}
 unfoldable pub use Rattle.nf_words.specs.Charges.{charge_of, quota_rule}
 pub use Rattle.nf_words.specs.Contents.{IsPieceSound, contents_of, row_content, stored_pieces}
 pub use Rattle.nf_words.specs.Copies.{copied_row, copies_of_all, copies_to, renamed}
 unfoldable pub use Rattle.nf_words.specs.Copies.{copies_within}
-pub use Rattle.nf_words.specs.Deeds.{cleared, closed_under, deed_done, discarded, dropped_under, ended_for, ended_row, ended_under, gone_for, gone_under, is_closing, purged, purged_all, removed, restored, told_deed, told_item, told_node, told_purge, told_purges}
+pub use Rattle.nf_words.specs.Deeds.{closed_under, deed_done, deeds_done, discarded, dropped_under, ended_row, ended_under, gone_under, is_closing, joined, purged, restored, told_deed, told_deeds, told_item, told_node}
 pub use Rattle.nf_words.specs.Endings.{blob_for, content_in, end_decision, end_lost, end_refusal, end_unallowed, end_unfit, end_unreached, ends_at, ends_goal, place_of, stored_at, stores, unless_refused}
 pub use Rattle.nf_words.specs.Fine.{IsBorn, IsFilled, IsNewGroup, IsNewMember, IsNewMount, IsNewShare, IsNewToken, IsNewUser, IsOfPeople, IsOtherShare, IsRemounted, IsRequoted, IsUnmounted, StandsOn}
 pub use Rattle.nf_words.specs.History.{EndsAtDays, IsEnd, IsInBounds, IsLegal, IsLegalFrom, IsModest, LeavesRoom, MayAsk, MayBear, MayBring, MayCome, MayEnd, MayWant, NamesUser, after, after_mark, answer_at, failed, replay}
@@ -37,5 +37,5 @@ pub use Rattle.nf_words.specs.Sound.{AreApart, AreCounters, AreSound, HasRoot, H
 pub use Rattle.nf_words.specs.State.{State, access_of, goal_at, opened, ticket_for, ticket_of, without_ticket}
 pub use Rattle.nf_words.specs.Step.{answer_to, answered_by, blob_by, blob_to, call_decision, call_of, changes_by, changes_to, decided, decision_of, step, stepped_by, without}
 pub use Rattle.nf_words.specs.Homes.{home_of, name_back, names_taken_in}
-pub use Rattle.nf_words.specs.Trash.{gone_of, item_for, item_if_of, item_line, item_lines, item_size, items_but, items_of, lacks_item, own_item, untrashed}
+pub use Rattle.nf_words.specs.Trash.{gone_of, item_for, item_if_of, item_line, item_lines, item_size, items_but, items_of, lacks_item, own_item, owners_of, untrashed}
 unfoldable pub use Rattle.nf_words.specs.Tokens.{link_token}

@@ -5,7 +5,7 @@ use Rattle.nf_defs.specs.Prelude.{Tables}
 use Rattle.nf_words.specs.State.{State, access_of, without_ticket}
 use Rattle.nf_words.specs.Calls.{Call}
 use Rattle.nf_words.specs.Rules.{refusal_of}
-use Rattle.nf_words.specs.Changes.{allowed_of, applied, blob_of, changes_of, reply_to}
+use Rattle.nf_words.specs.Changes.{allowed_of, applied, blob_of, changes_of, reply_to, swept}
 use Rattle.nf_words.specs.Endings.{unless_refused, end_decision}
 use Rattle.nf_words.specs.declared.request.Request.{Request}
 use Rattle.nf_words.specs.declared.request.Words.{Words}
@@ -13,7 +13,7 @@ use Rattle.nf_words.specs.declared.answer.Allowed.{Allowed}
 use Rattle.nf_words.specs.declared.answer.Denial.{Denial}
 use Rattle.nf_words.specs.declared.answer.Reply.{Reply}
 use Rattle.nf_words.specs.declared.history.Event.{Event}
-use Rattle.nf_words.specs.declared.history.Event.TheVariants.{Begin, End}
+use Rattle.nf_words.specs.declared.history.Event.TheVariants.{Begin, End, Sweep}
 
 abbrev pub call_of : State → ℕ → ℕ → Words → Request → Call
 call_of s seat now words request = record { state = s; seat = seat; now = now; words = words; request = request }
@@ -27,11 +27,13 @@ call_decision call =
 abbrev pub decision_of : State → ℕ → ℕ → Event → Result Allowed Denial
 decision_of s seat now (Begin words request) = call_decision (call_of s seat now words request)
 decision_of s seat now (End outcome) = end_decision (access_of s) s seat now outcome
+decision_of s seat now Sweep = Ok (swept s.tables now)
 
 -- the state without what an event takes, whatever it answers
 abbrev pub without : State → ℕ → Event → State
 without s seat (Begin words request) = s
 without s seat (End outcome) = without_ticket s seat
+without s seat Sweep = s
 
 -- a refusal changes nothing more
 abbrev pub decided : State → ℕ → ℕ → Result Allowed Denial → State

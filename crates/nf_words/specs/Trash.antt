@@ -1,5 +1,5 @@
 -- The trash: what is in it, and what goes for good.
-use Rattle.std.specs.Prelude.{ℕ, ◌==◌, not, List, filter, filter_map, map, Option, None, Some, option_and_then, option_map, unwrap_or, if◌then◌else◌}
+use Rattle.std.specs.Prelude.{ℕ, ◌==◌, not, List, [], ◌∷◌, filter, filter_map, map, Option, None, Some, option_and_then, option_map, unwrap_or, if◌then◌else◌}
 use Rattle.nf_base.specs.declared.rows.ItemRow.{ItemRow}
 use Rattle.nf_base.specs.declared.rows.NodeRow.{NodeRow}
 use Rattle.nf_defs.specs.Prelude.{folder_of, item_row, node_row, Tables}
@@ -28,6 +28,11 @@ item_for now row = record {
 -- the items of a user
 abbrev pub items_of : Tables → ℕ → List ItemRow
 items_of t user = filter (λ item. item.owner == user) t.items
+
+-- whose items there are, each user once
+abbrev pub owners_of : List ItemRow → List ℕ
+owners_of [] = []
+owners_of (item ∷ items) = item.owner ∷ filter (λ user. not (user == item.owner)) (owners_of items)
 
 -- all of them but that of a node
 abbrev pub items_but : Tables → ℕ → ℕ → List ItemRow

@@ -3,7 +3,7 @@
 ghost use Rattle.std.specs.Prelude.{◌≡◌, IfOk};
 ghost use Rattle.nf_words.specs.Limits.{count_of};
 
-use crate::{Items, Listing, Route, ShareLine, ShareLines, Transfer};
+use crate::{Items, Listing, Route, ShareLine, ShareLines};
 use nf_access::Cause;
 use nf_base::{
     BlobId, Changes, Content, Digest, ItemRow, MAX_DEPTH, MAX_GROUPS, MAX_MEMBERS, MAX_MOUNTS,
@@ -334,49 +334,64 @@ pub enum Report {
     Plain,
 }
 
-/// Numbers of nodes.
-#[derive(Drop)]
-pub struct NodeIds {
-    ids: Vec<NodeId>,
-}
-
-impl Model for NodeIds {
-    ghost use Rattle.std.specs.Prelude.{List, ℕ};
-
-    ghost Value = { List ℕ };
-
-    ghost view = { λ nodes. nodes.ids.items };
-}
-
-impl NodeIds {
-    pub fn new(ids: Vec<NodeId>) -> Self
-        ensures { result ≡ ids.items }
-    {
-        NodeIds { ids }
-    }
-
-    pub fn ids(&self) -> &[NodeId]
-        ensures { result.now ≡ self.now }
-    {
-        &self.ids
-    }
-}
-
-/// What is done before items of the trash go for good.
+/// One of the things that a step does to nodes and to who owns them.
 #[derive(Drop)]
 pub enum Deed {
-    /// Nothing.
-    Nothing,
     /// A node is put in the trash with all under it, as that item of its owner's, and their shares end.
     Discard(ItemRow),
+    /// A node goes for good with all under it, and with its item where it has one, and their shares end.
+    Purge(NodeId),
     /// The node of an item comes back, into that folder under that name.
     Restore {
         node: NodeId,
         folder: NodeId,
         name: Name,
     },
+    /// A node is in that folder, under that name.
+    Relink {
+        node: NodeId,
+        folder: NodeId,
+        name: Name,
+    },
+    /// These nodes are made, each after the folder that it is in, with the next numbers.
+    Join(NodeRows),
     /// A user has another quota.
     Requote(UserRow),
+}
+
+/// What a step does, one after the other.
+#[derive(Drop)]
+pub struct Deeds {
+    deeds: Vec<Deed>,
+}
+
+impl Model for Deeds {
+    ghost use Rattle.std.specs.Prelude.{List};
+    ghost use Rattle.nf_words.specs.declared.answer.Deed.{Deed};
+
+    ghost Value = { List Deed };
+
+    ghost view = { λ all. all.deeds.items };
+}
+
+impl Deeds {
+    pub fn new(deeds: Vec<Deed>) -> Self
+        ensures { result ≡ deeds.items }
+    {
+        Deeds { deeds }
+    }
+
+    pub fn as_slice(&self) -> &[Deed]
+        ensures { result.now ≡ self.now }
+    {
+        &self.deeds
+    }
+
+    pub fn into_vec(self) -> Vec<Deed>
+        ensures { result.items ≡ self }
+    {
+        self.deeds
+    }
 }
 
 /// What a step that isn't refused does. A blob is one that the act stores, not one that it names again.
@@ -402,28 +417,10 @@ pub enum Allowed {
         blob: Option<BlobId>,
         report: Report,
     },
-    /// DELETE, what is asked about the trash, and another quota: what is done, and then the nodes that go for good, one after the other,
-    /// each with all under it and with its item.
-    Trash {
-        deed: Deed,
-        gone: NodeIds,
+    /// DELETE, MOVE, COPY, what is asked about the trash, and another quota: what is done, one after the other.
+    Deeds {
+        deeds: Deeds,
         report: Report,
-    },
-    /// MOVE: the node is in the folder, under that name.
-    Move {
-        transfer: Transfer,
-        name: Name,
-    },
-    /// COPY: these nodes are made, each after the folder that it is in, with the next numbers.
-    Copy {
-        rows: NodeRows,
-        replaced: Option<NodeId>,
-    },
-    /// MOVE to another owner: these nodes are made as by COPY, then the node is removed for good, with all under it.
-    Cross {
-        rows: NodeRows,
-        replaced: Option<NodeId>,
-        node: NodeId,
     },
     /// The End of a request that stores nothing.
     Close,

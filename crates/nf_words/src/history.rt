@@ -21,6 +21,8 @@ pub enum Outcome {
 pub enum Event {
     Begin { words: Words, request: Request },
     End(Outcome),
+    /// Of the trash of each user goes what the trash doesn't hold any more.
+    Sweep,
 }
 
 /// What became of a step.

@@ -11,8 +11,8 @@ mod route;
 mod sharing;
 
 pub use answer::{
-    Allowed, Answer, Breach, By, Damage, Deed, Denial, Excess, Goal, Hold, Limit, LockKey, Measure,
-    Mode, NodeIds, NodeRows, Parameter, Reply, Report, TargetFault,
+    Allowed, Answer, Breach, By, Damage, Deed, Deeds, Denial, Excess, Goal, Hold, Limit, LockKey,
+    Measure, Mode, NodeRows, Parameter, Reply, Report, TargetFault,
 };
 pub use history::{Entry, Event, Mark, Outcome, Ticket};
 pub use laws::{

@@ -8,4 +8,4 @@ pub changes-requires : goal.changes-requires
 changes-requires c =
     subst (λ (s : State). BearsAct s.tables c.in-Ok.act) (sym c.view.ensures)
     (bears_held c.self.inside c.args.self.now c.args.seat c.args.moment c.args.event.now c.in-Ok.act c.self.view_is c.self.invariant
-    c.requires (sym c.in_ok-act.ensures ∙ c.in-Ok.is))
+    c.requires.late c.requires.asked (sym c.in_ok-act.ensures ∙ c.in-Ok.is))

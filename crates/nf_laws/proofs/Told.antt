@@ -1,0 +1,535 @@
+-- The deeds of a step told as a list: the tables after them are those with the changes put into them, and each change is one.
+use Rattle.std.proofs.Common.{inl, inr, ◌⊎◌, ℕ, zero, suc, ◌==◌, ◌≡◌, ◌≢◌, ◌<◌, ◌≤◌, Bool, true, false, not, List, [], ◌∷◌, ◌++◌, Option, None, Some, map, option_map, filter, length, get_or, if◌then◌else◌, refl, sym, ap, subst, ◌∙◌, arith, append_assoc, bytes_eq, length-append}
+use Rattle.std.specs.Prelude.{is_some}
+use Rattle.std.specs.List.{All, AllPairs}
+use Rattle.std.specs.Option.{option_and_then}
+use Rattle.std.proofs.lemmas.Bool.{and_parts, both_ways, cond_both, eq-eqb, not-true}
+use Rattle.std.proofs.lemmas.List.Elements.{All-append, All-cons, All-filter, All-head, All-map, All-nil, All-tail, All-weaker, filter_passes}
+use Rattle.std.proofs.lemmas.List.Kept.{AllPairs-filter}
+use Rattle.std.proofs.lemmas.Option.{none-some, option_and_then_some, same_Some}
+use Rattle.nf_access.proofs.Kept.{share_row_each}
+use Rattle.nf_access.specs.Shares.{share_row}
+use Rattle.nf_base.specs.declared.changes.Change.{Change}
+use Rattle.nf_base.specs.declared.changes.Change.TheVariants.{Drop, Put}
+use Rattle.nf_base.specs.declared.changes.RowKey.TheVariants as keys
+use Rattle.nf_base.specs.declared.rows.ItemRow.{ItemRow}
+use Rattle.nf_base.specs.declared.rows.MetaRow.{MetaRow}
+use Rattle.nf_base.specs.declared.rows.NodeRow.{NodeRow}
+use Rattle.nf_base.specs.declared.rows.Place.TheVariants.{Inside, Trash}
+use Rattle.nf_base.specs.declared.rows.Row.TheVariants as rows
+use Rattle.nf_base.specs.declared.rows.ShareRow.{ShareRow}
+use Rattle.nf_base.specs.declared.rows.UserRow.{UserRow}
+use Rattle.nf_defs.proofs.Climbs.{climb_under, under_climb}
+use Rattle.nf_defs.specs.Prelude.{climb, dropped, folder_of, is_under, IsDroppable, IsRising, item_key, item_row, made, node_row, parent_of, put, put_all, relinked, share_key, Tables, user_row, walk_of, with_node}
+use Rattle.nf_defs.specs.Tree.{trashed}
+use Rattle.nf_laws.proofs.Climbs.{map_some, some_there}
+use Rattle.nf_laws.proofs.Gone.{kept_left, row_gone}
+use Rattle.nf_laws.proofs.OneRow.{KeepsId, rising_with, row_itself, row_with}
+use Rattle.nf_laws.proofs.Others.{ended_rising, item_gone, row_ended, unless_gone}
+use Rattle.nf_laws.proofs.Parts.{rest_of}
+use Rattle.nf_laws.proofs.Present.{never_trash}
+use Rattle.nf_laws.proofs.Purged.{purged_keeps}
+use Rattle.nf_laws.proofs.Puts.{AreNumbered, another, closes, fewer, goes_put, number_found, put_changed, put_new, puts_new, under_there, walk_under}
+use Rattle.nf_laws.proofs.Rows.{stamp}
+use Rattle.nf_laws.proofs.Trashed.{item_top}
+use Rattle.nf_laws.proofs.Walked.{AllPairs-append}
+use Rattle.nf_words.proofs.Known.{IsItem, KnownLeaving}
+use Rattle.nf_words.proofs.Trashing.{rest_goes}
+use Rattle.nf_words.proofs.Ways.{HasRow, inside_there}
+use Rattle.nf_words.specs.Prelude.{AreSound, beside, closed_under, deed_done, deeds_done, discard, discarded, dropped_under, ended_row, goes_itself, gone_under, is_closing, IsRequoted, item_for, LeadsToRoot, purged, purges, told_deed, told_deeds, told_item, told_node}
+use Rattle.nf_words.specs.declared.answer.Deed.{Deed}
+use Rattle.nf_words.specs.declared.answer.Deed.TheVariants as deed
+
+-- a change that makes other tables
+abbrev pub Differs : Tables → Change → Type 0
+Differs t change = made t change ≢ t
+
+-- ---- what is known of each deed of a step, for what it is told as
+
+-- the row of a node, still as it was before the step, becomes another
+pub record Turns (t u : Tables) (node : ℕ) (change : NodeRow → NodeRow) : Type 0 where
+  pub row : NodeRow
+  pub there : node_row u.nodes node ≡ Some row
+  pub was : node_row t.nodes node ≡ Some row
+  pub other : change row ≢ row
+
+-- all that is under a node was there before the step
+abbrev pub IsOld : Tables → Tables → ℕ → Type 0
+IsOld t u top = (node : ℕ) → is_under u.nodes node top ≡ true → HasRow t.nodes node
+
+-- a deed that is done in some tables of a step which began in others
+abbrev pub IsTold : Tables → Tables → Deed → Type 0
+IsTold t u (deed.Discard item) = Turns t u item.node trashed × (IsItem t item.node → ⊥)
+IsTold t u (deed.Purge node) = IsOld t u node × (IsItem u node → IsItem t node)
+IsTold t u (deed.Restore node folder name) = Turns t u node (relinked folder name) × IsItem t node
+IsTold t u (deed.Relink node folder name) = Turns t u node (relinked folder name)
+IsTold t u (deed.Join rows) = All (λ (row : NodeRow). row.id < t.meta.next_node) u.nodes × AreNumbered t.meta.next_node rows
+IsTold t u (deed.Requote row) = IsRequoted t row
+
+-- each in the tables after those before it
+abbrev pub AreTold : Tables → Tables → List Deed → Type 0
+AreTold t u [] = Unit {0}
+AreTold t u (one ∷ deeds) = IsTold t u one × AreTold t (deed_done u one) deeds
+
+-- ---- what the tables of a step keep
+
+-- nodes and shares rise
+pub record Rise (u : Tables) : Type 0 where
+  pub nodes : AllPairs (λ (a b : NodeRow). a.id < b.id) u.nodes
+  pub shares : IsRising share_key u.shares
+
+pub sound_rise : (t : Tables) → AreSound t → Rise t
+sound_rise t sound = record { nodes = sound.rising; shares = sound.others.shares_rise }
+
+-- rows with new numbers rise behind those that were there
+joined_rise : (first : ℕ) (old new : List NodeRow) → AllPairs (λ (a b : NodeRow). a.id < b.id) old → All (λ (row : NodeRow). row.id < first) old
+    → AreNumbered first new → AllPairs (λ (a b : NodeRow). a.id < b.id) (old ++ new)
+joined_rise first old new rising below numbered =
+    AllPairs-append (λ (a b : NodeRow). a.id < b.id) old new rising
+    (λ i j d before within. omega (arith, numbered i d (omega (arith, before, within)), numbered j d within))
+    (λ i d within k e also. omega (arith, below i d within, numbered k e also))
+
+-- so they do after a deed
+pub done_rise : (t u : Tables) (one : Deed) → IsTold t u one → Rise u → Rise (deed_done u one)
+done_rise t u (deed.Discard item) told rise = record {
+  nodes = rising_with u.nodes item.node trashed (λ row. refl) rise.nodes;
+  shares = ended_rising u (λ node. is_under u.nodes node item.node) rise.shares;
+}
+done_rise t u (deed.Purge top) told rise = record {
+  nodes = AllPairs-filter (λ a b. a.id < b.id) (λ row. not (is_under u.nodes row.id top)) u.nodes rise.nodes;
+  shares = ended_rising u (λ node. is_under u.nodes node top) rise.shares;
+}
+done_rise t u (deed.Restore node folder name) told rise =
+    record { nodes = rising_with u.nodes node (relinked folder name) (λ row. refl) rise.nodes; shares = rise.shares }
+done_rise t u (deed.Relink node folder name) told rise =
+    record { nodes = rising_with u.nodes node (relinked folder name) (λ row. refl) rise.nodes; shares = rise.shares }
+done_rise t u (deed.Join rows) (below, numbered) rise =
+    record { nodes = joined_rise t.meta.next_node u.nodes rows rise.nodes below numbered; shares = rise.shares }
+done_rise t u (deed.Requote row) told rise = record { nodes = rise.nodes; shares = rise.shares }
+
+-- a share that isn't ended is as it was
+abbrev pub Unended : Tables → Tables → Type 0
+Unended t u = (id : ℕ) (share : ShareRow) → share_row u.shares id ≡ Some share → share.ended ≡ false → share_row t.shares id ≡ Some share
+
+-- where shares are ended, one that isn't is as it was
+unended_was : (gone : ℕ → Bool) (shares : List ShareRow) (id : ℕ) (share : ShareRow) → share_row (map (unless_gone gone) shares) id ≡ Some share
+    → share.ended ≡ false → share_row shares id ≡ Some share
+unended_was gone shares id share is unended =
+    let old = map_some (unless_gone gone) (share_row shares id) share (sym (row_ended gone shares id) ∙ is) in
+    old.1 ∙ ap Some (here old.0 (gone old.0.node) old.2)
+  where
+    here : (old : ShareRow) (b : Bool) → (if b then ended_row old else old) ≡ share → old ≡ share
+    here old true same = absurd (both_ways share.ended unended (sym (ap (λ (row : ShareRow). row.ended) same)))
+    here old false same = same
+
+-- no deed changes it but by ending it
+done_unended : (t u : Tables) (one : Deed) → Unended t u → Unended t (deed_done u one)
+done_unended t u (deed.Discard item) was = λ id share is unended.
+    was id share (unended_was (λ node. is_under u.nodes node item.node) u.shares id share is unended) unended
+done_unended t u (deed.Purge top) was = λ id share is unended.
+    was id share (unended_was (λ node. is_under u.nodes node top) u.shares id share is unended) unended
+done_unended t u (deed.Restore node folder name) was = was
+done_unended t u (deed.Relink node folder name) was = was
+done_unended t u (deed.Join rows) was = was
+done_unended t u (deed.Requote row) was = was
+
+-- ---- the tables with the changes put into them
+
+-- the tables with another meta row, as no deed is told with one
+abbrev at_meta : MetaRow → Tables → Tables
+at_meta meta u = record u { meta = meta }
+
+-- where a node's row becomes another
+node_put : (u : Tables) (node : ℕ) (change : NodeRow → NodeRow) (row : NodeRow) (rest : List Change) → KeepsId change
+    → AllPairs (λ (a b : NodeRow). a.id < b.id) u.nodes → node_row u.nodes node ≡ Some row
+    → put_all u (told_node (node_row u.nodes node) change ++ rest) ≡ put_all (record u { nodes = with_node u.nodes node change }) rest
+node_put u node change row rest keeps rising there =
+    ap (λ (o : Option NodeRow). put_all u (told_node o change ++ rest)) there
+    ∙ ap (λ (all : List NodeRow). put_all (record u { nodes = all }) rest) (put_changed u.nodes node change row (keeps row) rising there)
+
+-- so for each deed
+deed_put : (t u : Tables) (meta : MetaRow) (one : Deed) (rest : List Change) → IsTold t u one → Rise u
+    → put_all (at_meta meta u) (told_deed u one ++ rest) ≡ put_all (at_meta meta (deed_done u one)) rest
+deed_put t u meta (deed.Discard item) rest (turns, none) rise =
+    let first = told_node (node_row u.nodes item.node) trashed in
+    let closed = closed_under u.nodes u.shares item.node in
+    let binned = with_node u.nodes item.node trashed in
+    ap (put_all (at_meta meta u)) (append_assoc first (Put (rows.Item item) ∷ closed) rest)
+    ∙ node_put (at_meta meta u) item.node trashed turns.row (Put (rows.Item item) ∷ closed ++ rest) (λ row. refl) rise.nodes turns.there
+    ∙ closes (record u { meta = meta; nodes = binned; items = put item_key item u.items }) u.nodes item.node [] u.shares rest rise.shares
+deed_put t u meta (deed.Purge node) rest told rise = goes_put (at_meta meta u) node rest rise.nodes rise.shares
+deed_put t u meta (deed.Restore node folder name) rest (turns, is) rise =
+    node_put (record u { meta = meta; items = dropped item_key (node ∷ []) u.items }) node (relinked folder name) turns.row rest (λ row. refl)
+    rise.nodes turns.there
+deed_put t u meta (deed.Relink node folder name) rest turns rise =
+    node_put (at_meta meta u) node (relinked folder name) turns.row rest (λ row. refl) rise.nodes turns.there
+deed_put t u meta (deed.Join rows) rest (below, numbered) rise = puts_new (at_meta meta u) u.nodes rows rest t.meta.next_node below numbered
+deed_put t u meta (deed.Requote row) rest told rise = refl
+
+-- and one after the other
+pub deeds_put : (t u : Tables) (meta : MetaRow) (deeds : List Deed) (rest : List Change) → AreTold t u deeds → Rise u
+    → put_all (at_meta meta u) (told_deeds u deeds ++ rest) ≡ put_all (at_meta meta (deeds_done u deeds)) rest
+deeds_put t u meta [] rest told rise = refl
+deeds_put t u meta (one ∷ deeds) rest told rise =
+    let more = told_deeds (deed_done u one) deeds in
+    ap (put_all (at_meta meta u)) (append_assoc (told_deed u one) more rest)
+    ∙ deed_put t u meta one (more ++ rest) told.0 rise
+    ∙ deeds_put t (deed_done u one) meta deeds rest told.1 (done_rise t u one told.0 rise)
+
+-- ---- changes that are one
+
+-- the numbers of nodes were given
+all_given : (t : Tables) → AreSound t → All (λ (row : NodeRow). row.id < t.meta.next_node) t.nodes
+all_given t sound k d within = (sound.nodes k d within).given
+
+-- a row with a number that wasn't given is one more
+new_differs : (t : Tables) (row : NodeRow) → AreSound t → t.meta.next_node ≤ row.id → Differs t (Put (rows.Node row))
+new_differs t row sound new = λ same.
+    let below = All-weaker (λ (old : NodeRow). old.id < t.meta.next_node) (λ (old : NodeRow). old.id < row.id)
+    (λ old given. omega arith) t.nodes (all_given t sound) in
+    absurd (omega (arith, ap length (sym (put_new row t.nodes below) ∙ ap (λ (u : Tables). u.nodes) same), length-append t.nodes (row ∷ [])))
+
+-- a changed row of a node is put in its place
+turned_differs : (t u : Tables) (node : ℕ) (change : NodeRow → NodeRow) → KeepsId change → AreSound t → (turns : Turns t u node change)
+    → Differs t (Put (rows.Node (change turns.row)))
+turned_differs t u node change keeps sound turns = λ same.
+    another t.nodes (with_node t.nodes node change) node turns.row (change turns.row) turns.was
+    (row_itself t.nodes node change keeps ∙ ap (option_map change) turns.was) turns.other
+    (sym (put_changed t.nodes node change turns.row (keeps turns.row) sound.rising turns.was) ∙ ap (λ (u : Tables). u.nodes) same)
+
+-- so is what a node's row is told as
+node_differs : (t u : Tables) (node : ℕ) (change : NodeRow → NodeRow) → KeepsId change → AreSound t → Turns t u node change
+    → All (Differs t) (told_node (node_row u.nodes node) change)
+node_differs t u node change keeps sound turns =
+    subst (λ (o : Option NodeRow). All (Differs t) (told_node o change)) (sym turns.there)
+    (All-cons (Differs t) (Put (rows.Node (change turns.row))) [] (turned_differs t u node change keeps sound turns) (All-nil (Differs t)))
+
+-- a node that was there is dropped
+dropped_differs : (t : Tables) (node : ℕ) → HasRow t.nodes node → Differs t (Drop (keys.Node node))
+dropped_differs t node (row, there) = λ same.
+    fewer (λ other. not (bytes_eq (node ∷ []) (other ∷ []))) t.nodes node (ap is_some there) (rw (eq-eqb node node refl))
+    (ap (λ (u : Tables). u.nodes) same)
+
+-- so all that are under a top
+under_differ : (t u : Tables) (top : ℕ) → Rise u → IsOld t u top → All (Differs t) (dropped_under u.nodes top)
+under_differ t u top rise old =
+    All-map (Differs t) (λ node. Drop (keys.Node node)) (walk_of u.nodes top)
+    (All-weaker (λ (node : ℕ). is_under u.nodes node top ≡ true) (λ (node : ℕ). Differs t (Drop (keys.Node node)))
+    (λ node under. dropped_differs t node (old node under)) (walk_of u.nodes top) (walk_under u.nodes top rise.nodes))
+
+-- a share that ends is another
+ended_differs : (t : Tables) (share : ShareRow) → share_row t.shares share.id ≡ Some share → share.ended ≡ false
+    → Differs t (Put (rows.Share (ended_row share)))
+ended_differs t share there unended = λ same.
+    let it : ended_row share ≡ share =
+    same_Some (ended_row share) share
+    (sym (number_found (λ (row : ShareRow). row.id) (ended_row share) t.shares) ∙ ap (λ (u : Tables). share_row u.shares share.id) same ∙ there) in
+    both_ways share.ended unended (sym (ap (λ (row : ShareRow). row.ended) it))
+
+-- and so are those that end with what goes
+closed_differ : (t u : Tables) (top : ℕ) → Rise u → Unended t u → All (Differs t) (closed_under u.nodes u.shares top)
+closed_differ t u top rise was =
+    All-map (Differs t) (λ share. Put (rows.Share (ended_row share))) (filter (is_closing u.nodes top) u.shares)
+    (λ k d within.
+    let share = get_or (filter (is_closing u.nodes top) u.shares) k d in
+    let closing = and_parts (not share.ended) (is_under u.nodes share.node top) (filter_passes (is_closing u.nodes top) u.shares k d within) in
+    let unended = not-true share.ended closing.0 in
+    let there = All-filter (is_closing u.nodes top) (λ (row : ShareRow). share_row u.shares row.id ≡ Some row) u.shares
+    (share_row_each u.shares rise.shares) k d within in
+    ended_differs t share (was share.id share there unended) unended)
+
+-- a row of an item is dropped that was there, and one is put of a node that was no item
+item_drop_differs : (t : Tables) (node : ℕ) → IsItem t node → Differs t (Drop (keys.Item node))
+item_drop_differs t node there = λ same.
+    both_ways (is_some (item_row t.items node))
+    (sym (ap (λ (u : Tables). is_some (item_row u.items node)) same) ∙ ap is_some (item_gone node t.items)) there
+
+item_put_differs : (t : Tables) (item : ItemRow) → (IsItem t item.node → ⊥) → Differs t (Put (rows.Item item))
+item_put_differs t item none = λ same.
+    none (sym (ap (λ (u : Tables). is_some (item_row u.items item.node)) same) ∙ ap is_some (number_found (λ (i : ItemRow). i.node) item t.items))
+
+-- a user's row with another quota is another
+pub user_differs : (t : Tables) (row : UserRow) → IsRequoted t row → Differs t (Put (rows.User row))
+user_differs t row is = λ same.
+    is.other (same_Some row is.old
+    (sym (number_found (λ (r : UserRow). r.id) row t.users) ∙ ap (λ (u : Tables). user_row u.users row.id) same ∙ is.there))
+
+-- each change of a deed is one, also of the tables before the step
+deed_differs : (t u : Tables) (one : Deed) → AreSound t → IsTold t u one → Rise u → Unended t u → All (Differs t) (told_deed u one)
+deed_differs t u (deed.Discard item) sound (turns, none) rise was =
+    All-append (Differs t) (told_node (node_row u.nodes item.node) trashed) (Put (rows.Item item) ∷ closed_under u.nodes u.shares item.node)
+    (node_differs t u item.node trashed (λ row. refl) sound turns)
+    (All-cons (Differs t) (Put (rows.Item item)) (closed_under u.nodes u.shares item.node) (item_put_differs t item none)
+    (closed_differ t u item.node rise was))
+deed_differs t u (deed.Purge node) sound (old, item) rise was =
+    All-append (Differs t) (gone_under u.nodes u.shares node) (told_item u node)
+    (All-append (Differs t) (dropped_under u.nodes node) (closed_under u.nodes u.shares node) (under_differ t u node rise old)
+    (closed_differ t u node rise was))
+    (cond_both (is_some (item_row u.items node)) (Drop (keys.Item node) ∷ []) [] (All (Differs t))
+    (λ e. All-cons (Differs t) (Drop (keys.Item node)) [] (item_drop_differs t node (item e)) (All-nil (Differs t))) (λ e. All-nil (Differs t)))
+deed_differs t u (deed.Restore node folder name) sound (turns, item) rise was =
+    All-cons (Differs t) (Drop (keys.Item node)) (told_node (node_row u.nodes node) (relinked folder name)) (item_drop_differs t node item)
+    (node_differs t u node (relinked folder name) (λ row. refl) sound turns)
+deed_differs t u (deed.Relink node folder name) sound turns rise was = node_differs t u node (relinked folder name) (λ row. refl) sound turns
+deed_differs t u (deed.Join copies) sound (below, numbered) rise was =
+    All-map (Differs t) (λ row. Put (rows.Node row)) copies
+    (λ k d within. new_differs t (get_or copies k d) sound (omega (arith, numbered k d within)))
+deed_differs t u (deed.Requote row) sound is rise was =
+    All-cons (Differs t) (Put (rows.User row)) [] (user_differs t row is) (All-nil (Differs t))
+
+-- and so is each of the deeds in turn
+pub deeds_differ : (t u : Tables) (deeds : List Deed) → AreSound t → AreTold t u deeds → Rise u → Unended t u → All (Differs t) (told_deeds u deeds)
+deeds_differ t u [] sound told rise was = All-nil (Differs t)
+deeds_differ t u (one ∷ deeds) sound told rise was =
+    All-append (Differs t) (told_deed u one) (told_deeds (deed_done u one) deeds) (deed_differs t u one sound told.0 rise was)
+    (deeds_differ t (deed_done u one) deeds sound told.1 (done_rise t u one told.0 rise) (done_unended t u one was))
+
+-- ---- tables that are others
+
+-- a node's row is another or none, or there is another user or another counter of nodes
+pub record Lost (t u : Tables) : Type 0 where
+  pub node : ℕ
+  pub row : NodeRow
+  pub was : node_row t.nodes node ≡ Some row
+  pub lost : node_row u.nodes node ≢ Some row
+
+abbrev pub AreOther : Tables → Tables → Type 0
+AreOther t u = Lost t u ⊎ ((u.users ≢ t.users) ⊎ (u.meta.next_node ≢ t.meta.next_node))
+
+-- they are so at whatever moment
+pub never_same : (t u : Tables) (now : ℕ) → AreOther t u → stamp u now ≢ t
+never_same t u now (inl lost) = λ same. lost.lost (ap (λ (v : Tables). node_row v.nodes lost.node) same ∙ lost.was)
+never_same t u now (inr (inl other)) = λ same. other (ap (λ (v : Tables). v.users) same)
+never_same t u now (inr (inr other)) = λ same. other (ap (λ (v : Tables). v.meta.next_node) same)
+
+-- what goes for good doesn't bring back what was
+purged_other : (t u : Tables) (top : ℕ) → AreOther t u → AreOther t (purged u top)
+purged_other t u top (inl lost) = inl (record {
+  node = lost.node;
+  row = lost.row;
+  was = lost.was;
+  lost = λ is. lost.lost (kept_left u.nodes top lost.node lost.row is).1;
+})
+purged_other t u top (inr other) = inr other
+
+-- nor does all that goes, one after the other
+pub purges_other : (t u : Tables) (gone : List ℕ) → AreOther t u → AreOther t (deeds_done u (purges gone))
+purges_other t = purged_keeps (AreOther t) (purged_other t)
+
+-- a node's row is another, where it was turned into one
+pub turned_lost : (t u : Tables) (node : ℕ) (change : NodeRow → NodeRow) (items : List ItemRow) → KeepsId change → Turns t u node change
+    → Lost t (record u { nodes = with_node u.nodes node change; items = items })
+turned_lost t u node change items keeps turns = record {
+  node = node;
+  row = turns.row;
+  was = turns.was;
+  lost = λ is.
+      turns.other (same_Some (change turns.row) turns.row
+      (sym (row_itself u.nodes node change keeps ∙ ap (option_map change) turns.there) ∙ is));
+}
+
+-- and it is none, where that goes
+pub purged_lost : (t : Tables) (node : ℕ) (row : NodeRow) → node_row t.nodes node ≡ Some row → Lost t (purged t node)
+purged_lost t node row was = record {
+  node = node;
+  row = row;
+  was = was;
+  lost = λ is. absurd (none-some row (sym (row_gone t.nodes node node (climb_under 0 t.nodes node node (omega arith) refl)) ∙ is));
+}
+
+-- ---- no more than was there
+
+-- each node was there, and in the folder that it is in
+pub record Fewer (u w : Tables) : Type 0 where
+  pub there : (node : ℕ) → HasRow w.nodes node → HasRow u.nodes node
+  pub up : (node parent : ℕ) → parent_of w.nodes node ≡ Some parent → parent_of u.nodes node ≡ Some parent
+
+-- so it climbed to what it climbs to
+climb_fewer : (u w : Tables) → Fewer u w → (j node top : ℕ) → climb w.nodes j node ≡ Some top → climb u.nodes j node ≡ Some top
+climb_fewer u w fewer zero node top is = is
+climb_fewer u w fewer (suc j) node top is =
+    option_and_then_some (climb w.nodes j) (parent_of w.nodes node) top is (λ parent above rest.
+    ap (option_and_then (climb u.nodes j)) (fewer.up node parent above) ∙ climb_fewer u w fewer j parent top rest)
+
+-- so without what goes for good
+pub purged_fewer : (u : Tables) (top : ℕ) → Fewer u (purged u top)
+purged_fewer u top = record {
+  there = λ node h. (h.0, (kept_left u.nodes top node h.0 h.1).1);
+  up = λ node parent is.
+      let row = inside_there (purged u top).nodes node parent is in
+      ap (option_and_then (λ row. folder_of row.place)) ((kept_left u.nodes top node row.0 row.1).1 ∙ sym row.1) ∙ is;
+}
+
+-- a node whose row is another was there
+pub turned_there : (u : Tables) (node : ℕ) (change : NodeRow → NodeRow) → KeepsId change → (other : ℕ) → HasRow (with_node u.nodes node change) other
+    → HasRow u.nodes other
+turned_there u node change keeps other (row, there) = here (other == node) (node_row u.nodes other) refl (sym (row_with u.nodes node change keeps other) ∙ there)
+  where
+    here : (b : Bool) (o : Option NodeRow) → node_row u.nodes other ≡ o → (if b then option_map change o else o) ≡ Some row → HasRow u.nodes other
+    here b (Some old) e is = (old, e)
+    here true None e is = absurd (none-some row is)
+    here false None e is = absurd (none-some row is)
+
+-- and with what is put in the trash
+pub discarded_fewer : (u : Tables) (item : ItemRow) → Fewer u (discarded u item)
+discarded_fewer u item = record {
+  there = turned_there u item.node trashed (λ row. refl);
+  up = λ node parent is.
+      here (node == item.node) (node_row u.nodes node) parent
+      (sym (ap (option_and_then (λ row. folder_of row.place)) (row_with u.nodes item.node trashed (λ row. refl) node)) ∙ is);
+}
+  where
+    here : (b : Bool) (o : Option NodeRow) (parent : ℕ)
+        → option_and_then (λ row. folder_of row.place) (if b then option_map trashed o else o) ≡ Some parent
+        → option_and_then (λ row. folder_of row.place) o ≡ Some parent
+    here true None parent is = is
+    here true (Some row) parent is = absurd (none-some parent is)
+    here false o parent is = is
+
+-- whichever
+pub discard_fewer : (t u : Tables) (now : ℕ) (row : NodeRow) → Fewer u (deed_done u (discard t now row))
+discard_fewer t u now row =
+    cond_both (goes_itself t now row) (deed.Purge row.id) (deed.Discard (item_for now row)) (λ (one : Deed). Fewer u (deed_done u one))
+    (λ e. purged_fewer u row.id) (λ e. discarded_fewer u (item_for now row))
+
+-- nor is another number given
+pub discard_next : (t u : Tables) (now : ℕ) (row : NodeRow) → (deed_done u (discard t now row)).meta.next_node ≡ u.meta.next_node
+discard_next t u now row =
+    cond_both (goes_itself t now row) (deed.Purge row.id) (deed.Discard (item_for now row))
+    (λ (one : Deed). (deed_done u one).meta.next_node ≡ u.meta.next_node) (λ e. refl) (λ e. refl)
+
+-- ---- what is new is under none of these
+
+-- a node that wasn't there before the step climbs to none of some others
+abbrev pub NewApart : Tables → (ℕ → Type 0) → Tables → Type 0
+NewApart t Tops u = (node : ℕ) → HasRow u.nodes node → HasRow t.nodes node ⊎ ((j top : ℕ) → Tops top → climb u.nodes j node ≢ Some top)
+
+-- with no more than was there what is new stays apart
+pub apart_fewer : (t : Tables) (Tops : ℕ → Type 0) (u w : Tables) → Fewer u w → NewApart t Tops u → NewApart t Tops w
+apart_fewer t Tops u w fewer apart node there =
+    elim (apart node (fewer.there node there)) [
+      | inl was ↦ inl was
+      | inr never ↦ inr (λ j top tops is. never j top tops (climb_fewer u w fewer j node top is))
+    ]
+
+-- so all that is under one of them was there
+pub apart_old : (t : Tables) (Tops : ℕ → Type 0) (u : Tables) (top : ℕ) → NewApart t Tops u → Tops top → HasRow t.nodes top → IsOld t u top
+apart_old t Tops u top apart tops there node under = let c = under_climb u.nodes node top under in here c.0 c.2
+  where
+    here : (j : ℕ) → climb u.nodes j node ≡ Some top → HasRow t.nodes node
+    here zero is = subst (HasRow t.nodes) (sym (same_Some node top is)) there
+    here (suc j) is =
+        option_and_then_some (climb u.nodes j) (parent_of u.nodes node) top is (λ parent above rest.
+        elim (apart node (inside_there u.nodes node parent above)) [ inl was ↦ was | inr never ↦ absurd (never (suc j) top tops is) ])
+
+-- ---- items that go
+
+-- the last deeds of a step that makes other tables
+abbrev pub Tells : Tables → Tables → List Deed → Type 0
+Tells t u deeds = AreTold t u deeds × AreOther t (deeds_done u deeds)
+
+-- where what is new is under no item that was there, the items that go are told
+pub items_told : (t : Tables) (Tops : ℕ → Type 0) (u : Tables) (gone : List ℕ) → AreSound t → ((node : ℕ) → IsItem t node → Tops node)
+    → All (IsItem t) gone → NewApart t Tops u → AreTold t u (purges gone)
+items_told t Tops u [] sound tops items apart = tt
+items_told t Tops u (node ∷ gone) sound tops items apart =
+    let is = All-head (IsItem t) node gone items in
+    let top = item_top t node sound is in (
+      (apart_old t Tops u node apart (tops node is) (top.0, top.1), λ still. is),
+      items_told t Tops (purged u node) gone sound tops (All-tail (IsItem t) node gone items)
+          (apart_fewer t Tops u (purged u node) (purged_fewer u node) apart),
+    )
+
+-- where no node is new
+pub items_tell : (t u : Tables) (gone : List ℕ) → AreSound t → All (IsItem t) gone → ((node : ℕ) → HasRow u.nodes node → HasRow t.nodes node)
+    → AreOther t u → Tells t u (purges gone)
+items_tell t u gone sound items there other =
+    (items_told t (IsItem t) u gone sound (λ node is. is) items (λ node has. inl (there node has)), purges_other t u gone other)
+
+-- ---- what leaves its place
+
+-- the row of what is put in the trash is another, and so is that of what comes back
+trashed_other : (row : NodeRow) (folder : ℕ) → row.place ≡ Inside folder → trashed row ≢ row
+trashed_other row folder inside = λ same. let is : Trash ≡ Inside folder = ap (λ (r : NodeRow). r.place) same ∙ inside in cc
+
+pub back_other : (row : NodeRow) (folder : ℕ) (name : List ℕ) → row.place ≡ Trash → relinked folder name row ≢ row
+back_other row folder name trash = λ same. let is : Inside folder ≡ Trash = ap (λ (r : NodeRow). r.place) same ∙ trash in cc
+
+-- what is present is no item
+present_none : (t : Tables) (node : ℕ) → AreSound t → LeadsToRoot t.nodes node → IsItem t node → ⊥
+present_none t node sound present is =
+    let top = item_top t node sound is in never_trash 0 t.nodes node node top.0 present refl top.1 top.2
+
+-- it is told in other tables than those in which it was decided how, where its row is the same and what is under it was there
+pub leaving_told : (t u : Tables) (now : ℕ) (row : NodeRow) → AreSound t → KnownLeaving t row → node_row u.nodes row.id ≡ Some row → IsOld t u row.id
+    → (IsItem u row.id → IsItem t row.id) → IsTold t u (discard t now row)
+leaving_told t u now row sound known there old item =
+    cond_both (goes_itself t now row) (deed.Purge row.id) (deed.Discard (item_for now row)) (λ (one : Deed). IsTold t u one) (λ e. (old, item))
+    (λ e. (
+      record { row = row; there = there; was = known.there; other = trashed_other row known.folder known.inside },
+      present_none t row.id sound known.present,
+    ))
+
+-- so in those themselves
+pub leaving_here : (t : Tables) (now : ℕ) (row : NodeRow) → AreSound t → KnownLeaving t row → IsTold t t (discard t now row)
+leaving_here t now row sound known =
+    leaving_told t t now row sound known known.there
+    (λ node under. some_there (node_row t.nodes node) (under_there t.nodes node row.id (ap is_some known.there) under)) (λ is. is)
+
+-- and its row is another then, or none
+leaving_other : (t : Tables) (now : ℕ) (row : NodeRow) → AreSound t → KnownLeaving t row → AreOther t (deed_done t (discard t now row))
+leaving_other t now row sound known =
+    cond_both (goes_itself t now row) (deed.Purge row.id) (deed.Discard (item_for now row)) (λ (one : Deed). AreOther t (deed_done t one))
+    (λ e. inl (purged_lost t row.id row known.there))
+    (λ e. inl (record {
+      node = row.id;
+      row = row;
+      was = known.there;
+      lost = λ is.
+          trashed_other row known.folder known.inside
+          (same_Some (trashed row) row (sym (row_itself t.nodes row.id trashed (λ row. refl) ∙ ap (option_map trashed) known.there) ∙ is));
+    }))
+
+-- with what goes beside it
+pub leaving_tells : (t : Tables) (now : ℕ) (row : NodeRow) → AreSound t → KnownLeaving t row → Tells t t (discard t now row ∷ beside t now row)
+leaving_tells t now row sound known =
+    let more = items_tell t (deed_done t (discard t now row)) (rest_of t now row) sound (rest_goes t sound now row known).items
+    (discard_fewer t t now row).there (leaving_other t now row sound known) in
+    ((leaving_here t now row sound known, more.0), more.1)
+
+-- ---- the meta row is never dropped
+
+-- where a node's row becomes another
+row_droppable : (o : Option NodeRow) (change : NodeRow → NodeRow) → All IsDroppable (told_node o change)
+row_droppable None change = All-nil IsDroppable
+row_droppable (Some row) change = All-cons IsDroppable (Put (rows.Node (change row))) [] tt (All-nil IsDroppable)
+
+-- where shares end
+closed_droppable : (nodes : List NodeRow) (shares : List ShareRow) (top : ℕ) → All IsDroppable (closed_under nodes shares top)
+closed_droppable nodes shares top =
+    All-map IsDroppable (λ share. Put (rows.Share (ended_row share))) (filter (is_closing nodes top) shares) (λ k d within. tt)
+
+-- by no deed
+deed_droppable : (t : Tables) (one : Deed) → All IsDroppable (told_deed t one)
+deed_droppable t (deed.Discard item) =
+    All-append IsDroppable (told_node (node_row t.nodes item.node) trashed) (Put (rows.Item item) ∷ closed_under t.nodes t.shares item.node)
+    (row_droppable (node_row t.nodes item.node) trashed)
+    (All-cons IsDroppable (Put (rows.Item item)) (closed_under t.nodes t.shares item.node) tt (closed_droppable t.nodes t.shares item.node))
+deed_droppable t (deed.Purge node) =
+    All-append IsDroppable (gone_under t.nodes t.shares node) (told_item t node)
+    (All-append IsDroppable (dropped_under t.nodes node) (closed_under t.nodes t.shares node)
+    (All-map IsDroppable (λ node. Drop (keys.Node node)) (walk_of t.nodes node) (λ k d within is. cc)) (closed_droppable t.nodes t.shares node))
+    (cond_both (is_some (item_row t.items node)) (Drop (keys.Item node) ∷ []) [] (All IsDroppable)
+    (λ e. All-cons IsDroppable (Drop (keys.Item node)) [] (λ is. cc) (All-nil IsDroppable)) (λ e. All-nil IsDroppable))
+deed_droppable t (deed.Restore node folder name) =
+    All-cons IsDroppable (Drop (keys.Item node)) (told_node (node_row t.nodes node) (relinked folder name)) (λ is. cc)
+    (row_droppable (node_row t.nodes node) (relinked folder name))
+deed_droppable t (deed.Relink node folder name) = row_droppable (node_row t.nodes node) (relinked folder name)
+deed_droppable t (deed.Join copies) = All-map IsDroppable (λ row. Put (rows.Node row)) copies (λ k d within. tt)
+deed_droppable t (deed.Requote row) = All-cons IsDroppable (Put (rows.User row)) [] tt (All-nil IsDroppable)
+
+-- nor by those after it
+pub deeds_droppable : (t : Tables) (deeds : List Deed) → All IsDroppable (told_deeds t deeds)
+deeds_droppable t [] = All-nil IsDroppable
+deeds_droppable t (one ∷ deeds) =
+    All-append IsDroppable (told_deed t one) (told_deeds (deed_done t one) deeds) (deed_droppable t one) (deeds_droppable (deed_done t one) deeds)
