@@ -29,8 +29,8 @@ init_first rows name digest quota is named fits (token, of_token) = subst AreFir
 
 -- ---- a run of `init`
 
--- the output and the keeper alone, as `init` uses them, beside the other ends
-abbrev pub beside : {C : Type 0} → Option (List ℕ) → ℕ → C → Outside (Unit {0}) → Outside C
+-- the output and the keeper alone, as `init` uses them, or with a clock, beside the other ends and what is lent
+abbrev pub beside : {B C : Type 0} → Option (List ℕ) → ℕ → C → Outside B → Outside C
 beside left faults lent a = record {
   left = left;
   written = a.written;

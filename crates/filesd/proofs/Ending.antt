@@ -1,10 +1,14 @@
 -- A run in which nothing of the outside fails.
 use Rattle.std.proofs.Common.{◌≡◌, ◌≢◌, ◌⊎◌, ℕ, List, [], refl, sym, ◌∙◌, subst, inl, inr, arith}
-use Rattle.std.specs.Prelude.{Option, None, Some}
+use Rattle.std.specs.Prelude.{Option, None, Some, Result, Ok, Err}
 use Rattle.std.proofs.lemmas.List.Elements.{All-nil}
 use Rattle.nf_base.specs.declared.rows.Row.{Row}
 use Rattle.nf_desk.specs.Opened.{CountsFault, IsBroken, IsFault}
 use Rattle.nf_desk.specs.Opening.{IsLoaded, IsUnread}
+use Rattle.nf_desk.specs.Sweeping.{Sweeps as SweepsDesk}
+use Rattle.nf_desk.specs.declared.sweeping.Swept.{Swept}
+use Rattle.nf_words.specs.declared.answer.Denial.{Denial}
+use Rattle.nf_words.specs.declared.answer.Denial.TheVariants as denial
 use Rattle.nf_desk.specs.declared.first.OpenFault.{OpenFault}
 use Rattle.nf_desk.specs.declared.first.OpenFault.TheVariants as fault
 use Rattle.nf_desk.specs.declared.first.Opening.TheVariants.{Kept}
@@ -31,15 +35,16 @@ use Rattle.filesd.specs.Ending.{BatchEndsWell, InitEndsWell, IsEmptyStore, IsSaf
 use Rattle.filesd.specs.Init.{Inits, Writes, ready}
 use Rattle.filesd.specs.Opening.{IsBad, WhyUnopened, over_any, over_none, status_of_fault, told_opened}
 use Rattle.filesd.specs.Outside.{Outside}
-use Rattle.filesd.specs.Seat.{book_of}
+use Rattle.filesd.specs.Seat.{book_of, seat}
 use Rattle.filesd.specs.Session.{Runs, first_book, scene_of, status_of}
-use Rattle.filesd.specs.Sweep.{Drops, Sweeps}
+use Rattle.filesd.specs.Sweep.{Sweeps, TellsSwept, beside_keeper}
 use Rattle.filesd.specs.declared.status.RowsFault.{RowsFault}
 use Rattle.filesd.specs.declared.status.RowsFault.TheVariants as bad
 use Rattle.filesd.specs.declared.status.Status.{Status}
 use Rattle.filesd.specs.declared.status.Status.TheVariants as exit
 use Rattle.filesd.proofs.Spelled.{broken_never, loaded_is, missing_never, unread_never}
 use Rattle.filesd.proofs.Safe.{batch_begins}
+use Rattle.filesd.proofs.Swept.{sweep_rose}
 use Rattle.filesd.proofs.Whole.{stays_whole}
 use Rattle.filesd.proofs.Working.{Says, runs_say}
 
@@ -120,8 +125,9 @@ init_well rows a b status (Some site) begins = λ empty nothing. here status beg
     here exit.WriteFault (rose, part) nothing = absurd (unrisen a.write_faults b.write_faults nothing.write rose)
     here other never nothing = absurd never
 
-pub sweep_well : {C : Type 0} (a b : Outside C) (status : Status) (site : Option Held) → Sweeps a b status site → SweepEndsWell a b status
-sweep_well a b status None unopened = λ good nothing. here good status unopened.why nothing
+pub sweep_well : {C : Type 0} (reads : C → ℕ → C → Type 0) (a b : Outside C) (status : Status) (site : Option Held)
+    → Sweeps reads a b status site → SweepEndsWell a b status
+sweep_well reads a b status None unopened = λ good nothing. here good status unopened.why nothing
   where
     here : IsSafeStore a.told → (s : Status) → WhyUnopened Kept a.told a.faults b.faults s → NothingFails a b
         → (s ≡ exit.Done) ⊎ (s ≡ exit.Memory)
@@ -135,14 +141,17 @@ sweep_well a b status None unopened = λ good nothing. here good status unopened
     here good (exit.BadRows bad.Missing) (same, (kept, (raws, loaded, none))) nothing =
         absurd (missing_never a.told good.it good.rows good.tells good.spelled good.unbroken raws loaded none)
     here good other never nothing = absurd never
-sweep_well a b status (Some site) sweeps = λ good nothing. here status sweeps.drops nothing
+sweep_well reads a b status (Some site) swept = λ good nothing. here swept.result swept.sweeps status swept.tells nothing
   where
-    here : (s : Status) → Drops site.kept.opening a b s → NothingFails a b → (s ≡ exit.Done) ⊎ (s ≡ exit.Memory)
-    here exit.Done drops nothing = inl refl
-    here exit.Memory drops nothing = inr refl
-    here exit.StoreFault drops nothing = absurd (unrisen a.faults b.faults nothing.keeper drops.0)
-    here exit.WriteFault drops nothing = absurd (unrisen a.write_faults b.write_faults nothing.write drops.1.0)
-    here other drops nothing = absurd drops.1
+    here : (result : Result Swept Denial) → SweepsDesk seat (beside_keeper a a swept.opened swept.before) (beside_keeper a b site.kept swept.after) swept.now result
+        → (s : Status) → TellsSwept result a b s → NothingFails a b → (s ≡ exit.Done) ⊎ (s ≡ exit.Memory)
+    here (Ok gone) sweeps exit.Done tells nothing = inl refl
+    here (Ok gone) sweeps exit.Memory tells nothing = inr refl
+    here (Ok gone) sweeps exit.WriteFault tells nothing = absurd (unrisen a.write_faults b.write_faults nothing.write tells.0)
+    here (Ok gone) sweeps other tells nothing = absurd tells
+    here (Err denial.Store) sweeps s tells nothing = absurd (unrisen a.faults b.faults nothing.keeper
+        (sweep_rose seat (beside_keeper a a swept.opened swept.before) (beside_keeper a b site.kept swept.after) swept.now (Err denial.Store) sweeps refl))
+    here (Err other) sweeps s tells nothing = inr tells.0
 
 module _ {K I A C Q D : Type 0} (k : KeeperOf K) (i : EndsOf I) (a : EndsOf A) (reads : Lent C Q → Taken → Lent C Q → Type 0) (door : DoorOf D I A) where
   serve_status : (keeper left : K) (before after : List (Worker D C Q)) (status : Status) (site : Option Held) (connections : ℕ)

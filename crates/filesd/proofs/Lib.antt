@@ -9,7 +9,7 @@ pub mod Safe
 pub mod Serving
 pub mod Shown
 pub mod Spelled
-pub mod Unnamed
+pub mod Swept
 pub mod Sole
 pub mod Together
 pub mod Whole

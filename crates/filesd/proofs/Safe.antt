@@ -15,10 +15,7 @@ use Rattle.nf_desk.specs.declared.first.First.{First}
 use Rattle.nf_desk.specs.declared.first.Opening.TheVariants.{Kept as OverKept}
 use Rattle.nf_hub.specs.Seats.{book_in}
 use Rattle.nf_keeper.specs.declared.keeper.Keeper.{Ghosts as KeeperOf}
-use Rattle.nf_keeper.specs.Keeping.{swept}
 use Rattle.nf_laws.specs.Wholes.{IsDamaged, IsNamed, IsSafe, IsThere}
-use Rattle.nf_named.proofs.Staying.{named_stay}
-use Rattle.nf_named.specs.Named.{named_blobs}
 use Rattle.nf_outside.specs.Lent.{Lent, Taken}
 use Rattle.nf_outside.specs.declared.traits.Ends.{Ghosts as EndsOf}
 use Rattle.nf_rows.specs.Spelling.{Raw}
@@ -40,13 +37,14 @@ use Rattle.filesd.specs.Opening.{told_opened}
 use Rattle.filesd.specs.Opening as opening
 use Rattle.filesd.specs.Outside.{Outside}
 use Rattle.filesd.specs.Reopening.{Leaves}
-use Rattle.filesd.specs.Seat.{book_of}
+use Rattle.filesd.specs.Seat.{book_of, seat}
 use Rattle.filesd.specs.Session.{Runs, first_book, scene_of}
-use Rattle.filesd.specs.Sweep.{Drops, Sweeps}
+use Rattle.filesd.specs.Sweep.{IsSwept, Sweeps, beside_keeper}
 use Rattle.filesd.specs.declared.status.Status.{Status}
 use Rattle.filesd.specs.declared.status.Status.TheVariants as exit
 use Rattle.filesd.proofs.Closing.{closing_tells}
 use Rattle.filesd.proofs.Spelled.{loaded_is, missing_never, opened_so}
+use Rattle.filesd.proofs.Swept.{sweep_opening, sweep_tells}
 use Rattle.filesd.proofs.Whole.{each_has, has_safe, left_is_safe, opened_safe, stay_whole, tells_some, undamaged}
 
 -- ---- what is left
@@ -125,33 +123,31 @@ init_keeps name digest quota a b status (Some site) begins leaves = record {
 
 -- ---- `sweep`
 
-swept_safe : (told after : Option Told) (rows : List Row) → after ≡ option_map (swept (named_blobs rows)) told → (good : IsSafeStore told)
-    → rows ≡ good.rows → IsSafeStore after
-swept_safe told after rows is good same = record {
-  it = swept (named_blobs rows) good.it;
-  tells = is ∙ ap (λ (t : Option Told). option_map (swept (named_blobs rows)) t) good.tells;
-  rows = good.rows;
-  spelled = good.spelled;
-  unbroken = good.unbroken;
-  safe = λ piece named.
-      named_stay rows good.it piece (subst (λ (these : List Row). IsNamed these piece) (sym same) named) (good.safe piece named);
-}
+tells_blobs : (told : Option Told) → IsSome told → IsSome (blobs_in told)
+tells_blobs None some = absurd (cc)
+tells_blobs (Some it) some = refl
 
-drops_keep : {C : Type 0} (a b : Outside C) (site : Held) → Opens OverKept a.told a.told site.kept → (status : Status)
-    → Drops site.kept.opening a b status → KeepsSafe a.told b.told
-drops_keep {C} a b site opens exit.StoreFault drops = same_keeps a.told b.told (ap (λ (o : Outside C). o.told) drops.1)
-drops_keep {C} a b site opens exit.Memory same = same_keeps a.told b.told (ap (λ (o : Outside C). o.told) same)
-drops_keep {C} a b site opens other drops = record {
-  safe = λ good.
-      swept_safe a.told b.told site.kept.opening (ap (λ (o : Outside C). o.told) drops.0) good
-      (opened_so a.told good.it good.rows good.tells good.spelled good.unbroken (first_of OverKept).rows opens.raws site.kept.opening
-      opens.loaded opens.rows);
-  empty = λ none. absurd (opens.kept tt (loaded_is a.told none.0 opens.raws none.1 opens.loaded ∙ none.2));
-}
+module _ {C : Type 0} (reads : C → ℕ → C → Type 0) (a b : Outside C) (status : Status) where
+  swept_safe : (site : Held) → IsSwept reads a b status site → Leaves site.kept b.told → IsSafeStore a.told → IsSafeStore b.told
+  swept_safe site swept leaves good =
+      let first = beside_keeper a a swept.opened swept.before in
+      let last = beside_keeper a b site.kept swept.after in
+      let rows : site.kept.opening ≡ good.rows =
+      sweep_opening seat first last swept.now swept.result swept.sweeps
+      ∙ opened_so a.told good.it good.rows good.tells good.spelled good.unbroken (first_of OverKept).rows swept.opens.raws swept.opened.opening
+      swept.opens.loaded swept.opens.rows in
+      leaves_safe site.kept (blobs_in a.told) b.told leaves swept.told
+      (tells_blobs b.told (sweep_tells seat first last swept.now swept.result swept.sweeps
+      (subst (λ (told : Option Told). IsSome told) (sym good.tells) refl)))
+      good.it.blobs (ap blobs_in good.tells)
+      (λ piece damaged. damaged.broken (good.safe piece (subst (λ (these : List Row). IsNamed these piece) rows damaged.named)))
 
-pub sweep_keeps : {C : Type 0} (a b : Outside C) (status : Status) (site : Option Held) → Sweeps a b status site → KeepsSafe a.told b.told
-sweep_keeps {C} a b status None unopened = same_keeps a.told b.told (ap (λ (o : Outside C). o.told) unopened.untouched)
-sweep_keeps a b status (Some site) sweeps = drops_keep a b site sweeps.opens status sweeps.drops
+  pub sweep_keeps : (site : Option Held) → Sweeps reads a b status site → IfSome site (λ site. Leaves site.kept b.told) → KeepsSafe a.told b.told
+  sweep_keeps None unopened leaves = same_keeps a.told b.told (ap (λ (o : Outside C). o.told) unopened.untouched)
+  sweep_keeps (Some site) swept leaves = record {
+    safe = swept_safe site swept leaves;
+    empty = λ none. absurd (swept.opens.kept tt (loaded_is a.told none.0 swept.opens.raws none.1 swept.opens.loaded ∙ none.2));
+  }
 
 -- ---- `serve`
 

@@ -33,15 +33,32 @@ outside s o k input output keeper lent = record {
 abbrev pub Untouched : {C : Type 0} → Outside C → Outside C → Type 0
 Untouched a b = b ≡ record a { faults = b.faults }
 
--- the same of an output and a keeper alone
+-- the same of an output, a keeper and what is lent alone
+abbrev pub outlet_with : {O K C : Type 0} → EndsOf O → KeeperOf K → O → K → C → Outside C
+outlet_with o k output keeper lent = record {
+  left = None;
+  written = o.written output;
+  begun = o.begun output;
+  read_faults = 0;
+  write_faults = o.write_faults output;
+  lent = lent;
+  told = k.told keeper;
+  faults = k.faults keeper;
+}
+
+-- of an output and a keeper
 abbrev pub outlet : {O K : Type 0} → EndsOf O → KeeperOf K → O → K → Outside (Unit {0})
-outlet o k output keeper = record {
+outlet o k output keeper = outlet_with o k output keeper tt
+
+-- and of an output
+abbrev pub output_alone : {O : Type 0} → EndsOf O → O → Outside (Unit {0})
+output_alone o output = record {
   left = None;
   written = o.written output;
   begun = o.begun output;
   read_faults = 0;
   write_faults = o.write_faults output;
   lent = tt;
-  told = k.told keeper;
-  faults = k.faults keeper;
+  told = None;
+  faults = 0;
 }

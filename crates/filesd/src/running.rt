@@ -20,7 +20,7 @@ ghost use Rattle.filesd.specs.Outside.{outlet, outside};
 ghost use Rattle.filesd.specs.Reopening.{Leaves, Pays};
 ghost use Rattle.filesd.specs.Seat.{AreOwn};
 ghost use Rattle.filesd.specs.Session.{DoesNothing, Runs, ServesDesk};
-ghost use Rattle.filesd.specs.Sweep.{Sweeps};
+ghost use Rattle.filesd.specs.Sweep.{Sweeps, reads_clock};
 ghost use Rattle.filesd.specs.declared.status.Status.TheVariants as exit;
 
 use crate::doors::serve_doors;
@@ -51,7 +51,8 @@ pub struct Finished<K: Drop> {
 
 /// What the program does by its words: `batch` serves the input and the output as one session over the rows that the keeper has, or over
 /// the demonstration rows, which it stores first where the keeper has none. `init` stores the rows of one administrator. `serve` serves
-/// the connections of the workers' doors over the rows that the keeper has. `sweep` drops the blobs that no row names.
+/// the connections of the workers' doors over the rows that the keeper has. `sweep` makes one sweep: of each trash goes what it doesn't
+/// hold any more, and then the blobs that nothing names.
 ///
 /// The site after the run is handed out with its history, but where none was opened.
 pub fn run<R, S, O, K, C, Q, D, W, V>(
@@ -90,7 +91,7 @@ where
         (outside S.Ends O.Ends K.Keeper input.new output.new result.keeper (lent clock.new dice.new)) result.status result.site }
     ensures serve { (n : ℕ) → IsServe (map string_bytes words.now) n
         → RunsDoors K.Keeper D.Source.Ends D.Sink.Ends (takes W.reads V.draws) D.Door n keeper result.keeper workers.old workers.new result.status result.site }
-    ensures sweep { IsSweep (map string_bytes words.now) → Sweeps
+    ensures sweep { IsSweep (map string_bytes words.now) → Sweeps (reads_clock C.reads)
         (outside S.Ends O.Ends K.Keeper input.old output.old keeper (lent clock.old dice.old))
         (outside S.Ends O.Ends K.Keeper input.new output.new result.keeper (lent clock.new dice.new)) result.status result.site }
     // A `serve` uses neither the input, nor the output, nor the clock, nor the dice; and no other command uses the workers.
@@ -144,7 +145,7 @@ where
             workers,
             connections,
         ),
-        Ok(Some(Command::Sweep)) => sweep(alloc, output, keeper),
+        Ok(Some(Command::Sweep)) => sweep(alloc, output, keeper, clock),
         Ok(None) => unopened(Status::Words, keeper),
         Err(_) => unopened(Status::Memory, keeper),
     }

@@ -54,9 +54,9 @@ row_stays (x ∷ rows) test node passes =
 
 module _ (rows : List NodeRow) (top : ℕ) where
   -- it leads up, and isn't under the top
-  record IsOutside (node : ℕ) : Type 0 where
-    leads : LeadsUp rows MAX_DEPTH node
-    outside : is_under rows node top ≡ false
+  pub record IsOutside (node : ℕ) : Type 0 where
+    pub leads : LeadsUp rows MAX_DEPTH node
+    pub outside : is_under rows node top ≡ false
 
   outside_row : (node : ℕ) → is_under rows node top ≡ false → node_row (without_under rows top) node ≡ node_row rows node
   outside_row node outside = row_stays rows (λ node. not (is_under rows node top)) node (ap not outside)
@@ -69,13 +69,13 @@ module _ (rows : List NodeRow) (top : ℕ) where
         ∙ (or_parts (node == top) (is_above rows node top) (sym (under_step rows node top is.leads) ∙ is.outside)).1;
   }
 
-  outside_leads : (most node : ℕ) → LeadsUp rows most node → IsOutside node → LeadsUp (without_under rows top) most node
+  pub outside_leads : (most node : ℕ) → LeadsUp rows most node → IsOutside node → LeadsUp (without_under rows top) most node
   outside_leads most node leads is =
       leads_other rows (without_under rows top) IsOutside (λ node is. inl (outside_row node is.outside)) outside_up
       leads.steps most node leads.top is leads.few leads.climbs leads.there leads.ends
 
   -- and it is under what it was
-  outside_same : (node other : ℕ) → IsOutside node → is_under (without_under rows top) node other ≡ is_under rows node other
+  pub outside_same : (node other : ℕ) → IsOutside node → is_under (without_under rows top) node other ≡ is_under rows node other
   outside_same node other is =
       along rows (λ node. is_under rows node top ≡ false → is_under (without_under rows top) node other ≡ is_under rows node other)
       (λ node leads rest outside.
@@ -104,7 +104,7 @@ leads_without rows top rising leads k d within =
 -- ---- sums without what is under a top
 
 -- a sum of what passes
-sum_filter : (test : NodeRow → Bool) (f : NodeRow → ℕ) (rows : List NodeRow)
+pub sum_filter : (test : NodeRow → Bool) (f : NodeRow → ℕ) (rows : List NodeRow)
     → sum_by (λ row. if test row then f row else 0) rows ≡ sum_by f (filter test rows)
 sum_filter test f [] = refl
 sum_filter test f (x ∷ rows) =
@@ -180,7 +180,7 @@ climb_there (suc k) rows most a b leads is =
     climb_there k rows (most - 1) p b (leads_parent rows most a p leads above).1 rest)
 
 -- nothing is under a node that isn't there
-under_absent : (rows : List NodeRow) (x node : ℕ) → LeadsUp rows MAX_DEPTH x → None ≡ position (λ row. row.id == node) rows
+pub under_absent : (rows : List NodeRow) (x node : ℕ) → LeadsUp rows MAX_DEPTH x → None ≡ position (λ row. row.id == node) rows
     → is_under rows x node ≡ false
 under_absent rows x node leads absent =
     false_from_ne_true (is_under rows x node) (λ under.

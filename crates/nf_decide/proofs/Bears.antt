@@ -44,6 +44,7 @@ use Rattle.nf_decide.specs.Current.{AreBorne, AreGiven, BearsAct, BearsChanges, 
 use Rattle.nf_decide.proofs.Putting.{count_by-cons, counts_none, counts_one}
 use Rattle.nf_decide.proofs.Leading.{copies_lead, leads_born, leads_rooted, leads_row, sound_leads}
 use Rattle.nf_decide.proofs.Tells.{tells_step}
+use Rattle.nf_decide.proofs.ToldGone.{item_shares}
 
 pub sound_given : (t : Tables) → AreSound t → AreGiven t
 sound_given t sound = record { rising = sound.rising; given = λ k d within. (sound.nodes k d within).given }
@@ -285,7 +286,7 @@ copies_bear t now copies sound joins =
 deed_bears : (t : Tables) (now : ℕ) (one : Deed) → AreSound t → t.meta.last ≡ now → Fit t now one → BearsDeed t one
 deed_bears t now (deed.Discard item) sound at (row, known, is) =
     ap (λ (item : ItemRow). is_some (node_row t.nodes item.node)) is ∙ ap (λ (o : Option NodeRow). is_some o) known.there
-deed_bears t now (deed.Purge node) sound at goes = tt
+deed_bears t now (deed.Purge node) sound at goes = λ is. item_shares t node sound is
 deed_bears t now (deed.Restore node folder name) sound at (row, fits) =
     let back = deed.Restore node folder name in
     record {
@@ -311,7 +312,7 @@ deeds_bear t now (one ∷ deeds) sound at turn = (
 -- whatever moment is stamped
 deed_unstamped : (t : Tables) (now : ℕ) (one : Deed) → BearsDeed (stamp t now) one → BearsDeed t one
 deed_unstamped t now (deed.Discard item) bears = bears
-deed_unstamped t now (deed.Purge node) bears = tt
+deed_unstamped t now (deed.Purge node) bears = bears
 deed_unstamped t now (deed.Restore node folder name) bears = record { there = bears.there; leads = bears.leads }
 deed_unstamped t now (deed.Relink node folder name) bears = record { there = bears.there; leads = bears.leads }
 deed_unstamped t now (deed.Join copies) bears = record {

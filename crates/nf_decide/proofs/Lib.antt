@@ -21,3 +21,5 @@ pub mod Stamps
 pub mod Tells
 pub mod ToldFirst
 pub mod ToldGone
+pub mod Runs
+pub mod ByOwner

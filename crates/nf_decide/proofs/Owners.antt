@@ -1,6 +1,9 @@
 -- Whose items there are, each user once.
-use Rattle.std.proofs.Common.{◌≡◌, ◌≢◌, ℕ, ◌==◌, ◌||◌, not, Bool, true, false, List, [], ◌∷◌, ◌++◌, filter, if◌then◌else◌, refl, sym, ap, ◌∙◌}
+use Rattle.std.proofs.Common.{◌≡◌, ◌≢◌, ℕ, ◌==◌, ◌||◌, not, Bool, true, false, List, [], ◌∷◌, ◌++◌, filter, if◌then◌else◌, cond, nat_cmp, refl, sym, ap, subst, arith, ◌∙◌}
 use Rattle.std.specs.List.{list_any}
+use Rattle.std.specs.Ordering.{eq_by_cmp, is_eq}
+use Rattle.std.proofs.lemmas.Bool.Decides.{nat_tests}
+use Rattle.std.proofs.lemmas.List.Folds.{list_any-append}
 use Rattle.std.proofs.lemmas.Bool.{cond_both, eq-eqb, eqb-true, false≢true, ne_eqb, not-false}
 use Rattle.std.proofs.lemmas.List.{append-nil}
 use Rattle.std.proofs.lemmas.List.Elements.{filter-append}
@@ -76,3 +79,29 @@ pub owners_step : (items : List ItemRow) (item : ItemRow) (b : Bool) (users : Li
     → users ≡ (if b then owners_of items else owners_of items ++ item.owner ∷ []) → users ≡ owners_of (items ++ item ∷ [])
 owners_step items item b users is put =
     put ∙ ap (λ (b : Bool). if b then owners_of items else owners_of items ++ item.owner ∷ []) is ∙ sym (owners_more items item)
+
+-- ---- those that were seen
+
+-- one more is seen, where it wasn't
+pub seen_step : (saw next users more : List ℕ) (user : ℕ) (there : Bool) → ((q : ℕ) → list_any (eq_by_cmp nat_cmp q) saw ≡ among q users)
+    → ((q : ℕ) → list_any (eq_by_cmp nat_cmp q) next ≡ cond (is_eq (nat_cmp user q)) true (list_any (eq_by_cmp nat_cmp q) saw))
+    → there ≡ among user users → more ≡ (if there then users else users ++ user ∷ []) → (q : ℕ) → list_any (eq_by_cmp nat_cmp q) next ≡ among q more
+seen_step saw next users more user there same updates is put q =
+    updates q ∙ ap (cond (is_eq (nat_cmp user q)) true) (same q) ∙ ap (λ (b : Bool). cond b true (among q users)) test ∙ here there is ∙ sym (ap (among q) put)
+  where
+    test : is_eq (nat_cmp user q) ≡ (user == q)
+    test = grind (arith, nat_tests)
+
+    known : (b : Bool) → (user == q) ≡ b → true ≡ among user users → cond b true (among q users) ≡ among q users
+    known true e is = subst (λ (n : ℕ). true ≡ among n users) (eqb-true user q e) is
+    known false e is = refl
+
+    fresh : (b a : Bool) → cond b true a ≡ (a || (b || false))
+    fresh true true = refl
+    fresh true false = refl
+    fresh false true = refl
+    fresh false false = refl
+
+    here : (there : Bool) → there ≡ among user users → cond (user == q) true (among q users) ≡ among q (if there then users else users ++ user ∷ [])
+    here true is = known (user == q) refl is
+    here false is = fresh (user == q) (among q users) ∙ sym (list_any-append (λ other. other == q) users (user ∷ []))

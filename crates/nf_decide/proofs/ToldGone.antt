@@ -93,16 +93,18 @@ none_closing rows top (share ∷ shares) all =
     rw (All-head Stays share shares all) (none_closing rows top shares (All-tail Stays share shares all))
 
 -- no share of what is under an item is left to end
-item_closed : (u : Tables) (top : ℕ) → AreSound u → IsItem u top → closed_under u.nodes u.shares top ≡ []
-item_closed u top sound is =
-    none_closing u.nodes top u.shares (λ k d within.
+pub item_shares : (u : Tables) (top : ℕ) → AreSound u → IsItem u top → All (λ (share : ShareRow). is_closing u.nodes top share ≡ false) u.shares
+item_shares u top sound is k d within =
     let share : ShareRow = get_or u.shares k d in
     elim (cases_Bool share.ended) [
       | inl ended ↦ ap (λ (b : Bool). not b && is_under u.nodes share.node top) ended
       | inr still ↦
           ap (λ (b : Bool). not b && is_under u.nodes share.node top) still
           ∙ item_outside u top share.node sound is ((sound.others.shares k d within).present still)
-    ])
+    ]
+
+item_closed : (u : Tables) (top : ℕ) → AreSound u → IsItem u top → closed_under u.nodes u.shares top ≡ []
+item_closed u top sound is = none_closing u.nodes top u.shares (item_shares u top sound is)
 
 -- where what is under it is the same, it is told of the first tables
 item_told : (t u : Tables) (top : ℕ) → AreSound t → AreSound u → IsItem t top → IsItem u top → SameUnder t u top

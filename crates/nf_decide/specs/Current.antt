@@ -13,8 +13,8 @@ use Rattle.nf_base.specs.declared.rows.NodeRow.{NodeRow}
 use Rattle.nf_base.specs.declared.rows.ShareRow.{ShareRow}
 use Rattle.nf_base.specs.declared.rows.UserRow.{UserRow}
 use Rattle.nf_charge.specs.Sums.{LeadUp}
-use Rattle.nf_defs.specs.Prelude.{filled, group_named, is_folder_kind, made, node_row, relinked, Tables, user_named, user_row, with_node}
-use Rattle.nf_words.specs.Prelude.{blob_after, deed_done, goal_of, IsNewMember, IsNewToken, last_number, last_short, State}
+use Rattle.nf_defs.specs.Prelude.{filled, group_named, is_folder_kind, item_row, made, node_row, relinked, Tables, user_named, user_row, with_node}
+use Rattle.nf_words.specs.Prelude.{blob_after, deed_done, goal_of, is_closing, IsNewMember, IsNewToken, last_number, last_short, State}
 use Rattle.nf_words.specs.declared.answer.Allowed.{Allowed}
 use Rattle.nf_words.specs.declared.answer.Allowed.TheVariants as allowed
 use Rattle.nf_words.specs.declared.answer.Deed.{Deed}
@@ -240,10 +240,14 @@ pub record BearsCopies (t : Tables) (rows : List NodeRow) : Type 0 where
   pub numbers : HasNumbers t rows
   pub leads : LeadUpBehind t.nodes rows
 
+-- of an item of the trash no share is left to end
+abbrev pub IsClosed : Tables → ℕ → Type 0
+IsClosed t node = All (λ (share : ShareRow). is_closing t.nodes node share ≡ false) t.shares
+
 -- what is put in the trash is there, and so is who has another quota
 abbrev pub BearsDeed : Tables → Deed → Type 0
 BearsDeed t (deed.Discard item) = IsSome (node_row t.nodes item.node)
-BearsDeed t (deed.Purge node) = Unit {0}
+BearsDeed t (deed.Purge node) = IsSome (item_row t.items node) → IsClosed t node
 BearsDeed t (deed.Restore node folder name) = BearsPlace t node folder name
 BearsDeed t (deed.Relink node folder name) = BearsPlace t node folder name
 BearsDeed t (deed.Join rows) = BearsCopies t rows

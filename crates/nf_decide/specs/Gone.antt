@@ -1,5 +1,5 @@
 -- What deeds do, told of the tables before all of them.
-use Rattle.std.specs.Prelude.{◌≡◌, ℕ, List, [], ◌∷◌, ◌++◌, is_some, if◌then◌else◌}
+use Rattle.std.specs.Prelude.{◌≡◌, ℕ, List, [], ◌∷◌, ◌++◌, Option, None, Some, is_some, if◌then◌else◌}
 use Rattle.std.specs.List.{flat_map}
 use Rattle.nf_base.specs.declared.changes.Change.{Change}
 use Rattle.nf_base.specs.declared.changes.Change.TheVariants.{Drop}
@@ -13,6 +13,11 @@ use Rattle.nf_words.specs.declared.answer.Deed.TheVariants as deed
 abbrev pub told_gone : Tables → ℕ → List Change
 told_gone t node =
     if is_some (item_row t.items node) then dropped_under t.nodes node ++ Drop (keys.Item node) ∷ [] else gone_under t.nodes t.shares node
+
+-- the node of the item that a deed takes out for good, if it does
+abbrev pub item_gone : Tables → Deed → Option ℕ
+item_gone t (deed.Purge node) = if is_some (item_row t.items node) then Some node else None
+item_gone t other = None
 
 abbrev pub told_first : Tables → Deed → List Change
 told_first t (deed.Purge node) = told_gone t node

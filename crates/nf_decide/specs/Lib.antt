@@ -7,3 +7,4 @@ pub mod Listed
 pub mod Counts
 pub mod Linked
 pub mod Gone
+pub mod ByOwner

@@ -104,7 +104,7 @@ fn trash_with(alloc: Global, view: &View<'_>, item: &ItemRow) -> Result<Vec<Tras
 // ---- what goes
 
 /// Of some items of a user's with that quota, the nodes of those that go for good.
-fn gone_of(
+pub(crate) fn gone_of(
     alloc: Global,
     view: &View<'_>,
     moment: Moment,

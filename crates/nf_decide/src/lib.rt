@@ -17,6 +17,7 @@ mod listing;
 mod locking;
 mod mounting;
 mod nodes;
+mod owned;
 mod people;
 mod people_put;
 mod quotas;

@@ -112,7 +112,7 @@ impl State {
         self.tables.keeps_room();
     }
 
-    /// Makes the step of a seat's event that no rule refuses. It takes no memory.
+    /// Makes the step of a seat's event that no rule refuses. It needs no memory.
     pub fn change(
         &mut self,
         seat: u64,

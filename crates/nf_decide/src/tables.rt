@@ -1,16 +1,17 @@
 //! The rows of the site in memory.
 
-ghost use Rattle.std.specs.Prelude.{◌≡◌, ◌⊎◌, ℕ, ◌+◌, ◌<◌, ◌≤◌, ◌∷◌, ◌++◌, [], false, is_some, All, AllPairs, length, map, max, slice_get, IfOk, IsSome, OnOk, None, Some};
+ghost use Rattle.std.specs.Prelude.{◌≡◌, ◌⊎◌, ℕ, ◌+◌, ◌<◌, ◌≤◌, ◌∷◌, ◌++◌, [], false, is_some, IsTrue, All, AllPairs, length, map, max, slice_get, IfOk, IsSome, OnOk, None, Some};
 ghost use Rattle.nf_base.specs.declared.changes.Change.TheVariants.{Put};
 ghost use Rattle.nf_base.specs.declared.limits.TheConstants.{MAX_NODES};
 ghost use Rattle.nf_base.specs.declared.rows.NodeRow.{NodeRow};
 ghost use Rattle.nf_base.specs.declared.rows.Row.TheVariants as kinds;
 ghost use Rattle.nf_base.specs.declared.rows.MetaRow.{MetaRow};
-ghost use Rattle.nf_defs.specs.Prelude.{drop_row, dropped, item_key, made, node_key, node_row, put, put_all, rows_of};
-ghost use Rattle.nf_words.specs.Prelude.{above, blob_after, changed, counted, deed_done, deeds_done, discarded, goal_of, joined, last_number, purged, restored};
+ghost use Rattle.nf_defs.specs.Prelude.{drop_row, dropped, item_key, item_row, made, node_key, node_row, put, put_all, rows_of};
+ghost use Rattle.nf_words.specs.Prelude.{above, blob_after, changed, counted, deed_done, deeds_done, discarded, goal_of, joined, last_number, purged, purges, restored};
 ghost use Rattle.nf_words.specs.declared.answer.Report.TheVariants.{Done};
 ghost use Rattle.nf_words.specs.declared.answer.Allowed.TheVariants as allowed;
 ghost use Rattle.nf_decide.specs.Current.{AreBorne, AreGiven, BearsAct, BearsChanges, BearsCopies, BearsDeed, BearsDeeds, BearsPlace, IsBorne, IsCounted, IsDroppedKey, IsNew, IsRefilled, LeadUpBehind, added_by, added_deed, added_deeds, added_of};
+ghost use Rattle.nf_decide.specs.Gone.{item_gone};
 ghost use Rattle.nf_rules.specs.Ruled.{AreRuled};
 ghost use Rattle.nf_decide.specs.Counts.{FitsNodes, FitsRows, IsNoSmaller, only_nodes};
 
@@ -155,7 +156,7 @@ impl Tables {
         }
     }
 
-    /// Puts rows, with the counters above their numbers and behind the blob. It takes no memory, and nor does any other change.
+    /// Puts rows, with the counters above their numbers and behind the blob. It takes no memory, and no other change needs any.
     fn change(&mut self, moment: Moment, changes: Changes, blob: Option<BlobId>)
         requires room { FitsRows self.old.tables self.old.room (added_of self.old.tables.meta.next_node changes) }
         requires bears { BearsChanges self.old.tables changes blob }
@@ -228,7 +229,7 @@ impl Tables {
         }
     }
 
-    /// Does some deeds, one after the other. It takes no memory.
+    /// Does some deeds, one after the other. Where there is no memory to gather items that go for good, they go one by one.
     fn perform_all(&mut self, moment: Moment, deeds: Deeds)
         requires room { FitsRows self.old.tables self.old.room (added_deeds deeds) }
         requires bears { BearsDeeds self.old.tables deeds }
@@ -242,14 +243,62 @@ impl Tables {
         self.stamp(moment);
     }
 
+    /// Items that go for good one after the other go together, in one pass over the rows.
     fn perform_each(&mut self, deeds: Vec<Deed>)
         requires room { FitsRows self.old.tables self.old.room (added_deeds deeds.items) }
         requires bears { BearsDeeds self.old.tables deeds.items }
         ensures { self.new.tables ≡ deeds_done self.old.tables deeds.items }
     {
+        let mut run = Vec::new(*deeds.allocator());
         for deed in deeds {
-            self.perform(deed);
+            if !self.gathers(&deed, &mut run) {
+                self.purge_items(&mut run);
+                self.perform(deed);
+            }
         }
+        self.purge_items(&mut run);
+    }
+
+    /// Puts the node of an item that a deed takes out for good behind those of a run, and tells whether it is there now.
+    fn gathers(&self, deed: &Deed, run: &mut Vec<NodeId>) -> bool
+        ensures gathered { IsTrue result → (node : ℕ) × (item_gone self.now.tables deed.now ≡ Some node) × (run.new.items ≡ run.old.items ++ node ∷ []) }
+        ensures left { result ≡ false → run.new.items ≡ run.old.items }
+    {
+        match self.item_gone(deed) {
+            Some(node) => run.push(node).is_ok(),
+            None => false,
+        }
+    }
+
+    /// The node of the item that a deed takes out for good, if it does.
+    fn item_gone(&self, deed: &Deed) -> Option<NodeId>
+        ensures { result ≡ item_gone self.now.tables deed.now }
+    {
+        match deed {
+            Deed::Purge(node) if self.has_item(*node) => Some(*node),
+            _ => None,
+        }
+    }
+
+    fn has_item(&self, node: NodeId) -> bool
+        ensures { result ≡ is_some (item_row self.now.tables.items node) }
+    {
+        self.items.find(&ItemKey { node }).is_some()
+    }
+
+    /// Takes out the nodes of a run of items for good, each with all under it and with its item. Of what is in the trash no share is left
+    /// to end.
+    fn purge_items(&mut self, run: &mut Vec<NodeId>)
+        requires items { All (λ node. IsSome (item_row self.old.tables.items node)) run.old.items }
+        requires bears { BearsDeeds self.old.tables (purges run.old.items) }
+        ensures tables { self.new.tables ≡ deeds_done self.old.tables (purges run.old.items) }
+        ensures room { self.new.room ≡ self.old.room }
+        ensures run { run.new.items ≡ [] }
+    {
+        self.tree.purge_all(run);
+        run.sort_unstable();
+        self.items.drop_all(run);
+        run.clear();
     }
 
     fn perform(&mut self, deed: Deed)

@@ -6,7 +6,7 @@ ghost use Rattle.nf_defs.specs.Puts.{dropped, key_cmp};
 ghost use Rattle.nf_defs.specs.Rising.{IsRising};
 
 use crate::Keyed;
-use nf_base::{Digest, GroupId, GroupRow, MemberRow, TokenRow, UserId, UserRow};
+use nf_base::{Digest, GroupId, GroupRow, ItemRow, MemberRow, NodeId, TokenRow, UserId, UserRow};
 use std::cmp::Ordering;
 
 /// Rows that are found by a key of that type.
@@ -91,5 +91,14 @@ impl FoundBy<MemberRow> for MemberRow {
 
     fn compare_to(&self, sought: &MemberRow) -> Ordering {
         self.compare(sought)
+    }
+}
+
+/// An item of the trash is found by its node.
+impl FoundBy<NodeId> for ItemRow {
+    ghost numbers = { λ node. node ∷ [] };
+
+    fn compare_to(&self, sought: &NodeId) -> Ordering {
+        self.node.cmp(sought)
     }
 }

@@ -13,12 +13,9 @@ use Rattle.nf_told.specs.Told.{Told}
 use Rattle.nf_words.specs.declared.history.Entry.{Entry}
 use Rattle.nf_words.specs.declared.history.Mark.{Mark}
 use Rattle.nf_words.specs.declared.history.Mark.TheVariants as mark
-use Rattle.nf_desk.specs.Desk.{IsCounted, Shown, entries_by, failed_mark, failed_marks, failures, failures_of, risen, strikes_of}
+use Rattle.nf_desk.specs.Desk.{IsCounted, Shown, entries_by, failed_mark, failed_marks, failures, failures_of, moved, risen, strikes_of}
 use Rattle.nf_desk.specs.Pieces.{StrikesOne}
-use Rattle.nf_desk.specs.Stepping.{Standing, standing}
-
-abbrev pub moved : Shown → Standing → Shown
-moved a b = record a { site = b.site; told = b.told; faults = b.faults }
+use Rattle.nf_desk.specs.Stepping.{standing}
 
 -- ---- a count that rises
 

@@ -1,5 +1,5 @@
 -- What a seat holds at the desk is what it was granted, and how its Begins and Ends are answered.
-use Rattle.std.proofs.Common.{◌≡◌, ◌≢◌, ◌⊎◌, inl, inr, ℕ, ◌+◌, ◌<◌, ◌≤◌, Bool, true, false, List, [], length, Result, Ok, Err, IsNone, refl, sym, ap, subst, ◌∙◌, arith}
+use Rattle.std.proofs.Common.{◌≡◌, ◌⊎◌, inl, inr, ℕ, ◌+◌, ◌<◌, ◌≤◌, Bool, true, false, List, [], length, Result, Ok, Err, IsNone, refl, sym, ap, subst, ◌∙◌, arith}
 use Rattle.std.specs.Prelude.{Option, None, Some, option_map, OnOk, MatchBool}
 use Rattle.sha2.specs.Sha256.{sha256}
 use Rattle.std.specs.Option.{IfSome}
@@ -34,7 +34,7 @@ use Rattle.nf_words.specs.declared.request.Words.{Words}
 use Rattle.nf_words.proofs.Ends.{known_change}
 use Rattle.nf_words.proofs.Known.{Known}
 use Rattle.nf_words.proofs.Marks.{is_failure, never_failed}
-use Rattle.nf_words.proofs.Opens.{begins_open, bodies_open, ends_grant_nothing}
+use Rattle.nf_words.proofs.Opens.{begins_open}
 use Rattle.nf_laws.proofs.Blobs.{blobs_are_new}
 use Rattle.nf_laws.specs.Wholes.{blob_under}
 use Rattle.nf_session.specs.Book.{Answer, Begins, EndsBody, EndsEmpty, IsBook, IsOfBegin, IsOfBody, Passes, Stores, entries_wanted, event_of_body, held, is_unmade, is_unmade_by, state_after}
@@ -42,9 +42,8 @@ use Rattle.nf_session.proofs.Books.{held_is_ticket}
 use Rattle.nf_site.specs.Held.{entries_wanted as site_wanted}
 use Rattle.nf_site.specs.Kept.{Kept, IsHistory, moment_of}
 use Rattle.nf_told.specs.Told.{Told}
-use Rattle.nf_desk.specs.Desk.{IsDesk, Shown, blobs_in, book_at, standing_in}
+use Rattle.nf_desk.specs.Desk.{IsDesk, Shown, blobs_in, book_at, moved, standing_in}
 use Rattle.nf_desk.specs.Stepping.{Asks, IsEmpty, Makes, Standing, Steps, entry_at, standing}
-use Rattle.nf_desk.proofs.Counting.{moved}
 use Rattle.nf_desk.proofs.Entering.{by_step, enters, state_again, step_enters, steps_enter, waits}
 use Rattle.nf_desk.proofs.Tellings.{empty_brings, empty_steps, steps_told, told_after}
 
@@ -83,7 +82,7 @@ may_end seat a outcome h may = subst (λ (goal : Option Goal). MayEnd goal outco
 wanted_is : (seat : ℕ) (a : Shown) → IsHistory a.site → entries_wanted (book_at seat a) ≡ site_wanted a.site
 wanted_is seat a h = ap (λ (s : State). length a.site.history + length s.tickets + 2) (sym h.replayed)
 
-passes : (seat : ℕ) (a : Shown) → Passes (book_at seat a) (book_at seat a)
+pub passes : (seat : ℕ) (a : Shown) → Passes (book_at seat a) (book_at seat a)
 passes seat a = record {
   waits = waits seat a.site a.site (blobs_in a.start.told) a.told a.told (book_at seat a).strikes (book_at seat a).strikes refl refl
       (omega arith);
@@ -164,7 +163,7 @@ begin_answer seat k now words request mark.Answered answer sound may is = record
 begin_answer seat k now words request mark.Store answer sound may is = subst BeginAnswer (sym is) (record { made = refl; answered = tt })
 begin_answer seat k now words request mark.Memory answer sound may is = absurd may.marked
 
-match_false : (P Q : Type 0) (b : Bool) → b ≡ false → Q → MatchBool b P Q
+pub match_false : (P Q : Type 0) (b : Bool) → b ≡ false → Q → MatchBool b P Q
 match_false P Q b is q = subst (λ (c : Bool). MatchBool c P Q) (sym is) q
 
 begins_made : (seat : ℕ) (a : Shown) (b : Standing) (now : ℕ) (words : Words) (request : Request) (answer : Answer) → IsHistory a.site

@@ -14,9 +14,9 @@ use Rattle.nf_words.proofs.Histories.{replay_more}
 use Rattle.nf_words.specs.Prelude.{after, answer_at, IsSound, MayCome, opened, replay, State}
 use Rattle.nf_words.specs.declared.history.Entry.{Entry}
 use Rattle.nf_words.specs.declared.history.Event.{Event}
-use Rattle.nf_desk.specs.Desk.{IsCounted, IsDesk, Shown, blobs_in, book_at, rows_in, standing_in}
+use Rattle.nf_desk.specs.Desk.{IsCounted, IsDesk, Shown, blobs_in, book_at, moved, rows_in, standing_in}
 use Rattle.nf_desk.specs.Stepping.{Standing, Steps, entry_at, standing}
-use Rattle.nf_desk.proofs.Counting.{marks, moved}
+use Rattle.nf_desk.proofs.Counting.{marks}
 use Rattle.nf_desk.proofs.Tellings.{IsTrueOf, steps_still, steps_true}
 
 -- what a seat knows whose store failed it so often

@@ -1,5 +1,5 @@
 -- What a turn at the desk keeps, and what it is to the lock.
-use Rattle.std.proofs.Common.{◌≡◌, ◌≢◌, ⊎_elim, inl, inr, ℕ, ◌<◌, ◌≤◌, List, [], ◌∷◌, ◌++◌, length, length-append, Result, Err, refl, sym, ap, subst, ◌∙◌, append-nil, arith}
+use Rattle.std.proofs.Common.{◌≡◌, ◌≢◌, inl, inr, ℕ, ◌<◌, ◌≤◌, List, [], ◌∷◌, ◌++◌, length, length-append, Result, Err, refl, sym, ap, subst, ◌∙◌, append-nil, arith}
 use Rattle.std.specs.Prelude.{Option, None, Some, IfOk, option_map, slice_get, Vec}
 use Rattle.std.specs.declared.alloc.Global.{Global}
 use Rattle.std.specs.declared.snapshot.Snapshot.{Snapshot}
@@ -15,7 +15,7 @@ use Rattle.nf_keeper.specs.declared.keeper.KeepFault.TheVariants.{Failed}
 use Rattle.nf_keeper.specs.declared.keeper.Keeper.{Ghosts as KeeperOf}
 use Rattle.nf_laws.proofs.Counters.{counters_rise}
 use Rattle.nf_laws.specs.Wholes.{Brings}
-use Rattle.nf_session.proofs.Lasting.{tells_refl, tells_then}
+use Rattle.nf_session.proofs.Lasting.{tells_for, tells_refl, tells_then}
 use Rattle.nf_session.specs.Book.{Answer, Lasts, TellsStill, held}
 use Rattle.nf_site.specs.Held.{HasEntryRoom, HasRoom, Held}
 use Rattle.nf_site.specs.Kept.{IsHistory, Kept}
@@ -26,10 +26,10 @@ use Rattle.nf_words.specs.declared.answer.Goal.TheVariants.{Serve}
 use Rattle.nf_words.specs.declared.history.Entry.{Entry}
 use Rattle.nf_words.specs.declared.history.Event.{Event}
 use Rattle.nf_words.specs.declared.history.Event.TheVariants.{Begin, End, Sweep}
-use Rattle.nf_desk.specs.Desk.{IsCounted, IsDesk, Served, Shown, TakesTurn, blobs_in, book_at, first_blob_of, next_of, shelf_of, shown, strikes_of, standing_in}
+use Rattle.nf_desk.specs.Desk.{IsCounted, IsDesk, Served, Shown, TakesTurn, blobs_in, book_at, first_blob_of, moved, next_of, shelf_of, shown, strikes_of, standing_in}
 use Rattle.nf_desk.specs.Pieces.{Reads, StrikesBy}
 use Rattle.nf_desk.specs.Stepping.{Standing, Starts, Steps, entry_at, standing}
-use Rattle.nf_desk.proofs.Counting.{marks, moved, strike}
+use Rattle.nf_desk.proofs.Counting.{marks, strike}
 use Rattle.nf_desk.proofs.Entering.{by_step, next_again, step_lasts, stepped, waits}
 use Rattle.nf_desk.proofs.Giving.{HasStrikes, counted_on, read_goes, reads}
 use Rattle.nf_desk.proofs.Tellings.{steps_still, steps_true}
@@ -84,7 +84,7 @@ any_room site Sweep room = room
 abbrev pub IsSeatNumber : ℕ → Type 0
 IsSeatNumber seat = (0 < seat) × (seat ≤ MAX_SEATS)
 
-has_strikes : (seat : ℕ) (a : Shown) → IsSeatNumber seat → IsDesk a → HasStrikes seat a
+pub has_strikes : (seat : ℕ) (a : Shown) → IsSeatNumber seat → IsDesk a → HasStrikes seat a
 has_strikes seat a is desk = (is.0, omega (arith, is.1, desk.seats))
 
 -- what a call of the keeper does to the strikes of the seats
@@ -93,14 +93,14 @@ pub record StrikesAlone (seat : ℕ) (strikes more : List ℕ) : Type 0 where
   pub rises : strikes_of strikes seat ≤ strikes_of more seat
   pub others : (m : ℕ) → m ≢ seat → strikes_of more m ≡ strikes_of strikes m
 
-strikes_stay : (seat : ℕ) (strikes more : List ℕ) → more ≡ strikes → StrikesAlone seat strikes more
+pub strikes_stay : (seat : ℕ) (strikes more : List ℕ) → more ≡ strikes → StrikesAlone seat strikes more
 strikes_stay seat strikes more same = record {
   seats = ap (λ (z : List ℕ). length z) same;
   rises = let is : strikes_of more seat ≡ strikes_of strikes seat = ap (λ (z : List ℕ). strikes_of z seat) same in omega (arith, is);
   others = λ m differ. ap (λ (z : List ℕ). strikes_of z m) same;
 }
 
-strikes_alone : (seat : ℕ) (strikes more : List ℕ) (result : Result (Option (Vec ℕ Global)) KeepFault) → 0 < seat → seat ≤ length strikes
+pub strikes_alone : (seat : ℕ) (strikes more : List ℕ) (result : Result (Option (Vec ℕ Global)) KeepFault) → 0 < seat → seat ≤ length strikes
     → StrikesBy seat strikes more result → StrikesAlone seat strikes more
 strikes_alone seat strikes more (Err Failed) some within by =
     let struck = strike seat strikes more some within by in record { seats = struck.seats; rises = by.rises; others = struck.others }
@@ -126,26 +126,27 @@ stays seat a =
     (waits seat a.site a.site (blobs_in a.start.told) a.told a.told (book_at seat a).strikes (book_at seat a).strikes refl refl
     (omega arith)).lasts
 
--- what stood on the shelf stands there still
+-- what stood on the shelf stands there still, or was dropped by an entry more
 shelf_kept : (x y : Kept) (old new : Option Told) → next_of x ≤ next_of y → length x.history ≤ length y.history
-    → TellsStill ⊥ (next_of x) (blobs_in old) (blobs_in new) → KeepsShelf (option_map (shelf_of x) old) (option_map (shelf_of y) new)
+    → TellsStill (length x.history < length y.history) (next_of x) (blobs_in old) (blobs_in new)
+    → KeepsShelf (option_map (shelf_of x) old) (option_map (shelf_of y) new)
 shelf_kept x y None None next more still = tt
 shelf_kept x y None (Some new) next more still = absurd (cc)
 shelf_kept x y (Some old) None next more still = absurd still
-shelf_kept x y (Some old) (Some new) next more still =
-    (next, more, λ m less. ⊎_elim (λ same. inl same) (λ gone. absurd gone.1) (still m less))
+shelf_kept x y (Some old) (Some new) next more still = (next, more, still)
 
 -- what a desk holds, of its fields
 abbrev pub served : {K : Type 0} → Held → K → List ℕ → Snapshot K → Served K
 served site keeper strikes start = record { site = site; keeper = keeper; strikes = strikes; start = start }
 
 module _ {K : Type 0} (k : KeeperOf K) (seat : ℕ) (old : Served K) where
-  takes_turn : (new : Served K) (added : List Entry) → IsHistory old.site.kept → IsHistory new.site.kept
+  pub turn_of : (new : Served K) (added : List Entry) → IsHistory old.site.kept → IsHistory new.site.kept
       → new.site.kept.history ≡ old.site.kept.history ++ added → All (λ (e : Entry). e.seat ≡ seat) added
       → StrikesAlone seat old.strikes new.strikes → new.start ≡ old.start
-      → Lasts (book_at seat (shown k old)) (book_at seat (shown k new))
-      → TellsStill ⊥ (next_of old.site.kept) (blobs_in (k.told old.keeper)) (blobs_in (k.told new.keeper)) → TakesTurn k seat old new
-  takes_turn new added before after entries alone strikes start lasts still = record {
+      → new.site.kept.opening ≡ old.site.kept.opening → next_of old.site.kept ≤ next_of new.site.kept
+      → TellsStill (length old.site.kept.history < length new.site.kept.history) (next_of old.site.kept)
+      (blobs_in (k.told old.keeper)) (blobs_in (k.told new.keeper)) → TakesTurn k seat old new
+  turn_of new added before after entries alone strikes start rows next still = record {
     alone = record {
       added = added;
       entries = entries;
@@ -153,14 +154,24 @@ module _ {K : Type 0} (k : KeeperOf K) (seat : ℕ) (old : Served K) where
       others = strikes.others;
       strikes = strikes.rises;
       keeps = record {
-        opening = λ i. (lasts.opening i, start i);
-        shelf = shelf_kept old.site.kept new.site.kept (k.told old.keeper) (k.told new.keeper) lasts.next_blob
+        opening = λ i. (rows i, start i);
+        shelf = shelf_kept old.site.kept new.site.kept (k.told old.keeper) (k.told new.keeper) next
             (omega (arith, ap length entries, length-append old.site.kept.history added)) still;
       };
     };
     before = before;
     after = after;
   }
+
+  -- where no bytes go
+  takes_turn : (new : Served K) (added : List Entry) → IsHistory old.site.kept → IsHistory new.site.kept
+      → new.site.kept.history ≡ old.site.kept.history ++ added → All (λ (e : Entry). e.seat ≡ seat) added
+      → StrikesAlone seat old.strikes new.strikes → new.start ≡ old.start
+      → Lasts (book_at seat (shown k old)) (book_at seat (shown k new))
+      → TellsStill ⊥ (next_of old.site.kept) (blobs_in (k.told old.keeper)) (blobs_in (k.told new.keeper)) → TakesTurn k seat old new
+  takes_turn new added before after entries alone strikes start lasts still =
+      turn_of new added before after entries alone strikes start lasts.opening lasts.next_blob
+      (tells_for ⊥ _ (next_of old.site.kept) (blobs_in (k.told old.keeper)) (blobs_in (k.told new.keeper)) (λ never. absurd never) still)
 
   -- the desk after a step
   abbrev pub serving : Held → K → Served K

@@ -59,6 +59,10 @@ shown k desk = record {
 abbrev pub standing_in : Shown → Standing
 standing_in a = standing a.site a.told a.faults
 
+-- the same desk with these behind a step
+abbrev pub moved : Shown → Standing → Shown
+moved a b = record a { site = b.site; told = b.told; faults = b.faults }
+
 -- ---- failures of the keeper
 
 -- how often the keeper failed the seat with the number n at what makes no entry

@@ -4,3 +4,4 @@ pub mod Opened
 pub mod Opening
 pub mod Pieces
 pub mod Stepping
+pub mod Sweeping

@@ -1,11 +1,12 @@
 //! The site and its keeper, at which seats take their turns.
 
-ghost use Rattle.std.specs.Prelude.{◌≡◌, ◌<◌, ◌≤◌, length, replicate, IfErr, IfOk, None, Some};
+ghost use Rattle.std.specs.Prelude.{◌≡◌, ◌<◌, ◌≤◌, length, IfErr, IfOk, None, Some};
 ghost use Rattle.sha2.specs.Sha256.{sha256};
-ghost use Rattle.nf_desk.specs.Desk.{IsDesk, TakesTurn, book_at, meanings, shown, standing_in};
+ghost use Rattle.nf_desk.specs.Desk.{IsDesk, TakesTurn, book_at, meanings, shown};
 ghost use Rattle.nf_desk.specs.Opened.{AsksOnce, CountsFault, IsFault, MayBegin, Opens};
-ghost use Rattle.nf_desk.specs.Pieces.{Reads, StrikesBy};
-ghost use Rattle.nf_desk.specs.Stepping.{IsEmpty, Starts};
+ghost use Rattle.nf_desk.specs.Pieces.{Reads};
+ghost use Rattle.nf_desk.specs.Stepping.{IsEmpty};
+ghost use Rattle.nf_desk.specs.Sweeping.{Sweeps, SweepsSeen};
 ghost use Rattle.nf_rules.specs.Ruled.{AreRuled};
 ghost use Rattle.nf_rules.specs.Rules.{AreUnbroken};
 ghost use Rattle.nf_session.specs.Book.{Begins, EndsBody, EndsEmpty, held};
@@ -13,18 +14,19 @@ ghost use Rattle.nf_site.specs.Kept.{IsHistory};
 ghost use Rattle.nf_turn.specs.Book.{IsFresh};
 ghost use Rattle.nf_words.specs.Prelude.{IsSound, MayEnd, MayWant};
 ghost use Rattle.nf_words.specs.declared.answer.Goal.TheVariants.{Serve};
-ghost use Rattle.nf_words.specs.declared.history.Event.TheVariants.{Sweep};
 ghost use Rattle.nf_words.specs.declared.history.Outcome.TheVariants.{Body};
 
 use crate::first::{Opening, Unopened};
 use crate::loading::site_over;
 use crate::piece::piece_at;
-use crate::stepping::{begin, finish, start, store};
+use crate::stepping::{begin, finish, store};
+use crate::strikes::{no_strikes, strike};
+use crate::sweeping::{Swept, sweep};
 use nf_base::{Content, Digest, MAX_SEATS, Moment, RowList};
 use nf_keeper::{KeepFault, Keeper};
 use nf_site::Site;
 use nf_turn::Book;
-use nf_words::{Answer, Entry, Event, Outcome, Request, Words};
+use nf_words::{Answer, Denial, Entry, Outcome, Request, Words};
 use std::alloc::Global;
 use std::marker::Model;
 use std::snapshot::Snapshot;
@@ -117,23 +119,26 @@ impl<K: Keeper + Drop> Desk<K> {
         answer
     }
 
-    /// Has go what the trashes don't hold any more, at a reading of the clock.
-    pub fn sweep(&mut self, seat: u64, now: Moment) -> Answer
+    /// Has go what the trashes don't hold any more, at a reading of the clock, and then the blobs that no row and no granted GET names.
+    /// Where the keeper doesn't drop them, the step stands as it was answered.
+    pub fn sweep(&mut self, seat: u64, now: Moment) -> Result<Swept, Denial>
+        requires seat { (0 < seat) × (seat ≤ MAX_SEATS) }
         requires idle { held (book_at seat (shown K.Keeper self.old)) ≡ None }
-        ensures sweeps { Starts seat (standing_in (shown K.Keeper self.old)) (standing_in (shown K.Keeper self.new)) now Sweep result }
+        ensures sweeps { Sweeps seat (shown K.Keeper self.old) (shown K.Keeper self.new) now result }
+        ensures seen { SweepsSeen (book_at seat (shown K.Keeper self.old)) (book_at seat (shown K.Keeper self.new)) now result }
         ensures turn { TakesTurn K.Keeper seat self.old self.new }
     {
         let _ = self.site.history();
-        let answer = start(
+        let result = sweep(
             self.alloc,
             &mut self.site,
             &mut self.keeper,
+            &mut self.strikes,
             seat,
             now,
-            Event::Sweep,
         );
         let _ = self.site.history();
-        answer
+        result
     }
 
     /// Reads a piece of what the seat was granted. Whether it is whole isn't tested here, since that takes its time.
@@ -208,22 +213,5 @@ impl<K: Keeper + Drop> Desk<K> {
         } = self;
         let _ = site.history();
         (site, keeper)
-    }
-}
-
-fn no_strikes() -> [u64; MAX_SEATS]
-    ensures { result ≡ replicate MAX_SEATS 0 }
-{
-    [0; MAX_SEATS]
-}
-
-/// Counts it at the seat where the keeper failed.
-fn strike(strikes: &mut [u64; MAX_SEATS], seat: u64, read: &Result<Option<Vec<u8>>, KeepFault>)
-    requires { (0 < seat) × (seat ≤ MAX_SEATS) }
-    ensures { StrikesBy seat strikes.old strikes.new read.now }
-{
-    if let Err(KeepFault::Failed) = read {
-        let place = (seat - 1) as usize;
-        strikes[place] = strikes[place].saturating_add(1);
     }
 }

@@ -6,7 +6,10 @@ mod first;
 mod loading;
 mod piece;
 mod stepping;
+mod strikes;
+mod sweeping;
 
 pub use desk::Desk;
 pub use first::{First, FirstBlob, OpenFault, Opening, Unopened};
 pub use piece::{piece_at, test_piece};
+pub use sweeping::Swept;

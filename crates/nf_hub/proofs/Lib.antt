@@ -8,5 +8,6 @@ mod Asking
 mod Ending
 mod Tickets
 mod Closing
+mod Sweeping
 mod Turning
 pub mod Sending

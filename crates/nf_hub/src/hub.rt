@@ -1,11 +1,12 @@
 //! The hub's calls.
 
-ghost use Rattle.std.specs.Prelude.{◌≡◌, ◌↔◌, ◌<◌, ◌≤◌, length, IfErr, IfOk, IfSome, IfNone, IsNone, None, Some, is_some};
+ghost use Rattle.std.specs.Prelude.{◌≡◌, ◌↔◌, ◌<◌, ◌≤◌, length, IfErr, IfOk, IfSome, IfNone, IsNone, OnOk, None, Some, is_some};
 ghost use Rattle.sha2.specs.Sha256.{sha256};
 ghost use Rattle.nf_base.specs.declared.limits.TheConstants.{MAX_SEATS};
 ghost use Rattle.nf_desk.specs.Desk.{meanings};
 ghost use Rattle.nf_desk.specs.Opened.{AsksOnce, CountsFault, IsFault, MayBegin};
 ghost use Rattle.nf_desk.specs.Stepping.{IsEmpty};
+ghost use Rattle.nf_desk.specs.Sweeping.{SweepsSeen, TellsNamed};
 ghost use Rattle.nf_hub.specs.Calls.{AsksGoal, AsksPiece, GivesGoal, HasPiece, HasTicket, IsBegan, LeavesKeeper, ShelvesBody, ShelvesEnding, answer_of};
 ghost use Rattle.nf_hub.specs.Seats.{IsSeat, Starts, book, memory_of, steady};
 ghost use Rattle.nf_hub.specs.Closing.{Closes};
@@ -17,12 +18,12 @@ ghost use Rattle.nf_words.specs.declared.history.Outcome.TheVariants.{Body};
 
 use crate::seat::{Began, Seat, SeatOf, Ticket};
 use nf_base::{Content, Digest, Moment};
-use nf_desk::{Desk, OpenFault, Opening, Unopened, piece_at, test_piece};
+use nf_desk::{Desk, OpenFault, Opening, Swept, Unopened, piece_at, test_piece};
 use nf_keeper::Keeper;
 use nf_session::{Ending, PieceFault};
 use nf_site::Site;
 use nf_turn::{Book, TurnLock};
-use nf_words::{Answer, Goal, Outcome, Reply, Request, Words};
+use nf_words::{Answer, Denial, Goal, Outcome, Reply, Request, Words};
 use std::alloc::Global;
 use std::sync::Wait;
 
@@ -105,6 +106,24 @@ impl<K: Keeper + Drop> Hub<K> {
             Ok(reply) => Began::Done(reply),
             Err(refusal) => Began::Refused(refusal),
         }
+    }
+
+    /// Has go what the trashes don't hold any more, at a reading of the clock, and then the blobs that no row and no granted GET names,
+    /// in one turn. Where the store doesn't drop them, the step stands as it was answered.
+    pub fn sweep<R: Wait>(&self, rt: &R, seat: &mut Seat<K>, now: Moment) -> Result<Swept, Denial>
+        requires seat { IsSeat K.Keeper self.now seat.old }
+        requires idle { held (book K.Keeper self.now seat.old) ≡ None }
+        ensures seat { IsSeat K.Keeper self.now seat.new }
+        ensures idle { held (book K.Keeper self.now seat.new) ≡ None }
+        ensures steady { steady (memory_of K.Keeper self.now seat.new) ≡ steady (memory_of K.Keeper self.now seat.old) }
+        ensures sweeps { SweepsSeen (book K.Keeper self.now seat.old) (book K.Keeper self.now seat.new) now result }
+        ensures named { OnOk result (TellsNamed (book K.Keeper self.now seat.new)) }
+    {
+        let number = seat.turns.number();
+        let mut desk = self.lock.take(rt, &mut seat.turns);
+        let result = desk.sweep(number, now);
+        self.lock.give(&mut seat.turns, desk);
+        result
     }
 
     /// The bytes of a piece of a content that the ticket's seat is to be sent, tested by its length and digest.

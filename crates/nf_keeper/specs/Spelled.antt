@@ -1,5 +1,5 @@
 -- Changes whose rows and keys are spelled.
-use Rattle.std.specs.Prelude.{List, [], ◌∷◌}
+use Rattle.std.specs.Prelude.{ℕ, List, [], ◌∷◌}
 use Rattle.nf_base.specs.declared.changes.Change.{Change}
 use Rattle.nf_base.specs.declared.changes.Change.TheVariants.{Put, Drop}
 use Rattle.nf_defs.specs.Puts.{dropped, put}
@@ -12,6 +12,15 @@ use Rattle.nf_keeper.specs.declared.spelled.SpelledChange.TheVariants as spelled
 abbrev pub spelled_change : Change → SpelledChange
 spelled_change (Put row) = spelled.Put (spelling_of row)
 spelled_change (Drop key) = spelled.Drop (key_spelling key)
+
+-- the kind of the row that it puts or drops, and its key
+abbrev pub change_kind : SpelledChange → ℕ
+change_kind (spelled.Put row) = row.kind
+change_kind (spelled.Drop key) = key.kind
+
+abbrev pub change_key : SpelledChange → List ℕ
+change_key (spelled.Put row) = raw_key row
+change_key (spelled.Drop key) = numbers_of_key key
 
 -- the rows after such a change
 abbrev pub after : List Raw → SpelledChange → List Raw

@@ -1,6 +1,9 @@
 //! Blobs in memory, by their numbers.
 
-ghost use Rattle.std.specs.Prelude.{◌≡◌, ◌∷◌, ◌<◌, [], ℕ, IfOk, OnOk, OnErr, filter, length, option_copied, vec_capacity};
+ghost use Rattle.std.specs.Prelude.{◌≡◌, ◌==◌, ◌∷◌, ◌<◌, [], ℕ, IfOk, OnOk, OnErr, filter, length, option_copied, vec_capacity};
+ghost use Rattle.std.specs.List.{list_any};
+ghost use Rattle.std.specs.List.Sorted.{IsSorted};
+ghost use Rattle.std.specs.Ordering.{nat_cmp};
 ghost use Rattle.nf_defs.specs.Prelude.{blob_at, blob_key, IsRising, put_blob};
 ghost use Rattle.nf_keeper.specs.Keeping.{is_kept, with_stored};
 ghost use Rattle.nf_keeper.specs.Views.{blob_in, bytes_in, stored_in};
@@ -147,11 +150,28 @@ pub(crate) fn keep(blobs: &mut Vec<Blob>, blob: Option<Blob>)
     }
 }
 
-/// Drops the blobs that aren't among these.
-pub(crate) fn drop_others(blobs: &mut Vec<Blob>, keep: &[BlobId])
+/// Drops the blobs that aren't among these. For want of memory none is dropped.
+pub(crate) fn drop_others(
+    alloc: Global,
+    blobs: &mut Vec<Blob>,
+    keep: &[BlobId],
+) -> Result<(), AllocError>
     requires { IsRising blob_key blobs.old.items }
-    ensures kept { blobs.new.items ≡ filter (is_kept keep.now) blobs.old.items }
+    ensures kept { OnOk result (blobs.new.items ≡ filter (is_kept keep.now) blobs.old.items) }
+    ensures same { OnErr result (blobs.new.items ≡ blobs.old.items) }
     ensures rising { IsRising blob_key blobs.new.items }
 {
-    blobs.retain(|blob| keep.contains(&blob.id));
+    let mut kept = keep.to_vec(alloc)?;
+    kept.sort_unstable();
+    let sorted = kept.as_slice();
+    blobs.retain(|blob| is_among(sorted, blob.id));
+    Ok(())
+}
+
+/// Whether the number is among these, which are sorted.
+fn is_among(sorted: &[BlobId], id: BlobId) -> bool
+    requires { IsSorted nat_cmp sorted.now }
+    ensures { result ≡ list_any (λ kept. kept == id) sorted.now }
+{
+    sorted.binary_search(&id).is_ok()
 }

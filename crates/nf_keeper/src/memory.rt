@@ -159,7 +159,6 @@ impl Keeper for MemKeeper {
         if self.calls.next().is_err() {
             return Err(KeepFault::Failed);
         }
-        drop_others(&mut self.blobs, keep);
-        Ok(())
+        Ok(drop_others(self.alloc, &mut self.blobs, keep)?)
     }
 }

@@ -1,10 +1,10 @@
 //! Rows and changes as they are spelled.
 
-ghost use Rattle.std.specs.Prelude.{◌≡◌, ◌≤◌, ◌<◌, ◌+◌, [], All, IfOk, OnOk, length, map, vec_capacity};
+ghost use Rattle.std.specs.Prelude.{◌≡◌, ◌≤◌, ◌<◌, ◌+◌, [], ◌∷◌, All, IfOk, OnOk, length, map, vec_capacity};
 ghost use Rattle.nf_defs.specs.Rising.{IsRising};
 ghost use Rattle.nf_told.specs.Told.{AreRisingRaws, FitsChange, numbers_of_key, raw_key};
 ghost use Rattle.nf_keeper.specs.Memory.{put_raws};
-ghost use Rattle.nf_keeper.specs.Spelled.{after, after_all, spelled_change};
+ghost use Rattle.nf_keeper.specs.Spelled.{after, after_all, change_key, change_kind, spelled_change};
 
 use crate::raws::RawRows;
 use nf_base::Change;
@@ -79,6 +79,37 @@ pub(crate) enum SpelledChange {
     Drop(RawKey),
 }
 
+impl SpelledChange {
+    fn kind(&self) -> u8
+        ensures { result ≡ change_kind self.now }
+    {
+        match self {
+            SpelledChange::Put(kept) => kept.row.kind(),
+            SpelledChange::Drop(key) => key.kind(),
+        }
+    }
+
+    fn key(&self) -> &[u8]
+        ensures { change_kind self.now ∷ result.now ≡ change_key self.now }
+    {
+        match self {
+            SpelledChange::Put(kept) => kept.row.key(),
+            SpelledChange::Drop(key) => key.bytes(),
+        }
+    }
+}
+
+/// Changes are ordered by the kind and the key of the row that they put or drop.
+impl Keyed for SpelledChange {
+    ghost key = { change_key };
+
+    fn compare(&self, other: &SpelledChange) -> Ordering {
+        self.kind()
+            .cmp(&other.kind())
+            .then(self.key().cmp(other.key()))
+    }
+}
+
 fn spell(alloc: Global, change: &Change) -> Result<SpelledChange, AllocError>
     ensures spelled { IfOk result (λ spelled. spelled ≡ spelled_change change.now) }
     ensures fits { OnOk result (FitsChange change.now) }
@@ -124,8 +155,59 @@ fn make(rows: &mut Vec<KeptRow>, change: SpelledChange)
     }
 }
 
-/// Makes the changes, in their order. It takes no memory.
-pub(crate) fn make_all(rows: &mut Vec<KeptRow>, changes: Vec<SpelledChange>)
+/// Takes the rows out, as changes that put them before the others.
+fn put_first(rows: &mut Vec<KeptRow>, changes: &mut Vec<SpelledChange>) -> Result<(), AllocError>
+    requires rising { AreRisingRaws rows.old.items }
+    ensures made { after_all rows.new.items changes.new.items ≡ after_all rows.old.items changes.old.items }
+    ensures rising { AreRisingRaws rows.new.items }
+    ensures count { length rows.new.items + length changes.new.items ≡ length rows.old.items + length changes.old.items }
+    ensures capacity { vec_capacity rows.new ≡ vec_capacity rows.old }
+{
+    changes.reserve(rows.len())?;
+    changes.reverse();
+    while let Some(row) = rows.pop() {
+        let done: Result<_, _> = changes.push(SpelledChange::Put(row));
+        done.unwrap();
+    }
+    changes.reverse();
+    Ok(())
+}
+
+/// Sorts the rows and the changes together by key, those with one key in their order. Made one after the other each then
+/// comes behind all rows before it, and moves none. Without memory they make the same, with more moves.
+fn sort_together(
+    rows: &mut Vec<KeptRow>,
+    changes: &mut Vec<SpelledChange>,
+) -> Result<(), AllocError>
+    requires rising { AreRisingRaws rows.old.items }
+    ensures made { after_all rows.new.items changes.new.items ≡ after_all rows.old.items changes.old.items }
+    ensures rising { AreRisingRaws rows.new.items }
+    ensures count { length rows.new.items + length changes.new.items ≡ length rows.old.items + length changes.old.items }
+    ensures capacity { vec_capacity rows.new ≡ vec_capacity rows.old }
+{
+    put_first(rows, changes)?;
+    changes.sort_by(|change, other| change.compare(other))
+}
+
+/// So many changes are made among the rows, where each moves those behind it, no slower than all are sorted.
+const FEW: usize = 64;
+
+/// Makes the changes, in their order. It needs no memory; more than a few are made faster with some.
+pub(crate) fn make_all(rows: &mut Vec<KeptRow>, mut changes: Vec<SpelledChange>)
+    requires rising { AreRisingRaws rows.old.items }
+    requires room { length rows.old.items + length changes.items ≤ vec_capacity rows.old }
+    ensures made { rows.new.items ≡ after_all rows.old.items changes.items }
+    ensures rising { AreRisingRaws rows.new.items }
+{
+    if changes.len() > FEW {
+        // Whether or not they could be sorted, they make the same.
+        let _ = sort_together(rows, &mut changes);
+    }
+    make_each(rows, changes);
+}
+
+/// Makes one change after the other.
+fn make_each(rows: &mut Vec<KeptRow>, changes: Vec<SpelledChange>)
     requires rising { AreRisingRaws rows.old.items }
     requires room { length rows.old.items + length changes.items ≤ vec_capacity rows.old }
     ensures made { rows.new.items ≡ after_all rows.old.items changes.items }

@@ -3,6 +3,7 @@ pub mod Held
 pub mod Plans
 pub mod PlanView
 pub mod Beside
+pub mod Naming
 pub mod Demo
 pub mod View
 pub mod Built

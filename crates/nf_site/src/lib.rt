@@ -4,6 +4,7 @@
 mod copies;
 mod demo;
 pub mod laws;
+mod named;
 mod plan;
 mod site;
 

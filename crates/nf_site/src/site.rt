@@ -1,11 +1,13 @@
 //! The site.
 
-ghost use Rattle.std.specs.Prelude.{◌≡◌, ◌≢◌, ◌<◌, ◌≤◌, ◌↔◌, Err, IfOk, OnOk};
+ghost use Rattle.std.specs.Prelude.{◌≡◌, ◌≢◌, ℕ, ◌<◌, ◌≤◌, ◌↔◌, Contains, length, Err, IfOk, OnOk};
 ghost use Rattle.nf_defs.specs.Tables.{rows_of};
+ghost use Rattle.nf_laws.specs.Named.{blobs_named};
 ghost use Rattle.nf_rules.specs.Ruled.{AreRuled};
 ghost use Rattle.nf_site.specs.Built.{IsBuilt};
 ghost use Rattle.nf_site.specs.Held.{HasEntryRoom, HasRoom, entries_wanted};
 ghost use Rattle.nf_site.specs.Kept.{IsHistory, entry, entered, moment_of, stepped};
+ghost use Rattle.nf_site.specs.Naming.{NamesBlob};
 ghost use Rattle.nf_site.specs.PlanView.{decision_in};
 ghost use Rattle.nf_site.specs.Plans.{IsPlannedAtEnd, IsReady, plan_at, plan_of};
 ghost use Rattle.nf_words.specs.Prelude.{access_of, answer_to, changes_to, decision_of, end_decision, IsSound, MayAsk, MayBear};
@@ -14,8 +16,9 @@ ghost use Rattle.nf_words.specs.declared.history.Mark.TheVariants.{Answered};
 ghost use Rattle.nf_site.specs.declared.site.RoomFault.TheVariants.{Full};
 
 use crate::Plan;
+use crate::named::{name_nodes, name_tickets};
 use crate::plan::{Deed, parted};
-use nf_base::{Changes, MAX_ENTRIES, Moment, RowList};
+use nf_base::{BlobId, Changes, MAX_ENTRIES, Moment, RowList};
 use nf_decide::{Call, State, changes, decide_end, swept};
 use nf_opening::{SiteFault, judge};
 use nf_words::{Allowed, Answer, Denial, Entry, Event, Mark, Outcome};
@@ -204,7 +207,7 @@ impl Site {
         }
     }
 
-    /// Makes the planned step. It takes no memory.
+    /// Makes the planned step. It needs no memory.
     #[tactic(auto, using(crate::proofs::Steps::entry_fits))]
     pub fn adopt(&mut self, plan: Plan) -> Answer
         requires { IsReady self.old plan }
@@ -269,6 +272,26 @@ impl Site {
         ensures { IfOk result (λ rows. rows ≡ rows_of self.now.kept.state.tables) }
     {
         self.current.rows(alloc)
+    }
+
+    /// How many items the trashes hold.
+    pub fn items(&self) -> usize
+        ensures { result ≡ length self.now.kept.state.tables.items }
+    {
+        self.current.view().items.count()
+    }
+
+    /// The numbers of the blobs that a row or a granted GET names. One that is named twice comes twice.
+    pub fn named(&self, alloc: Global) -> Result<Vec<BlobId>, AllocError>
+        ensures blobs { IfOk result (λ blobs. blobs.items ≡ blobs_named self.now.kept.state) }
+        ensures named { (id : ℕ) → Contains (blobs_named self.now.kept.state) id ↔ NamesBlob self.now.kept.state id }
+    {
+        let view = self.current.view();
+        let mut blobs = Vec::new(alloc);
+        // Rows of the other kinds name none, since there are no versions and no chunks yet.
+        name_nodes(&mut blobs, view.tree.nodes())?;
+        name_tickets(&mut blobs, view.tickets)?;
+        Ok(blobs)
     }
 
     pub fn history(&self) -> &[Entry]

@@ -23,20 +23,20 @@ cut (suc k) [] (y ∷ ys) less above = absurd (cc)
 cut (suc k) (x ∷ xs) [] less above = absurd (cc)
 cut (suc k) (x ∷ xs) (y ∷ ys) less above = let rest = cut k xs ys in grind (arith, nat_tests)
 
-not_lower : (a b front : List ℕ) (r : Ordering) → key_cmp a b ≡ r → r ≢ Greater → ordering_index (key_cmp a front) ≤ ordering_index (key_cmp b front)
+pub not_lower : (a b front : List ℕ) (r : Ordering) → key_cmp a b ≡ r → r ≢ Greater → ordering_index (key_cmp a front) ≤ ordering_index (key_cmp b front)
 not_lower a b front Less e not_above = rises a b front e
 not_lower a b front Equal e not_above = rw (key_total.congr a b front e) (omega arith)
 not_lower a b front Greater e not_above = absurd (not_above refl)
 
 -- what fails a test in front doesn't count
-passed : {X : Type 0} (p : X → Bool) (xs : List X) (from : ℕ) → AllWithin (λ x. p x ≡ false) xs 0 from → filter p xs ≡ filter p (drop from xs)
+pub passed : {X : Type 0} (p : X → Bool) (xs : List X) (from : ℕ) → AllWithin (λ x. p x ≡ false) xs 0 from → filter p xs ≡ filter p (drop from xs)
 passed p xs zero fail = refl
 passed p [] (suc from) fail = refl
 passed p (x ∷ xs) (suc from) fail =
     rw (fail 0 x (omega arith) (omega arith)) (passed p xs from (λ k d le less. fail (suc k) d (omega arith) (omega arith)))
 
 -- nor what fails it behind
-kept : {X : Type 0} (p : X → Bool) (xs : List X) (count : ℕ) → AllWithin (λ x. p x ≡ true) xs 0 count
+pub kept : {X : Type 0} (p : X → Bool) (xs : List X) (count : ℕ) → AllWithin (λ x. p x ≡ true) xs 0 count
     → AllWithin (λ x. p x ≡ false) xs count (length xs) → take count xs ≡ filter p xs
 kept p [] zero pass fail = refl
 kept p [] (suc count) pass fail = refl

@@ -3,3 +3,4 @@ pub mod Backs
 pub mod Leans
 pub mod Fronts
 pub mod Over
+pub mod Dropped

@@ -1,8 +1,9 @@
 //! The keys by which rows are found, and fronts of keys.
 
-ghost use Rattle.std.specs.Prelude.{◌≡◌, [], ◌∷◌, ◌++◌, ℕ, List, filter, length};
+ghost use Rattle.std.specs.Prelude.{◌≡◌, [], ◌∷◌, ◌++◌, ℕ, List, bytes_eq, filter, length};
+ghost use Rattle.std.specs.List.{list_any};
 ghost use Rattle.nf_defs.specs.Prelude.{IsRising, key_cmp};
-ghost use Rattle.nf_table.specs.Rows.{begins, front_cmp};
+ghost use Rattle.nf_table.specs.Rows.{AreSorted, begins, front_cmp};
 
 use nf_base::{
     ChunkRow, ItemRow, Moment, MountRow, Name, NodeId, ShareId, ShareRow, UploadRow, UserId,
@@ -29,6 +30,15 @@ pub(crate) fn front_of<'a, K, R: BegunBy<K>>(rows: &'a [R], front: &K) -> &'a [R
     let (_, rest) = rows.split_at(from);
     let count = rest.partition_point(|row| row.compare_front(front).is_eq());
     &rest[..count]
+}
+
+/// Whether a row's key is among some sorted keys.
+pub(crate) fn has_key<K, R: FoundBy<K>>(keys: &[K], row: &R) -> bool
+    requires { AreSorted R.numbers keys.now }
+    ensures { result ≡ list_any (λ key. bytes_eq (R.numbers key) (R.key row.now)) keys.now }
+{
+    keys.binary_search_by(|key| row.compare_to(key).reverse())
+        .is_ok()
 }
 
 /// The key of a share.

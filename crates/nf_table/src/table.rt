@@ -1,13 +1,13 @@
 //! A table of rows.
 
-ghost use Rattle.std.specs.Prelude.{◌≡◌, ◌+◌, ◌≤◌, ◌<◌, [], None, bytes_eq, filter, length, reverse, IsOk, OnOk, option_copied};
+ghost use Rattle.std.specs.Prelude.{◌≡◌, ◌+◌, ◌≤◌, ◌<◌, [], None, bytes_eq, filter, length, map, reverse, IsOk, OnOk, option_copied};
 ghost use Rattle.std.specs.Fn.{FnOnceReturnsAtMut};
 ghost use Rattle.std.specs.List.{list_any};
 ghost use Rattle.nf_defs.specs.Prelude.{dropped, IsRising, put};
-ghost use Rattle.nf_table.specs.Rows.{Changes, begins, row_at};
+ghost use Rattle.nf_table.specs.Rows.{AreSorted, Changes, all_dropped, begins, row_at};
 ghost use Rattle.nf_table.specs.Swaps.{AreOwn, IsOwn, swapped, taken, tried, turned};
 
-use crate::keys::{BegunBy, front_of};
+use crate::keys::{BegunBy, front_of, has_key};
 use crate::places::{exchange, place_for, put_at};
 use crate::swaps::Swap;
 use nf_defs::{FoundBy, Keyed, drop_row, place_of, row_of};
@@ -129,6 +129,33 @@ impl<R: Keyed + Drop> Table<R> {
         ensures count { length self.new.rows ≤ length self.old.rows }
     {
         drop_row(&mut self.rows, key)
+    }
+
+    /// Takes the rows with some sorted keys out. Those of many go in one pass over the rows. It takes no memory.
+    pub fn drop_all<K>(&mut self, keys: &[K])
+    where
+        R: FoundBy<K>,
+        requires sorted { AreSorted R.numbers keys.now }
+        ensures rows { self.new.rows ≡ all_dropped R.key (map R.numbers keys.now) self.old.rows }
+        ensures room { self.new.room ≡ self.old.room }
+    {
+        match keys {
+            [] => {}
+            [key] => {
+                self.drop(key);
+            }
+            _ => self.keep_others(keys),
+        }
+    }
+
+    fn keep_others<K>(&mut self, keys: &[K])
+    where
+        R: FoundBy<K>,
+        requires sorted { AreSorted R.numbers keys.now }
+        ensures rows { self.new.rows ≡ all_dropped R.key (map R.numbers keys.now) self.old.rows }
+        ensures room { self.new.room ≡ self.old.room }
+    {
+        self.rows.retain(|row| !has_key(keys, row));
     }
 
     /// Gives a key the row that it is to have, and the swap the row that it had. It takes no memory.

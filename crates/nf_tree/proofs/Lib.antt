@@ -10,3 +10,4 @@ pub mod Walks
 pub mod Fates
 pub mod Marks
 pub mod Removed
+pub mod Tops

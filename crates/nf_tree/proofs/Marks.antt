@@ -1,20 +1,24 @@
 -- Marks of rows, and what rows that are marked tell of where each row goes.
 use Rattle.std.proofs.Common.{ℕ, ◌+◌, ◌-◌, ◌<◌, ◌≤◌, ◌≡◌, ◌≢◌, ◌==◌, ◌||◌, Bool, true, false, List, [], ◌∷◌, ◌++◌, Some, None, refl, sym, ap, ◌∙◌, subst, inl, inr, arith, length, get_or, take, set, filter, map, cond}
 use Rattle.std.specs.List.{All, between, flat_map, list_any, position}
-use Rattle.std.proofs.lemmas.Bool.{cases_eq, cases_order, both_ways, eq-eqb, eqb-true, ne_eqb, not-false, not-true, true_from_ne_false, false_from_ne_true}
-use Rattle.std.proofs.lemmas.List.{get_or_default, get_or-set_same, get_or-set_other, length-set}
-use Rattle.std.proofs.lemmas.List.Folds.{list_any-append}
+use Rattle.std.specs.Option.{option_map_or}
+use Rattle.std.proofs.lemmas.Bool.{cases_Bool, cases_eq, or_left, cases_order, both_ways, eq-eqb, eqb-true, ne_eqb, not-false, not-true, true_from_ne_false, false_from_ne_true}
+use Rattle.std.proofs.lemmas.List.{get_or_default, get_or-set_same, get_or-set_other, length-set, take_all, take_more}
+use Rattle.std.proofs.lemmas.List.Folds.{Any-from_list_any, list_any-append, list_any_at}
 use Rattle.std.proofs.lemmas.List.Quantifiers.{position-Some}
 use Rattle.nf_base.specs.declared.limits.TheConstants.{MAX_DEPTH}
 use Rattle.nf_base.specs.declared.rows.NodeRow.{NodeRow}
 use Rattle.nf_defs.specs.Prelude.{children_of, is_under, walk_within}
-use Rattle.nf_defs.proofs.Climbs.{walk_among}
+use Rattle.nf_defs.proofs.Climbs.{holds_some, walk_among}
 use Rattle.nf_defs.proofs.Lookups.{fail_nowhere}
-use Rattle.nf_tree.specs.Order.{AreFates, AreMarked, AreRisingNodes, stays}
+use Rattle.nf_tree.specs.Order.{AreFates, AreMarked, AreMarkedBy, AreRisingNodes, goes, outstays}
 use Rattle.nf_tree.proofs.Children.{part_more, row_at}
+use Rattle.nf_charge.specs.Sums.{LeadUp, LeadsUp}
+use Rattle.nf_charge.proofs.Lifting.{or_none}
 use Rattle.nf_charge.proofs.Positions.{no_row}
 use Rattle.nf_tree.proofs.Walks.{flat_push, walk_all, walk_down, walk_none}
 use Rattle.nf_tree.proofs.Fates.{one_more}
+use Rattle.nf_tree.proofs.Tops.{under_under}
 
 -- ---- marks
 
@@ -102,6 +106,73 @@ all_marked rows order folder down from at before after more all marked =
 pub none_under : (rows : List NodeRow) (node down : ℕ) (before after : List ℕ) → down ≡ 0 → AreMarked rows (node ∷ []) before after → AreMarked rows (walk_within down rows node) before after
 none_under rows node down before after none marked = subst (λ nodes. AreMarked rows nodes before after) (sym (walk_none down rows node none)) marked
 
+-- ---- the marks of many walks
+
+-- blank marks are those of no top
+pub none_marked_by : (rows : List NodeRow) (marks : List ℕ) → All (λ mark. mark ≡ 0) marks → length marks ≡ length rows → AreMarkedBy (goes rows []) rows marks
+none_marked_by rows marks zeros long = record { long = long; each = λ at d within. zeros at 0 (omega (arith, long, within)) }
+
+module _ (rows : List NodeRow) (tops : List ℕ) (i : ℕ) (marks : List ℕ) (leads : LeadUp rows) (within : i < length tops)
+    (marked : AreMarkedBy (goes rows (take i tops)) rows marks) where
+  abbrev top : ℕ
+  top = get_or tops i 0
+
+  one_top_more : (node : ℕ) → goes rows (take (i + 1) tops) node ≡ (goes rows (take i tops) node || is_under rows node top)
+  one_top_more node =
+      ap (λ (some : List ℕ). goes rows some node) (take_more tops i 0 within)
+      ∙ list_any-append (λ other. is_under rows node other) (take i tops) (top ∷ [])
+      ∙ ap (λ b. goes rows (take i tops) node || b) (or_none (is_under rows node top))
+
+  -- a walk from one more has marked what is under it
+  pub walk_marked : (after : List ℕ) → AreRisingNodes rows → AreMarked rows (walk_within MAX_DEPTH rows top) marks after
+      → AreMarkedBy (goes rows (take (i + 1) tops)) rows after
+  walk_marked after rising walked = record {
+    long = walked.long ∙ marked.long;
+    each = λ at d inside.
+        let node = (get_or rows at d).id in
+        (subst (λ nodes. AreMarked rows nodes marks after) (walk_all rows top) walked).each at d inside
+        ∙ ap (λ b. cond b (length rows) (get_or marks at 0)) (walk_among rows top node rising)
+        ∙ ap (cond (is_under rows node top) (length rows)) (marked.each at d inside)
+        ∙ either (goes rows (take i tops) node) (is_under rows node top) (length rows) 0
+        ∙ ap (λ b. cond b (length rows) 0) (sym (one_top_more node));
+  }
+
+  -- what is under one that is marked is marked
+  pub still_marked : option_map_or (λ at. get_or marks at 0 == length rows) (position (λ row. row.id == top) rows) false ≡ true
+      → AreMarkedBy (goes rows (take (i + 1) tops)) rows marks
+  still_marked is = record {
+    long = marked.long;
+    each = λ at d inside. marked.each at d inside ∙ ap (λ b. cond b (length rows) 0) (same (get_or rows at d).id (leads at d inside));
+  }
+    where
+      gone : goes rows (take i tops) top ≡ true
+      gone =
+          let found = holds_some (λ at. get_or marks at 0 == length rows) (position (λ (row : NodeRow). row.id == top) rows) is in
+          let first = position-Some (λ (row : NodeRow). row.id == top) rows found.0 no_row found.1 in
+          let own = eqb-true (get_or rows found.0 no_row).id top first.1 in
+          let full = eqb-true (get_or marks found.0 0) (length rows) found.2 in
+          subst (λ node. goes rows (take i tops) node ≡ true) own
+          (true_from_ne_false (goes rows (take i tops) (get_or rows found.0 no_row).id) (λ stays.
+          let e : get_or marks found.0 0 ≡ 0 = marked.each found.0 no_row first.0 ∙ ap (λ b. cond b (length rows) 0) stays in
+          absurd (omega (arith, e, full, first.0))))
+
+      under_gone : (node : ℕ) → LeadsUp rows MAX_DEPTH node → is_under rows node top ≡ true → goes rows (take i tops) node ≡ true
+      under_gone node up under =
+          let over = Any-from_list_any (λ other. is_under rows top other) (take i tops) gone in
+          list_any_at (λ other. is_under rows node other) (take i tops) over.0 over.1 over.2 (under_under rows node top (get_or (take i tops) over.0 over.1) up under (ap (is_under rows top) over.3 ∙ over.4))
+
+      same : (node : ℕ) → LeadsUp rows MAX_DEPTH node → goes rows (take i tops) node ≡ goes rows (take (i + 1) tops) node
+      same node up = elim (cases_Bool (is_under rows node top)) [
+        | inl under ↦
+            (let first = under_gone node up under in
+            first ∙ sym (one_top_more node ∙ or_left (goes rows (take i tops) node) (is_under rows node top) first))
+        | inr outside ↦ sym (one_top_more node ∙ ap (λ b. goes rows (take i tops) node || b) outside ∙ or_none (goes rows (take i tops) node))
+      ]
+
+pub all_tops_marked : (rows : List NodeRow) (tops : List ℕ) (i : ℕ) (marks : List ℕ) → length tops ≤ i → AreMarkedBy (goes rows (take i tops)) rows marks
+    → AreMarkedBy (goes rows tops) rows marks
+all_tops_marked rows tops i marks all marked = subst (λ (some : List ℕ). AreMarkedBy (goes rows some) rows marks) (take_all i tops all) marked
+
 -- ---- from marks to fates
 
 -- the first n rows have their fates, and those that stay of the others are not marked
@@ -111,24 +182,17 @@ pub record AreSettled (p : NodeRow → Bool) (rows : List NodeRow) (n : ℕ) (fa
   pub go : (at : ℕ) (d : NodeRow) → at < length rows → p (get_or rows at d) ≡ false → get_or fates at 0 ≡ length rows
   pub rest : (at : ℕ) (d : NodeRow) → n ≤ at → at < length rows → p (get_or rows at d) ≡ true → get_or fates at 0 < length rows
 
--- what a walk from the top has marked goes, and the rest stays
-pub none_settled : (rows : List NodeRow) (top : ℕ) (blank marks : List ℕ) → AreRisingNodes rows → All (λ mark. mark ≡ 0) blank → length blank ≡ length rows → AreMarked rows (walk_within MAX_DEPTH rows top) blank marks
-    → AreSettled (stays rows top) rows 0 marks
-none_settled rows top blank marks rising zeros long marked = record {
-  long = marked.long ∙ long;
+-- what is marked goes, and the rest stays
+pub none_settled : (rows : List NodeRow) (tops marks : List ℕ) → AreMarkedBy (goes rows tops) rows marks → AreSettled (outstays rows tops) rows 0 marks
+none_settled rows tops marks marked = record {
+  long = marked.long;
   stay = λ at d less within passes. absurd (omega arith);
-  go = λ at d within goes. read at d within ∙ (let under = not-false (is_under rows (get_or rows at d).id top) goes in rw under refl);
+  go = λ at d within gone. marked.each at d within ∙ (let is = not-false (goes rows tops (get_or rows at d).id) gone in rw is refl);
   rest = λ at d low within passes.
-      let outside : is_under rows (get_or rows at d).id top ≡ false = not-true (is_under rows (get_or rows at d).id top) passes in
-      let e : get_or marks at 0 ≡ 0 = read at d within ∙ (rw outside refl) in
+      let outside : goes rows tops (get_or rows at d).id ≡ false = not-true (goes rows tops (get_or rows at d).id) passes in
+      let e : get_or marks at 0 ≡ 0 = marked.each at d within ∙ (rw outside refl) in
       omega arith;
 }
-  where
-    read : (at : ℕ) (d : NodeRow) → at < length rows → get_or marks at 0 ≡ cond (is_under rows (get_or rows at d).id top) (length rows) 0
-    read at d within =
-        (subst (λ nodes. AreMarked rows nodes blank marks) (walk_all rows top) marked).each at d within
-        ∙ ap (λ b. cond b (length rows) (get_or blank at 0)) (walk_among rows top (get_or rows at d).id rising)
-        ∙ ap (cond (is_under rows (get_or rows at d).id top) (length rows)) (zeros at 0 (omega (arith, long, within)))
 
 module _ (p : NodeRow → Bool) (rows : List NodeRow) (n : ℕ) (fates : List ℕ) (settled : AreSettled p rows n fates) (within : n < length rows) where
   passes : get_or fates n 0 < length rows → p (get_or rows n no_row) ≡ true

@@ -76,7 +76,7 @@ module _ (rows : List NodeRow) (at : ℕ) (there : at < length rows) where
 -- ---- the rows
 
 -- where all but one pass they are the rows that pass
-rest_passes : (p : NodeRow → Bool) (rows : List NodeRow) → All (λ row. p row ≡ true) rows → rows ≡ filter p rows
+pub rest_passes : (p : NodeRow → Bool) (rows : List NodeRow) → All (λ row. p row ≡ true) rows → rows ≡ filter p rows
 rest_passes p [] pass = refl
 rest_passes p (x ∷ rows) pass = rw (pass 0 x (omega arith)) (ap (λ rest. x ∷ rest) (rest_passes p rows (λ k d within. pass (suc k) d (omega arith))))
 

@@ -12,7 +12,7 @@ use Rattle.nf_base.specs.declared.rows.NodeRow.{NodeRow}
 use Rattle.nf_charge.specs.Sums.{AreRisingNodes, AreSums, AreWeighed, IsLifted, IsRefill, LeadUp, bytes_under}
 use Rattle.nf_defs.specs.Tree.{filled, is_leaf, node_row, trashed, with_node, without_under}
 use Rattle.nf_charge.proofs.Positions.{is_there, no_row}
-use Rattle.nf_charge.proofs.Leading.{leads_lifted, leads_without, sums_without, without_absent}
+use Rattle.nf_charge.proofs.Leading.{leads_lifted, leads_without, sums_without}
 use Rattle.nf_tree.proofs.Removed.{leaf_removed}
 use Rattle.nf_tree.proofs.Trees.{changed_node, node_within, number_kept}
 
@@ -180,14 +180,6 @@ module _ (rows : List NodeRow) (top : ℕ) (before left : List ℕ) (rising : Ar
       let weighed = kept (set rows at row) (weighed_as_was (set rows at row) rows after at row first.0 lift are.weighed) in
       let named = subst (λ node. AreWeighed (set rows at row) (without_under rows node) left) (sym same) weighed in
       subst (λ node. AreSums (without_under rows node) left) same (sums_without rows at row left rising leads first.0 lift named sums.sized)
-
-  pub sums_absent : None ≡ position (λ row. row.id == top) rows
-      → ((all : List NodeRow) → AreWeighed all rows before → AreWeighed all (without_under rows top) left)
-      → AreSums (without_under rows top) left
-  sums_absent absent kept =
-      let same = without_absent rows top rising leads absent in
-      let weighed = subst (λ list. AreWeighed rows list left) same (kept rows sums.weighed) in
-      subst (λ list. AreSums list left) (sym same) (record { weighed = weighed; sized = sums.sized })
 
 -- ---- a leaf goes
 

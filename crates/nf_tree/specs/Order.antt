@@ -1,5 +1,5 @@
 -- The order of the nodes by folder, then name, then number, and a list of places that is in it.
-use Rattle.std.specs.Prelude.{ℕ, ◌+◌, ◌-◌, ◌<◌, ◌≤◌, ◌≡◌, ◌≢◌, ◌==◌, Bool, true, false, not, List, [], length, take, filter, Option, None, All, AllPairs, slice_get, slice_index, slice_index_or, unwrap_or, nat_lt, if◌then◌else◌}
+use Rattle.std.specs.Prelude.{ℕ, ◌+◌, ◌-◌, ◌<◌, ◌≤◌, ◌≡◌, ◌≢◌, ◌==◌, Bool, true, false, not, List, [], ◌∷◌, length, take, filter, Option, None, All, AllPairs, slice_get, slice_index, slice_index_or, unwrap_or, nat_lt, if◌then◌else◌}
 use Rattle.std.specs.List.{AllWithin, list_any}
 use Rattle.std.specs.Option.{option_map_or, option_cmp}
 use Rattle.std.specs.Ordering.{nat_cmp, ordering_then, is_lt}
@@ -7,7 +7,7 @@ use Rattle.std.specs.Cmp.Lexicographic.{slice_cmp}
 use Rattle.std.specs.declared.cmp.Ordering.{Ordering}
 use Rattle.nf_base.specs.declared.rows.NodeRow.{NodeRow}
 use Rattle.nf_base.specs.declared.rows.Place.{Place}
-use Rattle.nf_defs.specs.Tree.{folder_of, is_under}
+use Rattle.nf_defs.specs.Tree.{folder_of, is_under, trashed, with_node}
 pub use Rattle.nf_charge.specs.Sums.{AreRisingNodes}
 
 -- a folder, a name and a number
@@ -63,6 +63,19 @@ placed place name row = record row { place = place; name = unwrap_or name row.na
 abbrev pub stays : List NodeRow → ℕ → NodeRow → Bool
 stays rows top row = not (is_under rows row.id top)
 
+-- the node is under one of the tops
+abbrev pub goes : List NodeRow → List ℕ → ℕ → Bool
+goes rows tops node = list_any (λ top. is_under rows node top) tops
+
+-- the row stays where the nodes under the tops go
+abbrev pub outstays : List NodeRow → List ℕ → NodeRow → Bool
+outstays rows tops row = not (goes rows tops row.id)
+
+-- the rows where the nodes of some tops are in no folder
+abbrev pub all_lifted : List NodeRow → List ℕ → List NodeRow
+all_lifted rows [] = rows
+all_lifted rows (top ∷ tops) = all_lifted (with_node rows top trashed) tops
+
 -- a place when the row at another is gone
 abbrev pub lowered : ℕ → ℕ → ℕ
 lowered gone at = if nat_lt gone at then at - 1 else at
@@ -72,6 +85,11 @@ pub record AreMarked (rows : List NodeRow) (nodes before after : List ℕ) : Typ
   pub long : length after ≡ length before
   pub each : (at : ℕ) (d : NodeRow) → at < length rows
       → slice_index after at ≡ (if list_any (λ node. node == (slice_index_or rows at d).id) nodes then length rows else slice_index before at)
+
+-- each row is marked by the number of all rows if its node passes the test, and by 0 if not
+pub record AreMarkedBy (test : ℕ → Bool) (rows : List NodeRow) (marks : List ℕ) : Type 0 where
+  pub long : length marks ≡ length rows
+  pub each : (at : ℕ) (d : NodeRow) → at < length rows → slice_index marks at ≡ (if test (slice_index_or rows at d).id then length rows else 0)
 
 -- where each of the first n rows goes when only those that stay are left: behind those before it, or past the end
 pub record AreFates (kept : NodeRow → Bool) (rows : List NodeRow) (n : ℕ) (fates : List ℕ) : Type 0 where

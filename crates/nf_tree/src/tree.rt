@@ -5,7 +5,7 @@ ghost use Rattle.std.specs.List.{position};
 ghost use Rattle.nf_base.specs.declared.limits.TheConstants.{MAX_PIECES};
 ghost use Rattle.nf_base.specs.declared.rows.Row.TheVariants.{Node};
 ghost use Rattle.nf_charge.specs.Sums.{LeadUp, bytes_under};
-ghost use Rattle.nf_defs.specs.Tree.{node_row, child_of, is_folder, is_file, is_leaf, content_of, piece_count, is_under, depth, found_from, children_of, walk_of, walk_within, is_rooted, with_node, filled, relinked, trashed, without_under};
+ghost use Rattle.nf_defs.specs.Tree.{node_row, child_of, is_folder, is_file, is_leaf, content_of, piece_count, is_under, depth, found_from, children_of, walk_of, walk_within, is_rooted, with_node, filled, relinked, trashed, without_all, without_under};
 ghost use Rattle.nf_tree.specs.Order.{AreRisingNodes, placed};
 
 use crate::{nodes, order, removal};
@@ -374,7 +374,18 @@ impl Tree {
         if self.is_leaf(node) {
             self.purge_leaf(node);
         } else {
-            self.purge_folder(node);
+            self.purge_each(&[node]);
+        }
+    }
+
+    /// Takes out some nodes, each with all under it, in one pass over the rows. It takes no memory.
+    pub fn purge_all(&mut self, tops: &[NodeId])
+        ensures { self.new ≡ record self.old { rows = without_all self.old.rows tops.now } }
+    {
+        match tops {
+            [] => {}
+            [node] => self.purge(*node),
+            _ => self.purge_each(tops),
         }
     }
 
@@ -393,16 +404,16 @@ impl Tree {
         }
     }
 
-    /// Takes out a node and all under it, whatever is in it.
-    fn purge_folder(&mut self, node: NodeId)
-        ensures { self.new ≡ record self.old { rows = without_under self.old.rows node } }
+    /// Takes out some nodes, whatever is in them.
+    fn purge_each(&mut self, tops: &[NodeId])
+        ensures { self.new ≡ record self.old { rows = without_all self.old.rows tops.now } }
     {
         self.pieces -= removal::drop_under(
             &mut self.rows,
             &self.order,
             &mut self.fates,
             &mut self.sums,
-            node,
+            tops,
         );
         order::renumber(&mut self.order, &self.fates);
     }

@@ -1,4 +1,4 @@
-//! Two seats of one hub in two threads, a run that becomes full, and each call of a keeper that fails.
+//! Two seats of one hub in two threads, a run that becomes full, each call of a keeper that fails, and a sweep beside a seat that reads.
 
 ghost use Rattle.std.specs.Prelude.{◌≡◌, None, Some, IfOk, IfSome};
 ghost use Rattle.nf_desk.specs.Opened.{MayBegin};
@@ -7,7 +7,7 @@ ghost use Rattle.nf_session.specs.Book.{held};
 ghost use Rattle.nf_words.specs.History.{MayWant};
 
 use nf_base::{BlobId, Digest, Moment, Name, Path};
-use nf_desk::{First, FirstBlob, Opening, Unopened};
+use nf_desk::{First, FirstBlob, Opening, Swept, Unopened};
 use nf_hub::{Began, Hub, Seat, Ticket};
 use nf_keeper::{Keeper, MemKeeper};
 use nf_session::Ending;
@@ -317,4 +317,54 @@ fn is_answered(answer: &Answer, fails: bool) -> bool {
     } else {
         answer.is_ok()
     }
+}
+
+/// A GET of the one file amid which the other seat sweeps: how the GET ends, and what the sweep took.
+fn sweep_amid<K: Keeper + Drop, R: Wait>(
+    rt: &R,
+    shared: &Shared<K>,
+    reader: &mut Seat<K>,
+    sweeper: &mut Seat<K>,
+) -> (Answer, Result<Swept, Denial>)
+    requires { IsIdleSeat K.Keeper shared.now.hub reader.old × IsIdleSeat K.Keeper shared.now.hub sweeper.old }
+    ensures { IsIdleSeat K.Keeper shared.now.hub reader.new × IsIdleSeat K.Keeper shared.now.hub sweeper.new }
+{
+    let Some(request) = request(shared.alloc, Act::Get, &["hello.txt"]) else {
+        return (Err(Denial::Memory), Err(Denial::Memory));
+    };
+    let (first, second) = (1, 2);
+    let words = Words { first, second };
+    let began = shared.hub.begin(rt, reader, Moment::new(5), words, request);
+    let swept = shared.hub.sweep(rt, sweeper, Moment::new(5));
+    let answer = match began {
+        Began::Granted(ticket) => finish(rt, shared, ticket, reader),
+        Began::Done(reply) => Ok(reply),
+        Began::Refused(refusal) => Err(refusal),
+    };
+    (answer, swept)
+}
+
+#[test]
+fn a_sweep_beside_a_seat_that_reads(rt: HostRuntime) -> Result<(), Fail> {
+    let alloc = rt.alloc();
+    let started = start(alloc, MemKeeper::new(alloc, &[])?, demonstration(alloc)?);
+    let (shared, mut a) = started.ok().ok_or("no hub")?;
+    let mut b = shared.hub.split(&mut a).ok_or("no seat")?;
+    let (read, swept) = sweep_amid(&rt, &shared, &mut a, &mut b);
+    assert!(rt; read.is_ok());
+    assert!(rt; swept.is_ok_and(|gone| gone.items == 0));
+    let _ = ask(&rt, &shared, (0, 0), Act::Delete, &["hello.txt"], &mut a);
+    // It lies in the trash for 30 days.
+    for (moment, items) in [(2_592_004, 0), (2_592_005, 1)] {
+        let swept = shared.hub.sweep(&rt, &mut b, Moment::new(moment));
+        assert!(rt; swept.is_ok_and(|gone| gone.items == items), "at {moment}");
+    }
+    shared.hub.join(&mut a, b);
+    let mut keeper = shared.hub.close(a).1;
+    assert!(rt;
+        keeper
+            .blob(BlobId::new(1))
+            .is_ok_and(|bytes| bytes.is_none())
+    );
+    Ok(())
 }

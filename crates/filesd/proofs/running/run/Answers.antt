@@ -12,7 +12,8 @@ use Rattle.nf_command.specs.declared.command.Command.TheVariants as commands
 use Rattle.nf_outside.specs.Lent.{lent, takes}
 use Rattle.filesd.specs.Doors.{RunsDoors}
 use Rattle.filesd.specs.Init.{Inits}
-use Rattle.filesd.specs.Outside.{outlet}
+use Rattle.filesd.specs.Outside.{outlet, outlet_with}
+use Rattle.filesd.specs.Sweep.{reads_clock}
 use Rattle.filesd.specs.declared.status.Status.{Status}
 use Rattle.filesd.proofs.Beginning.{inits_beside, rows_are}
 use Rattle.filesd.proofs.Ending.{batch_well, init_well, serve_well, sweep_well}
@@ -20,7 +21,7 @@ use Rattle.filesd.proofs.Working.{Says, runs_say}
 use Rattle.filesd.proofs.OneFile.{serves_one}
 use Rattle.filesd.proofs.Safe.{batch_keeps, init_keeps, serve_keeps, sweep_keeps}
 use Rattle.filesd.proofs.Serving.{runs_read, runs_store, runs_write}
-use Rattle.filesd.proofs.Unnamed.{SweepSays, sweep_says, sweeps_beside}
+use Rattle.filesd.proofs.Swept.{SweepSays, sweep_says, sweeps_beside}
 use Rattle.filesd.proofs.running.run.Goals as goal
 
 -- the words are those of the command that was read
@@ -229,47 +230,57 @@ returns-in-Ok-Some-Sweep-clause-one_file g c = λ batch.
 
 pub returns-in-Ok-Some-Sweep-clause-sweep : goal.returns-in-Ok-Some-Sweep-clause-sweep
 returns-in-Ok-Some-Sweep-clause-sweep g c = λ sweep.
-    sweeps_beside (g.S.Ends.left c.args.input.now) (g.S.Ends.read_faults c.args.input.now) (lent c.args.clock.now c.args.dice.now) _ _
+    sweeps_beside g.C.Clock.reads (g.S.Ends.left c.args.input.now) (g.S.Ends.read_faults c.args.input.now) c.args.dice.now
+    (outlet_with g.O.Ends g.K.Keeper c.args.output.now c.args.keeper c.args.clock.now)
+    (outlet_with g.O.Ends g.K.Keeper c.sweep.new.output c.sweep.result.keeper c.sweep.new.clock)
     c.sweep.result.status c.sweep.result.site c.sweep.ensures.sweeps
 
 pub returns-in-Ok-Some-Sweep-clause-sweep_well : goal.returns-in-Ok-Some-Sweep-clause-sweep_well
 returns-in-Ok-Some-Sweep-clause-sweep_well g c = λ sweep.
-    sweep_well _ _ c.sweep.result.status c.sweep.result.site
-    (sweeps_beside (g.S.Ends.left c.args.input.now) (g.S.Ends.read_faults c.args.input.now) (lent c.args.clock.now c.args.dice.now)
-    (outlet g.O.Ends g.K.Keeper c.args.output.now c.args.keeper) (outlet g.O.Ends g.K.Keeper c.sweep.new.output c.sweep.result.keeper)
-    c.sweep.result.status c.sweep.result.site c.sweep.ensures.sweeps)
+    sweep_well (reads_clock g.C.Clock.reads) _ _ c.sweep.result.status c.sweep.result.site (returns-in-Ok-Some-Sweep-clause-sweep g c sweep)
 
 pub returns-in-Ok-Some-Sweep-clause-safe : goal.returns-in-Ok-Some-Sweep-clause-safe
 returns-in-Ok-Some-Sweep-clause-safe g c =
-    sweep_keeps (outlet g.O.Ends g.K.Keeper c.args.output.now c.args.keeper) (outlet g.O.Ends g.K.Keeper c.sweep.new.output c.sweep.result.keeper)
-    c.sweep.result.status c.sweep.result.site c.sweep.ensures.sweeps
+    sweep_keeps g.C.Clock.reads (outlet_with g.O.Ends g.K.Keeper c.args.output.now c.args.keeper c.args.clock.now)
+    (outlet_with g.O.Ends g.K.Keeper c.sweep.new.output c.sweep.result.keeper c.sweep.new.clock)
+    c.sweep.result.status c.sweep.result.site c.sweep.ensures.sweeps c.sweep.ensures.leaves
 
 pub returns-in-Ok-Some-Sweep-clause-words : goal.returns-in-Ok-Some-Sweep-clause-words
 returns-in-Ok-Some-Sweep-clause-words g c = λ is command.
-    subst (λ (s : Status). SweepSays (outlet g.O.Ends g.K.Keeper c.args.output.now c.args.keeper) (outlet g.O.Ends g.K.Keeper c.sweep.new.output c.sweep.result.keeper) s) is
-    (sweep_says (outlet g.O.Ends g.K.Keeper c.args.output.now c.args.keeper) (outlet g.O.Ends g.K.Keeper c.sweep.new.output c.sweep.result.keeper)
-    c.sweep.result.status c.sweep.result.site c.sweep.ensures.sweeps)
+    subst (λ (s : Status). SweepSays (outlet_with g.O.Ends g.K.Keeper c.args.output.now c.args.keeper c.args.clock.now)
+    (outlet_with g.O.Ends g.K.Keeper c.sweep.new.output c.sweep.result.keeper c.sweep.new.clock) s) is
+    (sweep_says (outlet_with g.O.Ends g.K.Keeper c.args.output.now c.args.keeper c.args.clock.now)
+    (outlet_with g.O.Ends g.K.Keeper c.sweep.new.output c.sweep.result.keeper c.sweep.new.clock)
+    g.C.Clock.reads c.sweep.result.status c.sweep.result.site c.sweep.ensures.sweeps)
 
 pub returns-in-Ok-Some-Sweep-clause-read : goal.returns-in-Ok-Some-Sweep-clause-read
 returns-in-Ok-Some-Sweep-clause-read g c = λ is.
-    absurd (subst (λ (s : Status). SweepSays (outlet g.O.Ends g.K.Keeper c.args.output.now c.args.keeper) (outlet g.O.Ends g.K.Keeper c.sweep.new.output c.sweep.result.keeper) s) is
-    (sweep_says (outlet g.O.Ends g.K.Keeper c.args.output.now c.args.keeper) (outlet g.O.Ends g.K.Keeper c.sweep.new.output c.sweep.result.keeper)
-    c.sweep.result.status c.sweep.result.site c.sweep.ensures.sweeps))
+    absurd (subst (λ (s : Status). SweepSays (outlet_with g.O.Ends g.K.Keeper c.args.output.now c.args.keeper c.args.clock.now)
+    (outlet_with g.O.Ends g.K.Keeper c.sweep.new.output c.sweep.result.keeper c.sweep.new.clock) s) is
+    (sweep_says (outlet_with g.O.Ends g.K.Keeper c.args.output.now c.args.keeper c.args.clock.now)
+    (outlet_with g.O.Ends g.K.Keeper c.sweep.new.output c.sweep.result.keeper c.sweep.new.clock)
+    g.C.Clock.reads c.sweep.result.status c.sweep.result.site c.sweep.ensures.sweeps))
 
 pub returns-in-Ok-Some-Sweep-clause-write : goal.returns-in-Ok-Some-Sweep-clause-write
 returns-in-Ok-Some-Sweep-clause-write g c = λ is.
-    subst (λ (s : Status). SweepSays (outlet g.O.Ends g.K.Keeper c.args.output.now c.args.keeper) (outlet g.O.Ends g.K.Keeper c.sweep.new.output c.sweep.result.keeper) s) is
-    (sweep_says (outlet g.O.Ends g.K.Keeper c.args.output.now c.args.keeper) (outlet g.O.Ends g.K.Keeper c.sweep.new.output c.sweep.result.keeper)
-    c.sweep.result.status c.sweep.result.site c.sweep.ensures.sweeps)
+    subst (λ (s : Status). SweepSays (outlet_with g.O.Ends g.K.Keeper c.args.output.now c.args.keeper c.args.clock.now)
+    (outlet_with g.O.Ends g.K.Keeper c.sweep.new.output c.sweep.result.keeper c.sweep.new.clock) s) is
+    (sweep_says (outlet_with g.O.Ends g.K.Keeper c.args.output.now c.args.keeper c.args.clock.now)
+    (outlet_with g.O.Ends g.K.Keeper c.sweep.new.output c.sweep.result.keeper c.sweep.new.clock)
+    g.C.Clock.reads c.sweep.result.status c.sweep.result.site c.sweep.ensures.sweeps)
 
 pub returns-in-Ok-Some-Sweep-clause-store : goal.returns-in-Ok-Some-Sweep-clause-store
 returns-in-Ok-Some-Sweep-clause-store g c = λ is.
-    subst (λ (s : Status). SweepSays (outlet g.O.Ends g.K.Keeper c.args.output.now c.args.keeper) (outlet g.O.Ends g.K.Keeper c.sweep.new.output c.sweep.result.keeper) s) is
-    (sweep_says (outlet g.O.Ends g.K.Keeper c.args.output.now c.args.keeper) (outlet g.O.Ends g.K.Keeper c.sweep.new.output c.sweep.result.keeper)
-    c.sweep.result.status c.sweep.result.site c.sweep.ensures.sweeps)
+    subst (λ (s : Status). SweepSays (outlet_with g.O.Ends g.K.Keeper c.args.output.now c.args.keeper c.args.clock.now)
+    (outlet_with g.O.Ends g.K.Keeper c.sweep.new.output c.sweep.result.keeper c.sweep.new.clock) s) is
+    (sweep_says (outlet_with g.O.Ends g.K.Keeper c.args.output.now c.args.keeper c.args.clock.now)
+    (outlet_with g.O.Ends g.K.Keeper c.sweep.new.output c.sweep.result.keeper c.sweep.new.clock)
+    g.C.Clock.reads c.sweep.result.status c.sweep.result.site c.sweep.ensures.sweeps)
 
 pub returns-in-Ok-Some-Sweep-clause-door : goal.returns-in-Ok-Some-Sweep-clause-door
 returns-in-Ok-Some-Sweep-clause-door g c = λ is.
-    absurd (subst (λ (s : Status). SweepSays (outlet g.O.Ends g.K.Keeper c.args.output.now c.args.keeper) (outlet g.O.Ends g.K.Keeper c.sweep.new.output c.sweep.result.keeper) s) is
-    (sweep_says (outlet g.O.Ends g.K.Keeper c.args.output.now c.args.keeper) (outlet g.O.Ends g.K.Keeper c.sweep.new.output c.sweep.result.keeper)
-    c.sweep.result.status c.sweep.result.site c.sweep.ensures.sweeps))
+    absurd (subst (λ (s : Status). SweepSays (outlet_with g.O.Ends g.K.Keeper c.args.output.now c.args.keeper c.args.clock.now)
+    (outlet_with g.O.Ends g.K.Keeper c.sweep.new.output c.sweep.result.keeper c.sweep.new.clock) s) is
+    (sweep_says (outlet_with g.O.Ends g.K.Keeper c.args.output.now c.args.keeper c.args.clock.now)
+    (outlet_with g.O.Ends g.K.Keeper c.sweep.new.output c.sweep.result.keeper c.sweep.new.clock)
+    g.C.Clock.reads c.sweep.result.status c.sweep.result.site c.sweep.ensures.sweeps))

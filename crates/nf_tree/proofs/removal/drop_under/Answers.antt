@@ -1,42 +1,29 @@
-use Rattle.std.proofs.Common.{◌+◌, ◌<◌, ◌≤◌, ◌≡◌, ◌==◌, List, Some, None, length, get_or, filter, refl, ap, sym, subst, ◌∙◌, arith}
-use Rattle.std.specs.List.{position}
-use Rattle.std.proofs.lemmas.List.{get_or_default, length-set}
+use Rattle.std.proofs.Common.{◌+◌, ◌<◌, ◌≤◌, ◌≡◌, List, length, get_or, filter, refl, ap, sym, subst, ◌∙◌, arith}
+use Rattle.std.proofs.lemmas.List.{get_or_default}
 use Rattle.std.proofs.lemmas.List.Filters.{FiltersInPlace-all, FiltersInPlace-more_here, FiltersInPlace-more_no, FiltersInPlace-more_swap}
 use Rattle.std.proofs.lemmas.List.Edits.{length-swap}
 use Rattle.nf_base.specs.declared.rows.NodeRow.{NodeRow}
 use Rattle.nf_charge.specs.Sums.{AreSums, AreWeighed}
-use Rattle.nf_defs.specs.Tree.{piece_count, trashed, without_under}
-use Rattle.nf_tree.specs.Order.{AreFates, stays}
+use Rattle.nf_defs.specs.Tree.{piece_count, without_all}
+use Rattle.nf_tree.specs.Order.{AreFates, all_lifted, outstays}
 use Rattle.nf_charge.proofs.Positions.{no_row}
 use Rattle.nf_tree.proofs.Fates.{goes_by, gone_kept, gone_more, gone_rest, stays_by, still}
-use Rattle.nf_tree.proofs.Weights.{sums_absent, sums_left, sums_lifted, weighed_swapped, weighed_taken}
+use Rattle.nf_tree.proofs.Weights.{weighed_swapped, weighed_taken}
+use Rattle.nf_tree.proofs.Tops.{fates_lifted, lifted_left, pieces_lifted, sums_left_all}
 use Rattle.nf_tree.proofs.removal.drop_under.Goals as goal
-use Rattle.nf_tree.proofs.removal.drop_under.Goals.{in-Some, in_default, then-index-end, then-kept-at, else-kept-at, else-index-end}
+use Rattle.nf_tree.proofs.removal.drop_under.Goals.{then-index-end, then-kept-at, else-kept-at, else-index-end}
 
 pub loop-at-init : goal.loop-at-init
-loop-at-init c =
-    let xs = c.args.rows.now.items in
-    record {
-      filtered = record { front = refl; rest = refl; behind = omega arith; within = omega arith; long = refl };
-      gone = refl;
-      bound = omega arith;
-      same = refl;
-      room = refl;
-      sums_long = elim c.match-index_of.branch [
-        | in-Some w ↦
-            (let at = w.in-Some.at in
-            let there : Some at ≡ position (λ (row : NodeRow). row.id == c.args.top) xs = rw c.deref-2.ensures.value at (sym w.in-Some.is ∙ c.index_of.ensures) in
-            let left = sums_lifted xs at c.args.top w.deref-in-Some.result.now w.leave.new.self.sums w.deref-in-Some.ensures.value there w.leave.ensures.sums in
-            let long = length-set xs at (trashed (get_or xs at no_row)) in
-            rw w.sums-is (omega (arith, left.weighed.long, long, c.args.rows.now.ok)))
-        | in_default w ↦ rw w.sums-is (omega (arith, c.requires.sums.weighed.long, c.args.rows.now.ok))
-      ];
-      weighed = λ all weighed. weighed;
-      sums_room = elim c.match-index_of.branch [
-        | in-Some w ↦ rw w.sums-is w.leave.ensures.room
-        | in_default w ↦ rw w.sums-is refl
-      ];
-    }
+loop-at-init c = record {
+  filtered = record { front = refl; rest = refl; behind = omega arith; within = omega arith; long = refl };
+  gone = refl;
+  bound = omega arith;
+  same = refl;
+  room = c.lift_all.ensures.rows_room;
+  sums_long = omega (arith, c.lift_all.ensures.sums.weighed.long, c.lift_all.new.rows.ok);
+  weighed = λ all weighed. weighed;
+  sums_room = c.lift_all.ensures.sums_room;
+}
 
 pub swap-requires-then-kept-at-clause-a : goal.swap-requires-then-kept-at-clause-a
 swap-requires-then-kept-at-clause-a c = omega (arith, c.loop-at.invariant.sums_long, c.len-end.ensures, c.if-kept-at.true, c.loop-at-test.true)
@@ -46,17 +33,21 @@ swap-requires-then-kept-at-clause-b c = omega (arith, c.loop-at.invariant.sums_l
 
 pub loop-at-preserved : goal.loop-at-preserved
 loop-at-preserved c =
-    let xs = c.args.rows.now.items in
+    let rows = c.args.rows.now.items in
+    let tops = c.args.tops.now in
+    let xs = c.lift_all.new.rows.items in
     let ys = c.loop-at.rows.items in
-    let p = stays xs c.args.top in
+    let p = outstays rows tops in
     let fates = c.settle.new.fates.items in
     let kept = c.loop-at.kept in
     let at = c.loop-at.at in
     let i = c.loop-at.invariant in
-    let end : c.len-end.result ≡ length xs = omega (arith, c.len-end.ensures, c.args.rows.now.ok) in
+    let end : c.len-end.result ≡ length xs = omega (arith, c.len-end.ensures, c.lift_all.new.rows.ok) in
     let within : at < length xs = omega (arith, end, c.loop-at-test.true) in
     let high : at < length ys = omega (arith, i.filtered.long, within) in
-    let are : AreFates p xs (length xs) fates = rw c.deref.ensures.value at c.settle.ensures.fates in
+    let first : AreFates p rows (length rows) fates = rw c.deref.ensures.value at c.settle.ensures.fates in
+    let are : AreFates p xs (length xs) fates =
+    subst (λ (list : List NodeRow). AreFates p list (length list) fates) (sym c.lift_all.ensures.rows) (fates_lifted tops rows fates c.requires.rising c.requires.leads first) in
     let read = get_or_default ys at no_row (get_or ys at no_row) high in
     let as_was : get_or ys at no_row ≡ get_or xs at no_row = still p xs ys kept at no_row i.filtered in
     elim c.if-index-end.branch [
@@ -113,37 +104,41 @@ loop-at-preserved c =
           }))
     ]
 
+pub returns-clause-rows : goal.returns-clause-rows
+returns-clause-rows c =
+    let all : length c.lift_all.new.rows.items ≤ c.loop-at.at = omega (arith, c.len-end.ensures, c.lift_all.new.rows.ok, c.loop-at-test.false) in
+    c.truncate.ensures.items ∙ FiltersInPlace-all c.loop-at.invariant.filtered all
+    ∙ ap (filter (outstays c.args.rows.now.items c.args.tops.now)) c.lift_all.ensures.rows
+    ∙ lifted_left c.args.tops.now c.args.rows.now.items c.requires.rising c.requires.leads
+
 pub returns-clause-pieces : goal.returns-clause-pieces
 returns-clause-pieces c =
-    let xs = c.args.rows.now.items in
-    let p = stays xs c.args.top in
+    let rows = c.args.rows.now.items in
+    let xs = c.lift_all.new.rows.items in
+    let p = outstays rows c.args.tops.now in
     let i = c.loop-at.invariant in
-    let all : length xs ≤ c.loop-at.at = omega (arith, c.len-end.ensures, c.args.rows.now.ok, c.loop-at-test.false) in
+    let all : length xs ≤ c.loop-at.at = omega (arith, c.len-end.ensures, c.lift_all.new.rows.ok, c.loop-at-test.false) in
     ap (λ list. c.loop-at.gone + piece_count list) (c.truncate.ensures.items ∙ FiltersInPlace-all i.filtered all)
     ∙ ap (λ n. n + piece_count (filter p xs)) i.gone ∙ gone_rest p xs c.loop-at.at all
+    ∙ ap piece_count c.lift_all.ensures.rows ∙ pieces_lifted c.args.tops.now rows
 
 pub returns-clause-sums : goal.returns-clause-sums
 returns-clause-sums c =
-    let xs = c.args.rows.now.items in
-    let top = c.args.top in
+    let rows = c.args.rows.now.items in
+    let tops = c.args.tops.now in
+    let xs = c.lift_all.new.rows.items in
+    let p = outstays rows tops in
     let i = c.loop-at.invariant in
-    let all : length xs ≤ c.loop-at.at = omega (arith, c.len-end.ensures, c.args.rows.now.ok, c.loop-at-test.false) in
+    let all : length xs ≤ c.loop-at.at = omega (arith, c.len-end.ensures, c.lift_all.new.rows.ok, c.loop-at-test.false) in
     let left = c.truncate-2.new.self.sums in
-    let rest : c.truncate.new.self.items ≡ without_under xs top = c.truncate.ensures.items ∙ FiltersInPlace-all i.filtered all in
-    let kept : (list : List NodeRow) → AreWeighed list xs c.match-index_of.sums.sums → AreWeighed list (without_under xs top) left =
-    λ list weighed. rw (c.truncate-2.ensures.sums, sym (FiltersInPlace-all i.filtered all))
-    (weighed_taken list c.loop-at.rows.items c.loop-at.sums.sums (i.weighed list weighed) c.loop-at.kept) in
+    let rest = c.truncate.ensures.items ∙ FiltersInPlace-all i.filtered all ∙ ap (filter p) c.lift_all.ensures.rows ∙ lifted_left tops rows c.requires.rising c.requires.leads in
+    let kept = weighed_taken xs c.loop-at.rows.items c.loop-at.sums.sums (i.weighed xs c.lift_all.ensures.sums.weighed) c.loop-at.kept in
+    let weighed : AreWeighed xs c.truncate.new.self.items left = rw (c.truncate-2.ensures.sums, c.truncate.ensures.items) kept in
+    let all_weighed : AreWeighed (all_lifted rows tops) (without_all rows tops) left =
+    subst (λ (list : List NodeRow). AreWeighed list (without_all rows tops) left) c.lift_all.ensures.rows
+    (subst (λ (list : List NodeRow). AreWeighed xs list left) rest weighed) in
     subst (λ (list : List NodeRow). AreSums list left) (sym rest)
-    (elim c.match-index_of.branch [
-      | in-Some w ↦
-          (let at = w.in-Some.at in
-          let there : Some at ≡ position (λ (row : NodeRow). row.id == top) xs = rw c.deref-2.ensures.value at (sym w.in-Some.is ∙ c.index_of.ensures) in
-          let lifted = sums_lifted xs at top w.deref-in-Some.result.now w.leave.new.self.sums w.deref-in-Some.ensures.value there w.leave.ensures.sums in
-          sums_left xs top c.args.sums.now.sums left c.requires.rising c.requires.leads c.requires.sums at w.leave.new.self.sums there lifted (rw w.sums-is at kept))
-      | in_default w ↦
-          (let absent : None ≡ position (λ (row : NodeRow). row.id == top) xs = rw c.deref-2.ensures.value at (sym w.in_default.is ∙ c.index_of.ensures) in
-          sums_absent xs top c.args.sums.now.sums left c.requires.rising c.requires.leads c.requires.sums absent (rw w.sums-is at kept))
-    ])
+    (sums_left_all tops rows c.requires.rising c.requires.leads c.args.sums.now.sums left c.requires.sums all_weighed)
 
 pub returns-clause-sums_room : goal.returns-clause-sums_room
 returns-clause-sums_room c = c.truncate-2.ensures.room ∙ c.loop-at.invariant.sums_room

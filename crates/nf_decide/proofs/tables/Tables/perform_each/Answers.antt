@@ -1,49 +1,109 @@
-use Rattle.std.proofs.Common.{◌≡◌, ◌++◌, ◌∷◌, [], List, refl, ap, sym, subst, ◌∙◌, rules}
-use Rattle.std.proofs.lemmas.List.{append_assoc}
+use Rattle.std.proofs.Common.{ℕ, ◌≡◌, ◌++◌, ◌∷◌, [], List, arith, ap, sym, subst, ◌∙◌, rules}
+use Rattle.std.specs.List.{All}
+use Rattle.std.proofs.lemmas.List.{append-nil, nil_from_length}
+use Rattle.std.proofs.lemmas.List.Elements.{All-push}
 use Rattle.nf_defs.specs.Prelude.{Tables}
-use Rattle.nf_words.specs.Prelude.{deed_done}
+use Rattle.nf_words.proofs.Known.{IsItem}
+use Rattle.nf_words.specs.Prelude.{deed_done, deeds_done, purges}
 use Rattle.nf_words.specs.declared.answer.Deed.{Deed}
 use Rattle.nf_decide.specs.Counts.{FitsRows}
-use Rattle.nf_decide.specs.Current.{BearsDeeds}
-use Rattle.nf_decide.proofs.Deeds.{added_all, all_fit, done_more, first_fits, rest_fits}
+use Rattle.nf_decide.specs.Current.{BearsDeed, BearsDeeds}
+use Rattle.nf_decide.specs.declared.counts.RowCounts.{RowCounts}
+use Rattle.nf_decide.proofs.Deeds.{added_all, all_fit, first_fits, rest_fits}
+use Rattle.nf_decide.proofs.Runs.{bears_both, both_fit, done_both, item_is, run_more}
 use Rattle.nf_decide.proofs.tables.Tables.perform_each.Goals as goal
 
 pub loop-deed-init : goal.loop-deed-init
 loop-deed-init c =
     let t : Tables = c.args.self.now.tables in
-    let same : c.into_iter-deed-iterator.result.rest.items ≡ c.args.deeds.items = search rules in
+    let rest : c.into_iter-deed-iterator.result.rest.items ≡ c.args.deeds.items = search rules in
+    let same : purges c.new-run.result.items ++ c.into_iter-deed-iterator.result.rest.items ≡ c.args.deeds.items =
+    ap (λ (nodes : List ℕ). purges nodes ++ c.into_iter-deed-iterator.result.rest.items) c.new-run.ensures.items ∙ rest in
     record {
-      done = refl;
-      left = same;
+      done = ap (deeds_done t) same;
+      items = rw c.new-run.ensures.items (λ k d within. absurd (omega arith));
       borne = subst (λ (left : List Deed). BearsDeeds t left) (sym same) c.requires.bears;
       room = subst (λ (left : List Deed). FitsRows t c.args.self.now.room (added_all left)) (sym same)
           (all_fit t c.args.self.now.room c.args.deeds.items c.requires.bears c.requires.room);
     }
 
+pub purge_items-requires-clause-items : goal.purge_items-requires-clause-items
+purge_items-requires-clause-items c =
+    subst (λ (nodes : List ℕ). All (IsItem c.loop-deed.self.tables) nodes) (sym (c.gathers.ensures.left c.if-not-gathers.true)) c.loop-deed.invariant.items
+
+pub purge_items-requires-clause-bears : goal.purge_items-requires-clause-bears
+purge_items-requires-clause-bears c =
+    let t : Tables = c.loop-deed.self.tables in
+    let run = c.loop-deed.run.items in
+    let borne = subst (λ (left : List Deed). BearsDeeds t (purges run ++ left)) c.in-Some.ensures.steps.0 c.loop-deed.invariant.borne in
+    subst (λ (nodes : List ℕ). BearsDeeds t (purges nodes)) (sym (c.gathers.ensures.left c.if-not-gathers.true))
+    (bears_both t (purges run) (c.in-Some.deed ∷ c.next.new.self.rest.items) borne).0
+
 pub perform-requires-clause-room : goal.perform-requires-clause-room
 perform-requires-clause-room c =
-    first_fits c.loop-deed.self.tables c.loop-deed.self.room c.in-Some.deed c.next.new.self.rest.items
-    (subst (λ (left : List Deed). FitsRows c.loop-deed.self.tables c.loop-deed.self.room (added_all left)) c.in-Some.ensures.steps.0 c.loop-deed.invariant.room)
+    let t : Tables = c.loop-deed.self.tables in
+    let run = c.loop-deed.run.items in
+    let one = c.in-Some.deed in
+    let rest = c.next.new.self.rest.items in
+    let room = subst (λ (left : List Deed). FitsRows t c.loop-deed.self.room (added_all (purges run ++ left))) c.in-Some.ensures.steps.0 c.loop-deed.invariant.room in
+    let after = c.purge_items.ensures.tables ∙ ap (λ (nodes : List ℕ). deeds_done t (purges nodes)) (c.gathers.ensures.left c.if-not-gathers.true) in
+    rw (after, c.purge_items.ensures.room) (first_fits (deeds_done t (purges run)) c.loop-deed.self.room one rest (both_fit t c.loop-deed.self.room (purges run) (one ∷ rest) room))
 
 pub perform-requires-clause-bears : goal.perform-requires-clause-bears
 perform-requires-clause-bears c =
-    (subst (λ (left : List Deed). BearsDeeds c.loop-deed.self.tables left) c.in-Some.ensures.steps.0 c.loop-deed.invariant.borne).0
+    let t : Tables = c.loop-deed.self.tables in
+    let run = c.loop-deed.run.items in
+    let one = c.in-Some.deed in
+    let borne = subst (λ (left : List Deed). BearsDeeds t (purges run ++ left)) c.in-Some.ensures.steps.0 c.loop-deed.invariant.borne in
+    let after = c.purge_items.ensures.tables ∙ ap (λ (nodes : List ℕ). deeds_done t (purges nodes)) (c.gathers.ensures.left c.if-not-gathers.true) in
+    subst (λ (u : Tables). BearsDeed u one) (sym after) (bears_both t (purges run) (one ∷ c.next.new.self.rest.items) borne).1.0
 
 pub loop-deed-preserved : goal.loop-deed-preserved
 loop-deed-preserved c =
     let inv = c.loop-deed.invariant in
     let t : Tables = c.loop-deed.self.tables in
+    let run = c.loop-deed.run.items in
+    let rest = c.next.new.self.rest.items in
+    let more = c.gathers.ensures.gathered c.if-not-gathers.false in
+    let is = item_is t c.in-Some.deed more.0 more.1 in
+    let same : purges c.gathers.new.run.items ++ rest ≡ purges run ++ c.loop-deed.deed-iterator.rest.items =
+    ap (λ (nodes : List ℕ). purges nodes ++ rest) more.2 ∙ run_more run more.0 rest ∙ ap (λ (one : Deed). purges run ++ one ∷ rest) (sym is.0)
+    ∙ ap (λ (left : List Deed). purges run ++ left) (sym c.in-Some.ensures.steps.0) in
+    record {
+      done = ap (deeds_done t) same ∙ inv.done;
+      items = subst (λ (nodes : List ℕ). All (IsItem t) nodes) (sym more.2) (All-push (IsItem t) run more.0 inv.items is.1);
+      borne = subst (λ (left : List Deed). BearsDeeds t left) (sym same) inv.borne;
+      room = subst (λ (left : List Deed). FitsRows t c.loop-deed.self.room (added_all left)) (sym same) inv.room;
+    }
+
+pub loop-deed-preserved-then-not-gathers : goal.loop-deed-preserved-then-not-gathers
+loop-deed-preserved-then-not-gathers c =
+    let inv = c.loop-deed.invariant in
+    let t : Tables = c.loop-deed.self.tables in
+    let run = c.loop-deed.run.items in
     let one = c.in-Some.deed in
-    let front = c.loop-deed.yielded in
     let rest = c.next.new.self.rest.items in
     let steps = c.in-Some.ensures.steps.0 in
-    let borne = subst (λ (left : List Deed). BearsDeeds t left) steps inv.borne in
-    let room = subst (λ (left : List Deed). FitsRows t c.loop-deed.self.room (added_all left)) steps inv.room in
-    let after = c.perform.ensures.tables in
-    record {
-      done = after ∙ ap (λ (u : Tables). deed_done u one) inv.done ∙ sym (done_more c.args.self.now.tables front one);
-      left = append_assoc front (one ∷ []) rest ∙ ap (λ (list : List Deed). front ++ list) (sym steps) ∙ inv.left;
-      borne = subst (λ (u : Tables). BearsDeeds u rest) (sym after) borne.1;
-      room = subst (λ (u : Tables). FitsRows u c.perform.new.self.room (added_all rest)) (sym after)
-          (rest_fits t c.loop-deed.self.room c.perform.new.self.room one rest c.perform.ensures.room room);
-    }
+    let u : Tables = deeds_done t (purges run) in
+    let purged = c.purge_items.ensures.tables ∙ ap (λ (nodes : List ℕ). deeds_done t (purges nodes)) (c.gathers.ensures.left c.if-not-gathers.true) in
+    let after : c.perform.new.self.tables ≡ deed_done u one = c.perform.ensures.tables ∙ ap (λ (v : Tables). deed_done v one) purged in
+    let borne = bears_both t (purges run) (one ∷ rest) (subst (λ (left : List Deed). BearsDeeds t (purges run ++ left)) steps inv.borne) in
+    let fits = both_fit t c.loop-deed.self.room (purges run) (one ∷ rest)
+    (subst (λ (left : List Deed). FitsRows t c.loop-deed.self.room (added_all (purges run ++ left))) steps inv.room) in
+    let room = subst (λ (room : RowCounts). FitsRows u room (added_all (one ∷ rest))) (sym c.purge_items.ensures.room) fits in
+    rw c.purge_items.ensures.run (record {
+      done = ap (λ (v : Tables). deeds_done v rest) after ∙ sym (done_both t (purges run) (one ∷ rest))
+          ∙ ap (λ (left : List Deed). deeds_done t (purges run ++ left)) (sym steps) ∙ inv.done;
+      items = λ k d within. absurd (omega arith);
+      borne = subst (λ (v : Tables). BearsDeeds v rest) (sym after) borne.1.1;
+      room = subst (λ (v : Tables). FitsRows v c.perform.new.self.room (added_all rest)) (sym after)
+          (rest_fits u c.purge_items.new.self.room c.perform.new.self.room one rest c.perform.ensures.room room);
+    })
+
+pub returns : goal.returns
+returns c =
+    let t : Tables = c.loop-deed.self.tables in
+    let run = c.loop-deed.run.items in
+    let none : c.loop-deed.deed-iterator.rest.items ≡ [] =
+    nil_from_length c.loop-deed.deed-iterator.rest.items (omega (arith, c.in-None.ensures.steps.0, c.loop-deed.deed-iterator.rest.ok)) in
+    c.purge_items-2.ensures.tables ∙ ap (deeds_done t) (sym (ap (λ (left : List Deed). purges run ++ left) none ∙ append-nil (purges run))) ∙ c.loop-deed.invariant.done

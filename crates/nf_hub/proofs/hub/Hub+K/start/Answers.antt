@@ -1,4 +1,4 @@
-use Rattle.std.proofs.Common.{◌≡◌, inr, refl, ap, sym, subst, ◌∙◌}
+use Rattle.std.proofs.Common.{inr, refl, ap, sym, subst, ◌∙◌}
 use Rattle.std.specs.Prelude.{Option}
 use Rattle.nf_desk.specs.Desk.{Served}
 use Rattle.nf_desk.specs.Opened.{Opens}
