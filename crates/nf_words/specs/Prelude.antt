@@ -1,5 +1,5 @@
 -- The words of this layer that other files use, in one place to import them from.
-pub use Rattle.nf_words.specs.Asked.{Asked, asked_about, asked_of, asked_of_trash, asks_nothing, is_about_files, is_about_people, is_about_shares, is_transfer, named_at, named_in, path_at, paths_of, users_of}
+pub use Rattle.nf_words.specs.Asked.{Asked, asked_about, asked_of, asked_of_trash, asked_of_version, asks_nothing, is_about_files, is_about_people, is_about_shares, is_transfer, named_at, named_in, path_at, paths_of, users_of}
 pub use Rattle.nf_words.specs.Callers.{asks_by_link, is_caller, may_ask}
 unfoldable pub use Rattle.nf_words.specs.Callers.{not_you_rule, token_rule}
 pub use Rattle.nf_words.specs.Calls.{Call, Way, Ways, asked_by, asker_of, behind, caller_row, found, is_by_link, is_itself, is_mount_asked, is_one, last_name, link_of, linked_of, mount_for, mount_of, mounted, place_at, places_by, places_of, root_of, seeker_of, user_of, way_by, way_of, ways_for, ways_of}
