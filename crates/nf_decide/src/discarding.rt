@@ -11,6 +11,7 @@ ghost use Rattle.nf_words.specs.declared.answer.Report.TheVariants as report;
 
 use crate::homes::{home_of, name_back};
 use crate::quotas::quota_of;
+use crate::settling::{Charged, charged, settle};
 use crate::shared::nothing_done;
 use crate::view::View;
 use nf_base::{ItemRow, Moment, NodeId, NodeRow, Place, UserId, UserRow};
@@ -216,6 +217,8 @@ pub(crate) fn item_restored(
     let mut deeds = Vec::new(alloc);
     deeds.push(deed)?;
     push_purges(&mut deeds, &gone_beside(alloc, view, moment, item)?)?;
+    let charged = charged(view, item.owner, 0, view.size(item.node));
+    settle(alloc, view, &charged, &mut deeds)?;
     Ok(done(deeds, Report::Made))
 }
 
@@ -258,6 +261,12 @@ pub(crate) fn requoted(
     let mut deeds = Vec::new(alloc);
     deeds.push(Deed::Requote(with_quota(row, quota)?))?;
     push_purges(&mut deeds, &gone)?;
+    let charged = Charged {
+        owner: row.id,
+        charge: view.charge(row.id),
+        quota,
+    };
+    settle(alloc, view, &charged, &mut deeds)?;
     Ok(done(deeds, Report::Plain))
 }
 

@@ -14,17 +14,18 @@ ghost use Rattle.nf_words.specs.declared.answer.Denial.TheVariants.{Limit, NotFo
 ghost use Rattle.nf_reach.specs.Asking.{refusal_for};
 ghost use Rattle.nf_decide.specs.Ending.{unreached_unless_owner};
 
-use crate::acting::{makes, new_node, only};
+use crate::acting::{new_node, only};
 use crate::limits::{limit_at, pieces_of};
 use crate::nodes::{is_root, owner_of};
 use crate::quotas::excess_at;
+use crate::refilling::{dropped, stored_over};
+use crate::settling::{charged, settled};
 use crate::view::View;
 use nf_base::{
-    Act, BlobId, Changes, Content, Digest, Moment, Name, NodeId, NodeKind, NodeRow, Piece,
+    Act, BlobId, Content, Digest, Moment, Name, NodeId, NodeKind, Piece,
 };
 use nf_defs::Found;
 use nf_reach::Asker;
-use nf_tree::Tree;
 use nf_words::{Allowed, By, Denial, Goal, LockKey, Outcome, Report};
 use std::alloc::{AllocError, Global};
 
@@ -191,25 +192,6 @@ fn stored_at(
     }
 }
 
-/// Another content of a file, whose body is in that blob.
-fn stored_over(
-    alloc: Global,
-    view: &View<'_>,
-    moment: Moment,
-    node: NodeId,
-    content: Content,
-    blob: Option<BlobId>,
-) -> Result<Allowed, AllocError>
-    requires { is_file view.now.tables.nodes node ≡ true }
-    ensures { IfOk result (λ allowed. allowed ≡ Change (refilled (node_row view.now.tables.nodes node) moment content) blob Done) }
-{
-    Ok(Allowed::Change {
-        changes: refilled(alloc, view.tree(), node, moment, content)?,
-        blob,
-        report: Report::Done,
-    })
-}
-
 /// A file under a free name, whose body is in that blob.
 fn stored_under(
     alloc: Global,
@@ -223,44 +205,17 @@ fn stored_under(
     ensures { IfOk result (λ allowed. allowed ≡ makes (new_node view.now.tables moment folder name.now File content) blob) }
 {
     let name = name.copy()?;
+    let charged = charged(view, owner_of(view.tree(), folder), 0, content.size());
+    let gone = settled(alloc, view, &charged)?;
     let row = new_node(view, moment, folder, name, NodeKind::File, content);
-    makes(alloc, row, blob)
-}
-
-/// A node's row with another content, where that is another.
-fn refilled(
-    alloc: Global,
-    tree: &Tree,
-    node: NodeId,
-    moment: Moment,
-    content: Content,
-) -> Result<Changes, AllocError>
-    requires { is_file tree.now.rows node ≡ true }
-    ensures { IfOk result (λ changes. changes ≡ refilled (node_row tree.now.rows node) moment content) }
-{
-    match tree.node(node) {
-        Some(row) if !is_same(row, moment, &content) => only(alloc, filled(row, moment, content)?),
-        Some(_) | None => Ok(Changes::new(alloc)),
+    let mut changes = only(alloc, row)?;
+    for version in &gone {
+        changes.push(dropped(version.node, version.at))?;
     }
-}
-
-/// Whether a row has that content since that moment.
-fn is_same(row: &NodeRow, moment: Moment, content: &Content) -> bool
-    ensures { result ≡ (content_eq row.now.content content.now && row.now.changed == moment) }
-{
-    row.content == *content && row.changed == moment
-}
-
-/// A row with another content.
-fn filled(row: &NodeRow, moment: Moment, content: Content) -> Result<NodeRow, AllocError>
-    requires { is_folder_kind row.now.kind ≡ false }
-    ensures { IfOk result (λ whole. whole ≡ filled content moment row.now) }
-{
-    Ok(NodeRow {
-        name: row.name.copy()?,
-        content,
-        changed: moment,
-        ..*row
+    Ok(Allowed::Change {
+        changes,
+        blob,
+        report: Report::Made,
     })
 }
 

@@ -8,7 +8,7 @@ ghost use Rattle.nf_words.specs.Contents.{stored_pieces};
 ghost use Rattle.nf_words.specs.Listing.{size_of};
 ghost use Rattle.nf_words.specs.Sound.{AreSound};
 
-use nf_base::{ItemRow, MetaRow, Moment, NodeId, UserId};
+use nf_base::{ItemRow, MetaRow, Moment, NodeId, UserId, VersionRow};
 use nf_defs::Seeker;
 use nf_mounts::Mounts;
 use nf_people::People;
@@ -27,6 +27,7 @@ pub struct View<'a> {
     pub tree: &'a Tree,
     pub shares: &'a Shares,
     pub mounts: &'a Mounts,
+    pub versions: &'a Table<VersionRow>,
     pub items: &'a Table<ItemRow>,
     pub tickets: &'a [Ticket],
     pub seen: Moment,
@@ -39,7 +40,7 @@ impl<'a> Model for View<'a> {
     ghost Value = { State };
 
     ghost view = { λ v. record {
-      tables = tables_in v.meta.now v.people.now v.tree.now.rows v.shares.now.rows v.mounts.now.rows v.items.now.rows;
+      tables = tables_in v.meta.now v.people.now v.tree.now.rows v.shares.now.rows v.mounts.now.rows v.versions.now.rows v.items.now.rows;
       tickets = v.tickets.now;
       seen = v.seen;
     } };
@@ -95,6 +96,13 @@ impl<'a> View<'a> {
         self.mounts
     }
 
+    /// The versions, by rising node and moment.
+    pub(crate) fn versions(&self) -> &Table<VersionRow>
+        ensures { result.now.rows ≡ self.now.tables.versions }
+    {
+        self.versions
+    }
+
     /// The items of the trash, by rising node.
     pub(crate) fn items(&self) -> &Table<ItemRow>
         ensures { result.now.rows ≡ self.now.tables.items }
@@ -131,7 +139,7 @@ impl<'a> View<'a> {
     pub(crate) fn stored_pieces(&self) -> usize
         ensures { result ≡ stored_pieces self.now.tables }
     {
-        self.tree.pieces()
+        self.tree.pieces() + pieces_in(self.versions.rows())
     }
 
     /// Tells callers that the nodes are by rising number; it does nothing.
@@ -140,4 +148,15 @@ impl<'a> View<'a> {
     {
         let _ = self.tree.nodes();
     }
+}
+
+/// How many pieces some versions have, with repeats.
+fn pieces_in(rows: &[VersionRow]) -> usize
+    ensures { result ≡ sum_by (λ row. length row.content) rows.now }
+{
+    let mut count: usize = 0;
+    for row in rows {
+        count = count.saturating_add(row.content.pieces().len());
+    }
+    count
 }

@@ -10,7 +10,7 @@ ghost use Rattle.nf_words.specs.Prelude.{is_end_moment, is_later};
 use crate::first::first;
 use nf_base::{
     BlobId, ItemRow, MAX_QUOTA, MetaRow, Moment, NodeId, NodeRow, Piece, Place, Row, ShareId,
-    ShareKind, ShareRow,
+    ShareKind, ShareRow, VersionRow,
 };
 
 /// The seconds of a day.
@@ -38,8 +38,9 @@ fn is_later(row: &Row) -> bool
         | Row::Node(_)
         | Row::Share(_)
         | Row::Mount(_)
+        | Row::Version(_)
         | Row::Item(_) => false,
-        Row::Version(_) | Row::Upload(_) | Row::Chunk(_) => true,
+        Row::Upload(_) | Row::Chunk(_) => true,
     }
 }
 
@@ -74,6 +75,7 @@ fn are_numbers(meta: &MetaRow, row: &Row) -> bool
             is_given(next_user, u64::from(row.user.number()))
                 && is_given(meta.next_node.number(), row.node.number())
         }
+        Row::Version(row) => are_version_numbers(meta, row),
         Row::Item(row) => are_item_numbers(meta, row),
         _ => true,
     }
@@ -104,6 +106,14 @@ fn are_share_numbers(meta: &MetaRow, row: &ShareRow) -> bool
         && is_parent_given(meta.next_share, row.parent)
         && is_end(row.until)
         && row.made <= meta.last
+}
+
+fn are_version_numbers(meta: &MetaRow, row: &VersionRow) -> bool
+    ensures { result ≡ are_version_numbers meta.now row.now }
+{
+    is_given(meta.next_node.number(), row.node.number())
+        && !has_ungiven_blob(meta.next_blob, row.content.pieces())
+        && row.at <= meta.last
 }
 
 fn are_item_numbers(meta: &MetaRow, row: &ItemRow) -> bool

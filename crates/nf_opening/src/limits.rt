@@ -8,7 +8,7 @@ use crate::Loaded;
 use crate::first::first;
 use nf_base::{
     MAX_GROUPS, MAX_MEMBERS, MAX_MOUNTS, MAX_NODES, MAX_SHARES, MAX_STORED_PIECES, MAX_TOKENS,
-    MAX_USERS, NodeRow, Row,
+    MAX_USERS, MAX_VERSIONS, NodeRow, Row, VersionRow,
 };
 
 /// The first row that is one of too many.
@@ -16,13 +16,24 @@ pub(crate) fn first_beyond(loaded: &Loaded, rows: &[Row]) -> Option<usize>
     requires { loaded.now ≡ tables_of rows.now }
     ensures { result ≡ first_index (is_beyond (tables_of rows.now)) rows.now }
 {
-    let pieces = piece_count(&loaded.nodes);
+    let pieces = piece_count(&loaded.nodes) + version_pieces(&loaded.versions);
     first(rows, |row| is_beyond(loaded, pieces, row))
 }
 
 /// How many pieces the nodes have, with repeats. No sum of these passes a u128.
 fn piece_count(rows: &[NodeRow]) -> u128
     ensures { result ≡ piece_count rows.now }
+{
+    let mut count = 0;
+    for row in rows {
+        count += row.content.pieces().len() as u128;
+    }
+    count
+}
+
+/// How many pieces the versions have, with repeats.
+fn version_pieces(rows: &[VersionRow]) -> u128
+    ensures { result ≡ sum_by (λ row. length row.content) rows.now }
 {
     let mut count = 0;
     for row in rows {
@@ -46,6 +57,9 @@ fn is_beyond(loaded: &Loaded, pieces: u128, row: &Row) -> bool
         }
         Row::Share(_) => loaded.shares.len() > MAX_SHARES,
         Row::Mount(_) => loaded.mounts.len() > MAX_MOUNTS,
+        Row::Version(_) => {
+            loaded.versions.len() > MAX_VERSIONS || pieces > u128::from(MAX_STORED_PIECES)
+        }
         _ => false,
     }
 }
