@@ -2,7 +2,7 @@
 
 ghost use Rattle.std.specs.Prelude.{◌≡◌, IfOk, map};
 ghost use Rattle.std.specs.Ordering.{nat_cmp, ordering_then};
-ghost use Rattle.nf_retention.specs.Versions.{beyond};
+ghost use Rattle.nf_retention.specs.Versions.{beyond, latest_first};
 
 use crate::fitting;
 use nf_base::{Moment, NodeId};
@@ -27,15 +27,23 @@ fn compare(a: &Version, b: &Version) -> Ordering
 /// Of an owner's versions those that go: of all, newest first, those behind the longest front within the bound.
 pub fn beyond(
     alloc: Global,
-    mut versions: Vec<Version>,
+    versions: Vec<Version>,
     bound: u64,
 ) -> Result<Vec<Version>, AllocError>
-    ensures { IfOk result (λ gone. gone.items ≡ beyond bound versions.entry.items) }
+    ensures { IfOk result (λ gone. gone.items ≡ beyond bound versions.items) }
 {
-    versions.sort_by(compare)?;
+    let versions = latest_first(versions)?;
     let sizes = sizes_of(alloc, &versions)?;
     let staying = fitting(bound, &sizes);
     versions[staying..].iter().copied().collect(alloc)
+}
+
+/// The same versions, the newest first.
+fn latest_first(mut versions: Vec<Version>) -> Result<Vec<Version>, AllocError>
+    ensures { IfOk result (λ sorted. sorted.items ≡ latest_first versions.items) }
+{
+    versions.sort_by(compare)?;
+    Ok(versions)
 }
 
 fn sizes_of(alloc: Global, versions: &[Version]) -> Result<Vec<u64>, AllocError>

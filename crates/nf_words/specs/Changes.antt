@@ -1,5 +1,5 @@
 -- What each act changes and is answered, where no rule refuses it.
-use Rattle.std.specs.Prelude.{ℕ, ◌+◌, ◌==◌, ◌&&◌, not, Bool, true, false, List, [], ◌∷◌, ◌++◌, filter, length, map, max, Option, None, Some, is_none, option_map, option_and_then, if◌then◌else◌}
+use Rattle.std.specs.Prelude.{ℕ, ◌+◌, ◌-◌, ◌==◌, ◌&&◌, not, Bool, true, false, List, [], ◌∷◌, ◌++◌, filter, length, map, max, Option, None, Some, is_none, option_map, option_and_then, if◌then◌else◌}
 use Rattle.std.specs.Option.{option_map_or}
 use Rattle.nf_access.specs.Mounts.{mount_row}
 use Rattle.nf_base.specs.Content.{content_eq}
@@ -14,13 +14,13 @@ use Rattle.nf_base.specs.declared.rows.NodeRow.{NodeRow}
 use Rattle.nf_base.specs.declared.rows.Place.TheVariants.{Inside}
 use Rattle.nf_base.specs.declared.rows.Row.TheVariants as rows
 use Rattle.nf_base.specs.declared.rows.ShareRow.{ShareRow}
-use Rattle.nf_defs.specs.Prelude.{Access, content_of, is_folder, node_row, owner_of, put_all, Tables}
+use Rattle.nf_defs.specs.Prelude.{Access, content_of, filled, is_folder, node_row, owner_of, put_all, Tables}
 use Rattle.nf_defs.specs.declared.Found.{Found}
 use Rattle.nf_defs.specs.declared.Found.TheVariants.{At, Free, Missing}
 use Rattle.nf_words.specs.State.{State, ticket_for}
 use Rattle.nf_words.specs.Calls.{asker_of, Call, last_name, places_of, seeker_of, Way, way_of}
 use Rattle.nf_words.specs.Copies.{copies_to}
-use Rattle.nf_words.specs.Listing.{listing_of}
+use Rattle.nf_words.specs.Listing.{listing_of, size_of}
 use Rattle.nf_words.specs.People.{people_changed, put_mounts, row_named}
 use Rattle.nf_words.specs.Places.{crosses, node_at, transfer_of}
 use Rattle.nf_words.specs.Sharing.{mounts_for, new_share, offered, perms_after, share_line, share_lines, share_shown, share_steered, until_after}
@@ -46,10 +46,15 @@ use Rattle.nf_words.specs.declared.answer.Reply.TheVariants as reply
 use Rattle.nf_words.specs.declared.answer.Report.{Report}
 use Rattle.nf_words.specs.declared.answer.Report.TheVariants as report
 use Rattle.nf_words.specs.declared.history.Ticket.{Ticket}
-use Rattle.nf_words.specs.Charges.{quota_of}
+use Rattle.nf_words.specs.Charges.{charge_of, quota_of}
 use Rattle.nf_words.specs.Deeds.{deeds_done, ended_row, told_deeds}
 use Rattle.nf_words.specs.declared.answer.Deed.{Deed}
-use Rattle.nf_words.specs.Trash.{gone_of, item_for, item_lines, items_but, items_of, own_item, owners_of}
+use Rattle.nf_words.specs.Trash.{gone_of, item_for, item_lines, item_size, items_but, items_of, own_item, owners_of}
+use Rattle.nf_words.specs.Versions.{beyond_bound, content_size, gone_after, held_without, turned_over, version_lines, version_row}
+use Rattle.nf_retention.specs.declared.versions.Version.{Version}
+use Rattle.nf_base.specs.declared.rows.VersionRow.{VersionRow}
+use Rattle.nf_words.specs.declared.request.VersionAsk.{VersionAsk}
+use Rattle.nf_words.specs.declared.request.VersionAsk.TheVariants as version
 use Rattle.nf_words.specs.Homes.{home_of, name_back}
 use Rattle.nf_base.specs.declared.rows.ItemRow.{ItemRow}
 use Rattle.nf_base.specs.declared.rows.UserRow.{UserRow}
@@ -150,6 +155,37 @@ deleted t now node = done (discards t now node ++ besides t now node) report.Don
 abbrev pub made_or_done : Option ℕ → Report
 made_or_done replaced = option_map_or (λ node. report.Done) replaced report.Made
 
+-- ---- what an owner's charge leaves to old versions
+
+-- a user whose files take up so many bytes after a step, and may take up so many
+pub record Charged : Type 0 where
+  pub owner : ℕ
+  pub charge : ℕ
+  pub quota : ℕ
+
+-- with so many bytes in the place of so many
+abbrev pub charged : Tables → ℕ → ℕ → ℕ → Charged
+charged t user old new = record { owner = user; charge = charge_of t user - old + new; quota = quota_of t user }
+
+-- the nodes that go for good by some deeds
+abbrev pub purged_by : Deed → List ℕ
+purged_by (deed.Purge node) = node ∷ []
+purged_by other = []
+
+-- the versions of an owner that go once some nodes are gone
+abbrev pub unsettled : Tables → Charged → List ℕ → List Version
+unsettled t to gone = beyond_bound to.quota to.charge (held_without t to.owner gone)
+
+-- deeds, and those by which an owner's versions go that are beyond their bound then
+abbrev pub settled_by : Tables → Charged → List Deed → List Deed
+settled_by t to deeds =
+    deeds ++ map (λ (version : Version). deed.Forget version.node version.at) (unsettled t to (flat_map purged_by deeds))
+
+-- the owner of the folder of copies is charged for them, in the place of what they replace
+abbrev pub charged_for : Tables → Transfer → Charged
+charged_for t transfer =
+    charged t (owner_of t.nodes transfer.folder) (option_map_or (size_of t.nodes) transfer.replaced 0) (size_of t.nodes transfer.node)
+
 -- MOVE puts the node that is there, and COPY copies of it and of all under it, into the target's folder under the target's name. What
 -- is replaced is put in the trash. What goes to another owner is copied there, and is then put in the trash of its owner. What goes for
 -- good beside these goes last
@@ -159,13 +195,15 @@ moves t now name transfer =
 
 abbrev pub copies : Tables → ℕ → List ℕ → Transfer → List Deed
 copies t now name transfer =
-    discards t now transfer.replaced ++ deed.Join (copies_to t now transfer name) ∷ besides t now transfer.replaced
+    settled_by t (charged_for t transfer)
+    (discards t now transfer.replaced ++ deed.Join (copies_to t now transfer name) ∷ besides t now transfer.replaced)
 
 abbrev pub crossing : Tables → ℕ → List ℕ → Transfer → List Deed
 crossing t now name transfer =
-    discards t now transfer.replaced
+    settled_by t (charged_for t transfer)
+    (discards t now transfer.replaced
     ++ deed.Join (copies_to t now transfer name)
-    ∷ (discards t now (Some transfer.node) ++ (besides t now transfer.replaced ++ besides t now (Some transfer.node)))
+    ∷ (discards t now (Some transfer.node) ++ (besides t now transfer.replaced ++ besides t now (Some transfer.node))))
 
 abbrev pub carries : Tables → ℕ → List ℕ → Transfer → List Deed
 carries t now name transfer = if crosses t.nodes transfer then crossing t now name transfer else moves t now name transfer
@@ -256,7 +294,10 @@ item_dropped t now item = done (purges (item.node ∷ gone_beside t now item)) r
 
 abbrev pub item_restored : Tables → ℕ → ItemRow → Allowed
 item_restored t now item =
-    done (deed.Restore item.node (home_of t item) (name_back t item) ∷ purges (gone_beside t now item)) report.Made
+    done
+    (settled_by t (charged t item.owner 0 (item_size t item))
+    (deed.Restore item.node (home_of t item) (name_back t item) ∷ purges (gone_beside t now item)))
+    report.Made
 
 abbrev pub trash_done : Call → TrashAsk → Allowed
 trash_done call (trash.List user) = allowed.Change [] None (report.Items (item_lines call.state.tables (asker_of call)))
@@ -264,6 +305,32 @@ trash_done call (trash.Drop user item) = option_map_or (item_dropped call.state.
 trash_done call (trash.Empty user) =
     done (purges (map (λ item. item.node) (items_of call.state.tables (asker_of call)))) report.Done
 trash_done call (trash.Restore user item) = option_map_or (item_restored call.state.tables call.now) (own_item call item) nothing_done
+
+-- ---- versions
+
+-- a file has another content: its row, and what becomes of versions
+abbrev pub refills : Tables → ℕ → Option ℕ → List Piece → NodeRow → List Change
+refills t now back content row =
+    let to = charged t row.owner (content_size row.content) (content_size content) in
+    Put (rows.Node (filled content now row))
+    ∷ turned_over t back row (gone_after t now back row to.quota to.charge)
+
+-- where that is another content, or since another moment
+abbrev pub refilled : Tables → ℕ → List Piece → NodeRow → List Change
+refilled t now content row =
+    if content_eq row.content content && row.changed == now then [] else refills t now None content row
+
+-- a version is its file's content again
+abbrev pub brought_back : Tables → ℕ → ℕ → VersionRow → Allowed
+brought_back t now node version =
+    allowed.Change (option_map_or (refills t now (Some version.at) version.content) (node_row t.nodes node) []) None report.Done
+
+abbrev pub version_done : Tables → ℕ → VersionAsk → Allowed
+version_done t now (version.List user node) = allowed.Change [] None (report.Versions (version_lines t.versions node))
+version_done t now (version.Get user node at) =
+    option_map_or (λ (row : VersionRow). allowed.Get node row.content) (version_row t.versions node at) nothing_done
+version_done t now (version.Restore user node at) =
+    option_map_or (brought_back t now node) (version_row t.versions node at) nothing_done
 
 -- what the trash of a user doesn't hold any more
 abbrev pub gone_from : Tables → ℕ → ℕ → List ℕ
@@ -275,11 +342,15 @@ swept t now = done (purges (flat_map (gone_from t now) (owners_of t.items))) rep
 
 -- ---- people
 
--- a user has another quota, if it is another, and of the user's trash what is beyond it goes
+-- a user has another quota, if it is another, and of the user's trash and versions what is beyond it goes
 abbrev pub requoted : Tables → ℕ → ℕ → UserRow → Allowed
 requoted t now quota row =
     if row.quota == quota then nothing_done
-    else done (deed.Requote (record row { quota = quota }) ∷ purges (gone_of t now quota (items_of t row.id))) report.Plain
+    else
+    done
+    (settled_by t (record { owner = row.id; charge = charge_of t row.id; quota = quota })
+    (deed.Requote (record row { quota = quota }) ∷ purges (gone_of t now quota (items_of t row.id))))
+    report.Plain
 
 abbrev pub people_done : Tables → ℕ → PeopleAsk → Allowed
 people_done t now (people.SetQuota user quota) = option_map_or (requoted t now quota) (row_named t user) nothing_done
@@ -300,6 +371,7 @@ given access call places (wanted.Copy source target overwrite) =
 given access call places (wanted.Share ask) = shared access call places ask
 given access call places (wanted.People asked) = people_done call.state.tables call.now asked
 given access call places (wanted.Trash asked) = trash_done call asked
+given access call places (wanted.Version asked) = version_done call.state.tables call.now asked
 
 -- what a call that no rule refuses may do, by what shares let their seekers do
 abbrev pub allowed_of : Access → Call → Allowed
@@ -339,13 +411,6 @@ altered t now (allowed.Deeds deeds report) = deeds_done t deeds
 altered t now allowed.Close = t
 
 -- ---- the same, told as a list of the rows that differ
-
--- a node's row with another content, where that is another
-abbrev pub refilled : Option NodeRow → ℕ → List Piece → List Change
-refilled None now content = []
-refilled (Some row) now content =
-    if content_eq row.content content && row.changed == now then []
-    else Put (rows.Node (record row { content = content; changed = now })) ∷ []
 
 -- the rows that an act changes, but for the meta row
 abbrev pub told : Tables → Allowed → List Change
@@ -440,6 +505,7 @@ reported report.Done = Done
 reported (report.Share line) = reply.Share line
 reported (report.Shares lines) = reply.Shares lines
 reported (report.Items lines) = reply.Items lines
+reported (report.Versions lines) = reply.Versions lines
 reported report.Plain = reply.Plain
 
 -- what is answered
