@@ -201,14 +201,6 @@ abbrev pub ocs_request : Route → Method → Head → List ℕ → Result Reque
 ocs_request route m head body =
     and_then (ocs_request_of route m head body) (λ wanted. Ok (record { caller = caller_of head; wanted = wanted }))
 
--- ---- the trash bin and versions
-
--- of what brings back an item or a version, whose destination may be read: `destination`, `overwrite`, `depth`
-abbrev pub back_refusal : Bool → Head → Option Denial
-back_refusal back head =
-    option_or (if back then None else Some (denial.BadParameter parameter.Destination))
-    (option_or (unread parameter.Overwrite is_overwrite (field (codes "Overwrite") head)) (depth_refusal head))
-
 -- ---- the trash bin
 
 abbrev pub is_trash_route : Route → Bool
@@ -228,17 +220,21 @@ trash_item head = option_and_then number_in (slice_get (trash_segments head.targ
 abbrev pub is_back : List ℕ → List ℕ → Bool
 is_back user value = not (list_any (λ b. b == 63) value) && restores user value
 
-abbrev pub item_back : Head → Bool
-item_back head = option_map_or (is_back (trash_user head)) (field (codes "Destination") head) false
-
 abbrev pub item_refusal : Head → Option Denial
 item_refusal head = if is_some (trash_item head) then None else Some (denial.BadParameter parameter.Id)
+
+-- `destination`, `overwrite`, `depth`
+abbrev pub back_refusal : Head → Option Denial
+back_refusal head =
+    option_or (if option_map_or (is_back (trash_user head)) (field (codes "Destination") head) false then None
+    else Some (denial.BadParameter parameter.Destination))
+    (option_or (unread parameter.Overwrite is_overwrite (field (codes "Overwrite") head)) (depth_refusal head))
 
 -- of the fields that a method reads there, and the number
 abbrev pub trash_parameter_refusal : Route → Method → Head → Option Denial
 trash_parameter_refusal route.Trash method.Delete head = depth_refusal head
 trash_parameter_refusal route.TrashItem method.Delete head = option_or (depth_refusal head) (item_refusal head)
-trash_parameter_refusal route.TrashItem method.Move head = option_or (back_refusal (item_back head) head) (item_refusal head)
+trash_parameter_refusal route.TrashItem method.Move head = option_or (back_refusal head) (item_refusal head)
 trash_parameter_refusal route m head = None
 
 abbrev pub trash_refusal : Route → Method → Head → Option Denial
@@ -292,9 +288,10 @@ abbrev pub numbers_refusal : Route → Option ℕ → Option ℕ → Option Deni
 numbers_refusal route node moment =
     option_or (if is_some node then None else Some (denial.BadParameter parameter.Id)) (moment_refusal route moment)
 
--- of the fields that a method reads there, before the numbers
+-- of the fields that a method reads there, before the numbers: `destination`, `depth`. What is there is always replaced, so no Overwrite is read
 abbrev pub version_parameter_refusal : Method → Head → Option Denial → Option Denial
-version_parameter_refusal method.Move head numbers = option_or (back_refusal (version_back head) head) numbers
+version_parameter_refusal method.Move head numbers =
+    option_or (if version_back head then None else Some (denial.BadParameter parameter.Destination)) (option_or (depth_refusal head) numbers)
 version_parameter_refusal other head numbers = numbers
 
 abbrev pub version_refusal : Route → Method → Head → Option Denial

@@ -5,7 +5,7 @@ ghost use Rattle.std.specs.List.{list_any};
 ghost use Rattle.nf_routes.specs.Mounts.{route_of};
 ghost use Rattle.nf_words.specs.declared.answer.Denial.TheVariants.{BadParameter};
 ghost use Rattle.nf_words.specs.declared.answer.Parameter.TheVariants as parameter;
-ghost use Rattle.nf_dav.specs.Asked.{Gives, back_refusal, depth_refusal, destination_of, field, front_on as front_of_route, is_destination as is_place, is_infinite as says_infinity, is_overwrite, overwrites as may_overwrite, parameter_refusal, second_segments as second, transfer_refusal, unread as unread_by};
+ghost use Rattle.nf_dav.specs.Asked.{Gives, depth_refusal, destination_of, field, front_on as front_of_route, is_destination as is_place, is_infinite as says_infinity, is_overwrite, overwrites as may_overwrite, parameter_refusal, second_segments as second, transfer_refusal, unread as unread_by};
 ghost use Rattle.nf_dav.specs.declared.requests.Unasked.TheVariants.{Refused};
 
 use crate::Unasked;
@@ -123,23 +123,8 @@ pub fn overwrites(message: &Message) -> bool
     }
 }
 
-/// The first field that can't be read of what brings back an item or a version. `back` says that its destination can.
-pub(crate) fn bad_back(message: &Message, back: bool) -> Option<Parameter>
-    ensures { back_refusal back message.now ≡ option_and_then (λ bad. Some (BadParameter bad)) result }
-{
-    if !back {
-        Some(Parameter::Destination)
-    } else if has_bad_overwrite(message) {
-        Some(Parameter::Overwrite)
-    } else if has_bad_depth(message) {
-        Some(Parameter::Depth)
-    } else {
-        None
-    }
-}
-
 /// Whether there is an Overwrite that can't be read.
-fn has_bad_overwrite(message: &Message) -> bool
+pub(crate) fn has_bad_overwrite(message: &Message) -> bool
     ensures { unread_by parameter.Overwrite is_overwrite (field (codes "Overwrite") message.now) ≡ (if result then Some (BadParameter parameter.Overwrite) else None) }
 {
     match message.field(b"Overwrite") {

@@ -8,10 +8,10 @@ ghost use Rattle.nf_routes.specs.Targets.{trash_segments as segments_of};
 ghost use Rattle.nf_words.specs.History.{MayWant};
 ghost use Rattle.nf_words.specs.declared.answer.Denial.TheVariants.{BadParameter};
 ghost use Rattle.nf_words.specs.declared.answer.Parameter.TheVariants as parameter;
-ghost use Rattle.nf_dav.specs.Asked.{Gives, IsGiven, Tells, back_refusal, depth_refusal, field, is_back as is_there, is_trash_route as is_of_trash, item_back, item_refusal, trash_ask, trash_item, trash_parameter_refusal, trash_refusal, trash_request as request_of_trash, trash_user};
+ghost use Rattle.nf_dav.specs.Asked.{Gives, IsGiven, Tells, back_refusal, depth_refusal, field, is_back as is_there, is_trash_route as is_of_trash, item_refusal, trash_ask, trash_item, trash_parameter_refusal, trash_refusal, trash_request as request_of_trash, trash_user};
 
 use crate::Unasked;
-use crate::fields::{bad_back, has_bad_depth, has_query, unread};
+use crate::fields::{has_bad_depth, has_bad_overwrite, has_query, unread};
 use crate::fronts::first;
 use crate::requests::caller;
 use crate::spots::name;
@@ -81,13 +81,10 @@ fn bad_parameter(
     match (route, method) {
         (Route::Trash, Method::Delete) if has_bad_depth(message) => Ok(Some(Parameter::Depth)),
         (Route::TrashItem, Method::Delete) => Ok(bad_drop(message, numbered)),
-        (Route::TrashItem, Method::Move) => {
-            let back = has_back(alloc, message, user)?;
-            match bad_back(message, back) {
-                Some(bad) => Ok(Some(bad)),
-                None => Ok(bad_item(numbered)),
-            }
-        }
+        (Route::TrashItem, Method::Move) => match bad_back(alloc, message, user)? {
+            Some(bad) => Ok(Some(bad)),
+            None => Ok(bad_item(numbered)),
+        },
         _ => Ok(None),
     }
 }
@@ -110,10 +107,26 @@ fn bad_item(numbered: bool) -> Option<Parameter>
     if numbered { None } else { Some(Parameter::Id) }
 }
 
+// The first field of a restoration that can't be read.
+fn bad_back(alloc: Global, message: &Message, user: &[u8]) -> Result<Option<Parameter>, AllocError>
+    requires { user.now ≡ trash_user message.now }
+    ensures { IfOk result (λ bad. back_refusal message.now ≡ option_and_then (λ bad. Some (BadParameter bad)) bad) }
+{
+    if !has_back(alloc, message, user)? {
+        return Ok(Some(Parameter::Destination));
+    }
+    if has_bad_overwrite(message) {
+        return Ok(Some(Parameter::Overwrite));
+    }
+    if has_bad_depth(message) {
+        return Ok(Some(Parameter::Depth));
+    }
+    Ok(None)
+}
+
 // Whether there is a destination, and the user's items come back there.
 fn has_back(alloc: Global, message: &Message, user: &[u8]) -> Result<bool, AllocError>
-    requires { user.now ≡ trash_user message.now }
-    ensures { IfOk result (λ has. has ≡ item_back message.now) }
+    ensures { IfOk result (λ has. has ≡ option_map_or (is_there user.now) (field (codes "Destination") message.now) false) }
 {
     match message.field(b"Destination") {
         Some(value) => is_back(alloc, user, value),

@@ -7,10 +7,10 @@ ghost use Rattle.nf_routes.specs.Targets.{version_segments as segments_of};
 ghost use Rattle.nf_words.specs.History.{MayWant};
 ghost use Rattle.nf_words.specs.declared.answer.Denial.TheVariants.{BadParameter};
 ghost use Rattle.nf_words.specs.declared.answer.Parameter.TheVariants as parameter;
-ghost use Rattle.nf_dav.specs.Asked.{IsGiven, back_refusal, field, is_version_back as is_there, is_version_route as is_of_versions, numbers_refusal, version_ask, version_back, version_moment, version_node, version_parameter_refusal, version_request as request_of_version, version_user};
+ghost use Rattle.nf_dav.specs.Asked.{IsGiven, is_version_back as is_there, is_version_route as is_of_versions, numbers_refusal, version_ask, version_back, version_moment, version_node, version_parameter_refusal, version_request as request_of_version, version_user};
 
 use crate::Unasked;
-use crate::fields::{bad_back, has_query, unread};
+use crate::fields::{has_bad_depth, has_query, unread};
 use crate::fronts::first;
 use crate::requests::caller;
 use crate::spots::name;
@@ -100,11 +100,14 @@ fn bad_parameter(
         version_parameter_refusal method message.now (option_and_then (λ bad. Some (BadParameter bad)) bad_number)
         ≡ option_and_then (λ bad. Some (BadParameter bad)) bad) }
 {
-    if method == Method::Move {
-        let back = has_back(alloc, message, user)?;
-        if let Some(bad) = bad_back(message, back) {
-            return Ok(Some(bad));
-        }
+    if method != Method::Move {
+        return Ok(bad_number);
+    }
+    if !has_back(alloc, message, user)? {
+        return Ok(Some(Parameter::Destination));
+    }
+    if has_bad_depth(message) {
+        return Ok(Some(Parameter::Depth));
     }
     Ok(bad_number)
 }
