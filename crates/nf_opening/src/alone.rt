@@ -205,14 +205,8 @@ fn has_ungiven_blob(next: BlobId, content: &[Piece]) -> bool
         .any(|piece| !is_given(next.number(), piece.blob.number()))
 }
 
-/// The first user whose quota is too large.
-pub(crate) fn first_lavish(rows: &[Row]) -> Option<usize>
-    ensures { result ≡ first_index is_lavish rows.now }
-{
-    first(rows, |row| is_lavish(row))
-}
-
-fn is_lavish(row: &Row) -> bool
+/// Whether it is a user whose quota is too large.
+pub(crate) fn is_lavish(row: &Row) -> bool
     ensures { result ≡ is_lavish row.now }
 {
     match row {

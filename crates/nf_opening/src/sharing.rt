@@ -102,7 +102,7 @@ fn is_of_node(row: &ShareRow, node: &NodeRow) -> bool
 }
 
 /// Whether the node leads to its owner's root.
-fn is_in_root(loaded: &Loaded, node: &NodeRow) -> bool
+pub(crate) fn is_in_root(loaded: &Loaded, node: &NodeRow) -> bool
     requires { AreRising loaded.now }
     ensures { result ≡ is_in_root loaded.now node.now }
 {
