@@ -6,7 +6,7 @@ ghost use Rattle.nf_base.specs.declared.rows.Row.TheVariants as kinds;
 ghost use Rattle.nf_base.specs.Kept.{IsPlain};
 ghost use Rattle.nf_defs.specs.Prelude.{node_row};
 ghost use Rattle.nf_defs.specs.declared.Found.TheVariants.{Free};
-ghost use Rattle.nf_words.specs.Prelude.{AreSound, carries, carry_limit, copied, copies, copy_limit, crossing, deleted, last_name, made_folder, made_or_done, makes, moved, moves, new_node, stored};
+ghost use Rattle.nf_words.specs.Prelude.{AreSound, carries, carry_limit, charged_for, copied, copies, copy_limit, crossing, deleted, last_name, made_folder, made_or_done, makes, moved, moves, new_node, stored};
 
 use crate::copying::copies_to;
 use crate::discarding::done;
@@ -205,7 +205,10 @@ fn crossing(
 }
 
 /// Who is charged for copies: the owner of their folder, in the place of what they replace.
-fn charged_at(view: &View<'_>, transfer: &Transfer) -> Charged {
+fn charged_at(view: &View<'_>, transfer: &Transfer) -> Charged
+    requires { AreSound view.now.tables }
+    ensures { result ≡ charged_for view.now.tables transfer.now }
+{
     let old = size_replaced(view, &transfer.replaced);
     let owner = owner_of(view.tree(), transfer.folder);
     charged(view, owner, old, view.size(transfer.node))

@@ -263,7 +263,7 @@ pub(crate) fn requoted(
     push_purges(&mut deeds, &gone)?;
     let charged = Charged {
         owner: row.id,
-        charge: view.charge(row.id),
+        charge: u128::from(view.charge(row.id)),
         quota,
     };
     settle(alloc, view, &charged, &mut deeds)?;

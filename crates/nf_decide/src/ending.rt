@@ -3,12 +3,8 @@
 ghost use Rattle.std.specs.Prelude.{◌≡◌, ◌≤◌, ◌==◌, ◌&&◌, true, false, IfOk, None, Some, option_map, if◌then◌else◌};
 ghost use Rattle.std.specs.Option.{ForSome, option_or};
 ghost use Rattle.nf_base.specs.declared.limits.TheConstants.{MAX_BODY};
-ghost use Rattle.nf_base.specs.Content.{content_eq};
 ghost use Rattle.nf_base.specs.declared.rows.NodeKind.TheVariants.{File};
-ghost use Rattle.nf_defs.specs.Tree.{filled, is_file, is_folder_kind, node_row};
-ghost use Rattle.nf_words.specs.declared.answer.Allowed.TheVariants.{Change};
-ghost use Rattle.nf_words.specs.declared.answer.Report.TheVariants.{Done};
-ghost use Rattle.nf_words.specs.Prelude.{access_of, AreSound, blob_for, content_in, end_lost, end_refusal, end_unfit, ends_goal, excess_at, IsGoalSound, IsHeld, IsStorable, limit_at, makes, MayBring, needed_by, new_node, node_of_key, pieces_of, place_of, refilled, stored_at, stores};
+ghost use Rattle.nf_words.specs.Prelude.{access_of, AreSound, blob_for, content_in, end_lost, end_refusal, end_unfit, ends_goal, excess_at, IsGoalSound, IsHeld, IsStorable, limit_at, MayBring, needed_by, new_node, node_of_key, pieces_of, place_of, stored_at, stored_new, stores};
 ghost use Rattle.nf_words.specs.declared.answer.By.{By as TheBy};
 ghost use Rattle.nf_words.specs.declared.answer.Denial.TheVariants.{Limit, NotFound, Quota};
 ghost use Rattle.nf_reach.specs.Asking.{refusal_for};
@@ -18,7 +14,7 @@ use crate::acting::{new_node, only};
 use crate::limits::{limit_at, pieces_of};
 use crate::nodes::{is_root, owner_of};
 use crate::quotas::excess_at;
-use crate::refilling::{dropped, stored_over};
+use crate::refilling::{push_dropped, stored_over};
 use crate::settling::{charged, settled};
 use crate::view::View;
 use nf_base::{
@@ -180,6 +176,7 @@ fn stored_at(
 ) -> Result<Allowed, AllocError>
     requires few { length ≤ MAX_BODY }
     requires held { IsHeld view.now.tables key.now }
+    requires sound { AreSound view.now.tables }
     ensures { IfOk result (λ allowed. allowed ≡ stored_at view.now.tables moment key.now digest.now length) }
 {
     let blob = blob_for(view.meta().next_blob, length);
@@ -192,7 +189,7 @@ fn stored_at(
     }
 }
 
-/// A file under a free name, whose body is in that blob.
+/// A file under a free name, whose body is in that blob. Versions go that are beyond their bound then.
 fn stored_under(
     alloc: Global,
     view: &View<'_>,
@@ -202,16 +199,15 @@ fn stored_under(
     content: Content,
     blob: Option<BlobId>,
 ) -> Result<Allowed, AllocError>
-    ensures { IfOk result (λ allowed. allowed ≡ makes (new_node view.now.tables moment folder name.now File content) blob) }
+    requires { AreSound view.now.tables }
+    ensures { IfOk result (λ allowed. allowed ≡ stored_new view.now.tables (new_node view.now.tables moment folder name.now File content) blob) }
 {
     let name = name.copy()?;
     let charged = charged(view, owner_of(view.tree(), folder), 0, content.size());
     let gone = settled(alloc, view, &charged)?;
     let row = new_node(view, moment, folder, name, NodeKind::File, content);
     let mut changes = only(alloc, row)?;
-    for version in &gone {
-        changes.push(dropped(version.node, version.at))?;
-    }
+    push_dropped(&mut changes, &gone)?;
     Ok(Allowed::Change {
         changes,
         blob,

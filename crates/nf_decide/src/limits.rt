@@ -4,7 +4,8 @@ ghost use Rattle.std.specs.Prelude.{◌≡◌, ◌+◌, ◌≤◌, ◌||◌, fil
 ghost use Rattle.nf_base.specs.declared.limits.TheConstants.{MAX_DEPTH, MAX_PIECES};
 ghost use Rattle.nf_access.specs.Mounts.{mount_row};
 ghost use Rattle.nf_defs.specs.Tree.{content_of, node_row, walk_of};
-ghost use Rattle.nf_words.specs.Limits.{carry_limit, copy_limit, count_of, deepest, deepest_in, last_number, limit_at, limit_passed, mount_limit, move_limit, pieces_in, pieces_of, restore_limit};
+ghost use Rattle.nf_words.specs.Versions.{version_row};
+ghost use Rattle.nf_words.specs.Limits.{back_limit, carry_limit, copy_limit, count_of, deepest, deepest_in, last_number, limit_at, limit_passed, mount_limit, move_limit, pieces_in, pieces_of, restore_limit, versions_added};
 ghost use Rattle.nf_words.specs.Contents.{stored_pieces};
 ghost use Rattle.nf_words.specs.People.{are_many_groups, are_many_nodes, are_many_tokens, are_many_users, new_user_limit};
 ghost use Rattle.nf_words.specs.Sharing.{offer_limit};
@@ -269,7 +270,7 @@ fn versions_added(view: &View<'_>, node: NodeId, back: Option<Moment>) -> u64
 
 /// The limit that is passed by a version that is a file's content again. It still counts as a version.
 pub(crate) fn back_limit(view: &View<'_>, node: NodeId, at: Moment) -> Option<Limit>
-    ensures { result ≡ back_limit view.now.tables node at }
+    ensures { result ≡ option_and_then (back_limit view.now.tables node) (version_row view.now.tables.versions node at) }
 {
     let version = version_row(view, node, at)?;
     let versions = versions_added(view, node, Some(at));

@@ -1,8 +1,9 @@
 //! The quotas of users.
 
-ghost use Rattle.std.specs.Prelude.{◌≡◌, ◌+◌, ◌-◌, ◌&&◌, nat_lt};
+ghost use Rattle.std.specs.Prelude.{◌≡◌, ◌+◌, ◌-◌, ◌&&◌, nat_lt, option_and_then};
 ghost use Rattle.std.specs.Option.{option_map_or};
-ghost use Rattle.nf_words.specs.Charges.{carry_excess, copy_excess, excess, excess_at, quota_of, restore_excess};
+ghost use Rattle.nf_words.specs.Versions.{version_row};
+ghost use Rattle.nf_words.specs.Charges.{back_excess, carry_excess, copy_excess, excess, excess_at, quota_of, restore_excess};
 ghost use Rattle.nf_words.specs.Listing.{size_of};
 ghost use Rattle.nf_words.specs.Sound.{AreSound};
 
@@ -64,7 +65,7 @@ pub(crate) fn restore_excess(view: &View<'_>, item: &ItemRow) -> Option<Excess>
 /// How a version would pass the quota of its file's owner, as the file's content.
 pub(crate) fn back_excess(view: &View<'_>, node: NodeId, at: Moment) -> Option<Excess>
     requires { AreSound view.now.tables }
-    ensures { result ≡ back_excess view.now.tables node at }
+    ensures { result ≡ option_and_then (back_excess view.now.tables node) (version_row view.now.tables.versions node at) }
 {
     let version = version_row(view, node, at)?;
     let old = bytes_of(view.tree(), node);

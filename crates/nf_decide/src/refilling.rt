@@ -1,10 +1,19 @@
 //! How a file's content becomes another: what is replaced becomes a version, and older ones thin out and stay within their bound.
 
-ghost use Rattle.std.specs.Prelude.{◌≡◌, IfOk, OnOk};
+ghost use Rattle.std.specs.Prelude.{◌≡◌, ◌++◌, ◌&&◌, ◌==◌, [], None, Some, filter, length, map, not, reverse, IfOk, OnOk};
+ghost use Rattle.std.specs.Option.{option_map_or};
 ghost use Rattle.nf_base.specs.Content.{content_eq};
-ghost use Rattle.nf_defs.specs.Tree.{filled, is_folder_kind};
+ghost use Rattle.nf_base.specs.declared.changes.Change.TheVariants.{Drop};
+ghost use Rattle.nf_base.specs.declared.changes.RowKey.TheVariants as keys;
+ghost use Rattle.nf_defs.specs.Tree.{filled, is_file, is_folder_kind, node_row};
+ghost use Rattle.nf_retention.specs.Thinning.{AreFalling};
+ghost use Rattle.nf_words.specs.Changes.{brought_back, charged, nothing_done, refilled, refills};
+ghost use Rattle.nf_words.specs.Sound.{AreSound};
+ghost use Rattle.nf_words.specs.Versions.{becomes_version, content_size, drop_back, drop_gone, drop_version, gone_after, held, is_among, put_replaced, staying, those_at, thinned_out, version_for, version_row, with_replaced};
+ghost use Rattle.nf_words.specs.declared.answer.Allowed.TheVariants.{Change as ChangeOf};
+ghost use Rattle.nf_words.specs.declared.answer.Report.TheVariants.{Done};
 
-use crate::settling::{beyond_bound, charged, has_version, held_beside};
+use crate::settling::{beyond_bound, charged, has_version, held_beside, is_version, version};
 use crate::shared::nothing_done;
 use crate::versions::{version_row, versions_of};
 use crate::view::View;
@@ -32,52 +41,94 @@ pub(crate) fn stored_over(
     node: NodeId,
     content: Content,
     blob: Option<BlobId>,
-) -> Result<Allowed, AllocError> {
-    let Some(row) = view.tree().node(node) else {
-        return Ok(nothing_done(alloc));
-    };
-    let refill = Refill {
-        view,
-        row,
-        moment,
-        back: None,
-    };
+) -> Result<Allowed, AllocError>
+    requires sound { AreSound view.now.tables }
+    requires file { is_file view.now.tables.nodes node ≡ true }
+    ensures { IfOk result (λ allowed. allowed ≡ ChangeOf (option_map_or (refilled view.now.tables moment content) (node_row view.now.tables.nodes node) []) blob Done) }
+{
     Ok(Allowed::Change {
-        changes: refill.changes(alloc, content)?,
+        changes: refilled(alloc, view, moment, node, content)?,
         blob,
         report: Report::Done,
     })
 }
 
-/// The version of that moment is the file's content again, if both are there.
+/// What becomes of the rows where that is another content.
+fn refilled(
+    alloc: Global,
+    view: &View<'_>,
+    moment: Moment,
+    node: NodeId,
+    content: Content,
+) -> Result<Changes, AllocError>
+    requires sound { AreSound view.now.tables }
+    requires file { is_file view.now.tables.nodes node ≡ true }
+    ensures { IfOk result (λ changes. changes ≡ option_map_or (refilled view.now.tables moment content) (node_row view.now.tables.nodes node) []) }
+{
+    match view.tree().node(node) {
+        Some(row) if !is_same(row, moment, &content) => {
+            let refill = Refill {
+                view,
+                row,
+                moment,
+                back: None,
+            };
+            refill.changes(alloc, content)
+        }
+        Some(_) | None => Ok(Changes::new(alloc)),
+    }
+}
+
+/// The version of that moment is the file's content again, if it is there.
 pub(crate) fn version_back(
     alloc: Global,
     view: &View<'_>,
     moment: Moment,
     node: NodeId,
     at: Moment,
-) -> Result<Allowed, AllocError> {
-    let Some(row) = view.tree().node(node) else {
-        return Ok(nothing_done(alloc));
-    };
-    let Some(version) = version_row(view, node, at) else {
-        return Ok(nothing_done(alloc));
-    };
-    let refill = Refill {
-        view,
-        row,
-        moment,
-        back: Some(at),
+) -> Result<Allowed, AllocError>
+    requires sound { AreSound view.now.tables }
+    ensures { IfOk result (λ allowed. allowed ≡ option_map_or (brought_back view.now.tables moment node) (version_row view.now.tables.versions node at) nothing_done) }
+{
+    match version_row(view, node, at) {
+        Some(version) => brought_back(alloc, view, moment, node, version),
+        None => Ok(nothing_done(alloc)),
+    }
+}
+
+fn brought_back(
+    alloc: Global,
+    view: &View<'_>,
+    moment: Moment,
+    node: NodeId,
+    version: &VersionRow,
+) -> Result<Allowed, AllocError>
+    requires sound { AreSound view.now.tables }
+    ensures { IfOk result (λ allowed. allowed ≡ brought_back view.now.tables moment node version.now) }
+{
+    let changes = match view.tree().node(node) {
+        Some(row) => {
+            let refill = Refill {
+                view,
+                row,
+                moment,
+                back: Some(version.at),
+            };
+            refill.changes(alloc, version.content.clone()?)?
+        }
+        None => Changes::new(alloc),
     };
     Ok(Allowed::Change {
-        changes: refill.changes(alloc, version.content.clone()?)?,
+        changes,
         blob: None,
         report: Report::Done,
     })
 }
 
 /// Whether what a file has becomes a version when it is replaced, beside those that stay.
-pub(crate) fn becomes_version(view: &View<'_>, row: &NodeRow, back: Option<Moment>) -> bool {
+pub(crate) fn becomes_version(view: &View<'_>, row: &NodeRow, back: Option<Moment>) -> bool
+    ensures { result ≡ becomes_version view.now.tables.versions back row.now }
+{
     if row.content.pieces().is_empty() {
         return false;
     }
@@ -85,26 +136,29 @@ pub(crate) fn becomes_version(view: &View<'_>, row: &NodeRow, back: Option<Momen
 }
 
 impl<'a> Refill<'a> {
-    /// The rows that change.
-    fn changes(&self, alloc: Global, content: Content) -> Result<Changes, AllocError> {
-        let mut changes = Changes::new(alloc);
-        if is_same(self.row, self.moment, &content) && self.back.is_none() {
-            return Ok(changes);
-        }
+    /// The rows that change: the file's, and those of versions.
+    fn changes(&self, alloc: Global, content: Content) -> Result<Changes, AllocError>
+        requires sound { AreSound self.view.now.tables }
+        requires file { is_folder_kind self.row.now.kind ≡ false }
+        ensures { IfOk result (λ changes. changes ≡ refills self.view.now.tables self.moment self.back content self.row.now) }
+    {
         let gone = self.gone(alloc, content.size())?;
+        let mut changes = Changes::new(alloc);
         changes.push(Change::Put(Row::Node(filled(self.row, self.moment, content)?)))?;
-        let is_kept = becomes_version(self.view, self.row, self.back);
-        let is_put = is_kept && !has_version(&gone, self.row.id, self.row.changed);
+        let becomes = becomes_version(self.view, self.row, self.back);
+        let is_put = becomes && !has_version(&gone, self.row.id, self.row.changed);
         if is_put {
             changes.push(Change::Put(Row::Version(version_for(self.row)?)))?;
         }
         self.push_back(&mut changes, is_put)?;
-        push_gone(&mut changes, self.row, is_kept, &gone)?;
+        push_gone(&mut changes, self.row, becomes, &gone)?;
         Ok(changes)
     }
 
-    /// The version that comes back leaves the list, unless another takes its place there.
-    fn push_back(&self, changes: &mut Changes, is_put: bool) -> Result<(), AllocError> {
+    /// The version that comes back leaves the list, unless what is replaced takes its place there.
+    fn push_back(&self, changes: &mut Changes, is_put: bool) -> Result<(), AllocError>
+        ensures { OnOk result (changes.new ≡ changes.old ++ drop_back self.back self.row.now is_put) }
+    {
         match self.back {
             Some(at) if !(is_put && at == self.row.changed) => {
                 changes.push(dropped(self.row.id, at))
@@ -114,9 +168,14 @@ impl<'a> Refill<'a> {
     }
 
     /// The versions that go then: of the file those that thin out, and of its owner those that are beyond the bound.
-    fn gone(&self, alloc: Global, size: u64) -> Result<Vec<Version>, AllocError> {
+    fn gone(&self, alloc: Global, size: u64) -> Result<Vec<Version>, AllocError>
+        requires sound { AreSound self.view.now.tables }
+        ensures { IfOk result (λ gone. (let to = charged self.view.now.tables self.row.now.owner (content_size self.row.now.content) size in gone.items ≡ gone_after self.view.now.tables self.moment self.back self.row.now to.quota to.charge)) }
+    {
         let mut held = self.held(alloc)?;
-        let mut gone = self.thin(alloc, &mut held)?;
+        let moments = self.thinned_out(alloc, &held)?;
+        let mut gone = those_at(alloc, &held, &moments)?;
+        leave_out(&mut held, &moments);
         let mut others = held_beside(alloc, self.view, self.row.owner, self.row.id)?;
         others.append(&mut held)?;
         let charged = charged(self.view, self.row.owner, self.row.content.size(), size);
@@ -126,58 +185,99 @@ impl<'a> Refill<'a> {
     }
 
     /// The versions of the file with what is replaced among them, newest first.
-    fn held(&self, alloc: Global) -> Result<Vec<Version>, AllocError> {
+    fn held(&self, alloc: Global) -> Result<Vec<Version>, AllocError>
+        ensures { IfOk result (λ held_now. held_now.items ≡ reverse (map held (with_replaced self.view.now.tables.versions self.back self.row.now))) }
+    {
         let mut held = self.staying(alloc)?;
         if becomes_version(self.view, self.row, self.back) {
-            let version = Version {
-                node: self.row.id,
-                at: self.row.changed,
-                size: self.row.content.size(),
-            };
-            let place = held.partition_point(|other| other.at < version.at);
-            held.insert(place, version)?;
+            insert(&mut held, replaced(self.row))?;
         }
         held.reverse();
         Ok(held)
     }
 
     /// Those of the file that are there and don't come back, the oldest first.
-    fn staying(&self, alloc: Global) -> Result<Vec<Version>, AllocError> {
+    fn staying(&self, alloc: Global) -> Result<Vec<Version>, AllocError>
+        ensures { IfOk result (λ versions. versions.items ≡ map held (staying self.view.now.tables.versions self.back self.row.now.id)) }
+    {
         let back = self.back;
         versions_of(self.view, self.row.id)
             .iter()
             .filter(|row| back != Some(row.at))
-            .map(|row| crate::settling::version(row))
+            .map(|row| version(row))
             .collect(alloc)
     }
 
-    /// Takes out those that thin out.
-    fn thin(&self, alloc: Global, held: &mut Vec<Version>) -> Result<Vec<Version>, AllocError> {
+    /// The moments of those that thin out, where there is something to replace.
+    fn thinned_out(&self, alloc: Global, held: &[Version]) -> Result<Vec<Moment>, AllocError>
+        requires { held.now ≡ reverse (map held (with_replaced self.view.now.tables.versions self.back self.row.now)) }
+        ensures { IfOk result (λ moments. moments.items ≡ thinned_out self.moment self.row.now (with_replaced self.view.now.tables.versions self.back self.row.now)) }
+    {
         if self.row.content.pieces().is_empty() {
             return Ok(Vec::new(alloc));
         }
-        let moments = moments_of(alloc, held)?;
-        let gone = thinned(alloc, self.moment, &moments)?;
-        let out = those_at(alloc, held, &gone)?;
-        held.retain(|version| !gone.contains(&version.at));
-        Ok(out)
+        thinned(alloc, self.moment, &moments_of(alloc, held)?)
     }
 }
 
-fn moments_of(alloc: Global, held: &[Version]) -> Result<Vec<Moment>, AllocError> {
+/// Puts a version of a file among its others, the oldest first.
+fn insert(held: &mut Vec<Version>, version: Version) -> Result<(), AllocError> {
+    let place = held.partition_point(|other| other.at < version.at);
+    held.insert(place, version)
+}
+
+fn moments_of(alloc: Global, held: &[Version]) -> Result<Vec<Moment>, AllocError>
+    ensures { IfOk result (λ moments. moments.items ≡ map (λ version. version.at) held.now) }
+{
     held.iter().map(|version| version.at).collect(alloc)
 }
 
+/// Whether the moment is one of some that fall.
+fn is_among(moments: &[Moment], at: Moment) -> bool
+    requires { AreFalling moments.now }
+    ensures { result ≡ is_among moments.now at }
+{
+    moments.binary_search_by(|moment| at.cmp(moment)).is_ok()
+}
+
 /// Those of some moments.
-fn those_at(alloc: Global, held: &[Version], moments: &[Moment]) -> Result<Vec<Version>, AllocError> {
+fn those_at(
+    alloc: Global,
+    held: &[Version],
+    moments: &[Moment],
+) -> Result<Vec<Version>, AllocError>
+    requires { AreFalling moments.now }
+    ensures { IfOk result (λ versions. versions.items ≡ filter (λ version. is_among moments.now version.at) held.now) }
+{
     held.iter()
-        .filter(|version| moments.contains(&version.at))
+        .filter(|version| is_among(moments, version.at))
         .copied()
         .collect(alloc)
 }
 
+/// Leaves those of some moments out.
+fn leave_out(held: &mut Vec<Version>, moments: &[Moment])
+    requires { AreFalling moments.now }
+    ensures { held.new.items ≡ filter (λ version. not (is_among moments.now version.at)) held.old.items }
+{
+    held.retain(|version| !is_among(moments, version.at));
+}
+
+/// What the bound sees of what is replaced.
+fn replaced(row: &NodeRow) -> Version
+    ensures { result ≡ held (version_for row.now) }
+{
+    Version {
+        node: row.id,
+        at: row.changed,
+        size: row.content.size(),
+    }
+}
+
 /// What a file has, as a version.
-fn version_for(row: &NodeRow) -> Result<VersionRow, AllocError> {
+fn version_for(row: &NodeRow) -> Result<VersionRow, AllocError>
+    ensures { IfOk result (λ version. version ≡ version_for row.now) }
+{
     Ok(VersionRow {
         node: row.id,
         at: row.changed,
@@ -186,19 +286,33 @@ fn version_for(row: &NodeRow) -> Result<VersionRow, AllocError> {
 }
 
 /// The change that drops a version.
-pub(crate) fn dropped(node: NodeId, at: Moment) -> Change {
+pub(crate) fn dropped(node: NodeId, at: Moment) -> Change
+    ensures { result ≡ Drop (keys.Version node at) }
+{
     Change::Drop(RowKey::Version { node, at })
 }
 
-/// The versions that go are dropped, but for what is replaced, which was none yet.
+/// Some versions are dropped.
+pub(crate) fn push_dropped(changes: &mut Changes, versions: &[Version]) -> Result<(), AllocError>
+    ensures { OnOk result (changes.new ≡ changes.old ++ map drop_version versions.now) }
+{
+    for version in versions {
+        changes.push(dropped(version.node, version.at))?;
+    }
+    Ok(())
+}
+
+/// The versions that go are dropped, but for what is replaced, which was none.
 fn push_gone(
     changes: &mut Changes,
     row: &NodeRow,
-    is_kept: bool,
+    becomes: bool,
     gone: &[Version],
-) -> Result<(), AllocError> {
+) -> Result<(), AllocError>
+    ensures { OnOk result (changes.new ≡ changes.old ++ drop_gone becomes row.now gone.now) }
+{
     for version in gone {
-        if !(is_kept && version.node == row.id && version.at == row.changed) {
+        if !(becomes && is_version(version, row.id, row.changed)) {
             changes.push(dropped(version.node, version.at))?;
         }
     }

@@ -1,10 +1,14 @@
 //! The versions of files: which there are, and what is sent and told of them.
 
-ghost use Rattle.std.specs.Prelude.{◌≡◌, ◌==◌, filter, IfOk, map, option_copied, reverse};
-ghost use Rattle.nf_words.specs.Versions.{lacks_version, unversioned, version_line, version_lines, version_row, version_sent, versions_of};
+ghost use Rattle.std.specs.Prelude.{◌≡◌, [], IfOk, None, map, option_copied};
+ghost use Rattle.std.specs.Option.{option_map_or};
+ghost use Rattle.nf_base.specs.declared.rows.VersionRow.{VersionRow as TheRow};
+ghost use Rattle.nf_reach.specs.Asking.{refusal_for};
+ghost use Rattle.nf_words.specs.Prelude.{access_of, act_asked, AreSound, needed_for, node_asked, nothing_done, unversioned, version_done, version_rule};
+ghost use Rattle.nf_words.specs.Versions.{version_line, version_lines, version_row, versions_of};
 ghost use Rattle.nf_words.specs.declared.answer.Allowed.TheVariants as allowed;
 ghost use Rattle.nf_words.specs.declared.answer.Report.TheVariants as report;
-ghost use Rattle.nf_decide.specs.Deciding.{asking_of};
+ghost use Rattle.nf_decide.specs.Deciding.{Follows, asking_of};
 
 use crate::deciding::Call;
 use crate::nodes::is_folder;
@@ -36,7 +40,9 @@ pub(crate) fn version_row<'a>(
 }
 
 /// The node that is asked about.
-fn node_asked(ask: &VersionAsk) -> NodeId {
+fn node_asked(ask: &VersionAsk) -> NodeId
+    ensures { result ≡ node_asked ask.now }
+{
     match ask {
         VersionAsk::List { node, .. }
         | VersionAsk::Get { node, .. }
@@ -45,7 +51,9 @@ fn node_asked(ask: &VersionAsk) -> NodeId {
 }
 
 /// What who asks has to be allowed at the node.
-fn act_asked(ask: &VersionAsk) -> Act {
+fn act_asked(ask: &VersionAsk) -> Act
+    ensures { result ≡ act_asked ask.now }
+{
     match ask {
         VersionAsk::List { .. } | VersionAsk::Get { .. } => Act::Read,
         VersionAsk::Restore { .. } => Act::Update,
@@ -72,6 +80,7 @@ impl<'a> Call<'a> {
     /// `no-share` and `broken-link`, where versions are asked about.
     pub(crate) fn version_refused(&self, asker: &Asker<'_>) -> Option<Denial>
         requires { asker.now ≡ asking_of self.now }
+        ensures { result ≡ refusal_for (asking_of self.entry.now) (needed_for (access_of self.entry.now.state) self.entry.now self.entry.now.request.wanted) }
     {
         let Wanted::Version(ask) = &self.request.wanted else {
             return None;
@@ -81,7 +90,10 @@ impl<'a> Call<'a> {
     }
 
     /// `kind` and `not-found`: a folder has no versions, or the file hasn't that one.
-    pub(crate) fn lacks_version(&self) -> Result<(), Denial> {
+    #[tactic(auto, unfolding(nf_words::specs::Reached::version_rule))]
+    pub(crate) fn lacks_version(&self) -> Result<(), Denial>
+        ensures { Follows (version_rule (access_of self.entry.now.state)) self.entry.now result }
+    {
         let Wanted::Version(ask) = &self.request.wanted else {
             return Ok(());
         };
@@ -106,7 +118,10 @@ impl<'a> Call<'a> {
         &self,
         alloc: Global,
         ask: &VersionAsk,
-    ) -> Result<Allowed, AllocError> {
+    ) -> Result<Allowed, AllocError>
+        requires { AreSound self.now.state.tables }
+        ensures { IfOk result (λ allowed. allowed ≡ version_done self.entry.now.state.tables self.entry.now.now ask.now) }
+    {
         let view = &self.view;
         match ask {
             VersionAsk::List { node, .. } => listed(alloc, view, *node),
@@ -148,7 +163,9 @@ fn sent(
     view: &View<'_>,
     node: NodeId,
     at: Moment,
-) -> Result<Allowed, AllocError> {
+) -> Result<Allowed, AllocError>
+    ensures { IfOk result (λ act. act ≡ option_map_or (λ (row : TheRow). allowed.Get node row.content) (version_row view.now.tables.versions node at) nothing_done) }
+{
     match version_row(view, node, at) {
         Some(row) => Ok(Allowed::Get {
             node,

@@ -1,6 +1,6 @@
 //! What a decision reads of the site: its parts, lent one by one.
 
-ghost use Rattle.std.specs.Prelude.{◌≡◌};
+ghost use Rattle.std.specs.Prelude.{◌≡◌, length, sum_by};
 ghost use Rattle.nf_tree.specs.Order.{AreRisingNodes};
 ghost use Rattle.nf_access.specs.Shares.{ground_of};
 ghost use Rattle.nf_words.specs.Charges.{charge_of};

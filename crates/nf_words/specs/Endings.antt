@@ -9,7 +9,8 @@ use Rattle.nf_defs.specs.Prelude.{Access, is_root, node_row, owner_of, Tables}
 use Rattle.nf_defs.specs.declared.Found.{Found}
 use Rattle.nf_defs.specs.declared.Found.TheVariants.{At, Free}
 use Rattle.nf_words.specs.Changes.{charged, new_node, refilled, unsettled}
-use Rattle.nf_words.specs.Versions.{drop_version}
+use Rattle.nf_base.specs.declared.rows.NodeRow.{NodeRow}
+use Rattle.nf_words.specs.Versions.{content_size, drop_version}
 use Rattle.nf_base.specs.declared.changes.Change.TheVariants.{Put}
 use Rattle.nf_base.specs.declared.rows.Row.TheVariants as rows
 use Rattle.nf_words.specs.Charges.{excess_at}
@@ -78,15 +79,19 @@ abbrev pub content_in : Option ℕ → List ℕ → ℕ → List Piece
 content_in None digest length = []
 content_in (Some blob) digest length = record { blob = blob; size = length; digest = digest } ∷ []
 
+-- a new file, whose body is in that blob, and the versions that go for it
+abbrev pub stored_new : Tables → NodeRow → Option ℕ → Allowed
+stored_new t row blob =
+    allowed.Change (Put (rows.Node row) ∷ map drop_version (unsettled t (charged t row.owner 0 (content_size row.content)) [])) blob
+    report.Made
+
 -- what storing a body does: another content of the file, or a file under the free name. Versions go that are beyond their bound then
 abbrev pub stored_at : Tables → ℕ → LockKey → List ℕ → ℕ → Allowed
 stored_at t now (Node node) digest length =
     let blob = blob_for t.meta.next_blob length in
     allowed.Change (option_map_or (refilled t now (content_in blob digest length)) (node_row t.nodes node) []) blob Done
 stored_at t now (Slot folder name) digest length =
-    let blob = blob_for t.meta.next_blob length in
-    let row = new_node t now folder name File (content_in blob digest length) in
-    allowed.Change (Put (rows.Node row) ∷ map drop_version (unsettled t (charged t row.owner 0 length) [])) blob report.Made
+    let blob = blob_for t.meta.next_blob length in stored_new t (new_node t now folder name File (content_in blob digest length)) blob
 
 abbrev pub stores : Access → Tables → ℕ → By → LockKey → List ℕ → ℕ → Result Allowed Denial
 stores access t now by key digest length = unless_refused (end_refusal access t now by key length) (stored_at t now key digest length)

@@ -13,7 +13,7 @@ use Rattle.nf_defs.specs.Prelude.{Access, node_row, parent_of}
 use Rattle.nf_defs.specs.declared.Seeker.{Seeker}
 use Rattle.nf_defs.specs.declared.Seeker.TheVariants.{User, Link}
 use Rattle.nf_words.specs.Asked.{Asked}
-use Rattle.nf_words.specs.Calls.{Call, Way, asked_by, asker_of, is_mount_asked, root_of, way_of}
+use Rattle.nf_words.specs.Calls.{Call, Way, asked_by, asker_of, is_mount_asked, root_of, seeker_of, way_of}
 use Rattle.nf_words.specs.Places.{folder_seen, node_found}
 use Rattle.nf_words.specs.declared.answer.By.{By}
 use Rattle.nf_words.specs.declared.answer.LockKey.{LockKey}
@@ -120,15 +120,18 @@ nearest (suc k) rows passes node =
 abbrev pub mount_above : List NodeRow → List MountRow → ℕ → ℕ → Option ℕ
 mount_above rows mounts user node = nearest MAX_DEPTH rows (is_mounted mounts user) node
 
--- that of the nearest that lets the user do the act
-abbrev pub granting_above : Access → List NodeRow → List MountRow → ℕ → ℕ → Act → ℕ → Option ℕ
-granting_above access rows mounts user now act node =
-    nearest MAX_DEPTH rows (λ above. is_mounted mounts user above && list_any (allows now act) (access (User user) above)) node
+-- the user has a mount of the node that lets who seeks access do the act
+abbrev pub is_granting : Access → List MountRow → Seeker → ℕ → ℕ → Act → ℕ → Bool
+is_granting access mounts seeker user now act node = is_mounted mounts user node && list_any (allows now act) (access seeker node)
+
+-- the node of the nearest such mount
+abbrev pub granting_above : Access → List NodeRow → List MountRow → Seeker → ℕ → ℕ → Act → ℕ → Option ℕ
+granting_above access rows mounts seeker user now act node = nearest MAX_DEPTH rows (is_granting access mounts seeker user now act) node
 
 -- the one by which an act is judged: the nearest that allows it, or else the nearest
-abbrev pub mount_by : Access → List NodeRow → List MountRow → ℕ → ℕ → Act → ℕ → Option ℕ
-mount_by access rows mounts user now act node =
-    option_or (granting_above access rows mounts user now act node) (mount_above rows mounts user node)
+abbrev pub mount_by : Access → List NodeRow → List MountRow → Seeker → ℕ → ℕ → Act → ℕ → Option ℕ
+mount_by access rows mounts seeker user now act node =
+    option_or (granting_above access rows mounts seeker user now act node) (mount_above rows mounts user node)
 
 -- versions are read, and are restored by who may update the file
 abbrev pub act_asked : VersionAsk → Act
@@ -145,7 +148,7 @@ abbrev pub version_needs : Access → Call → VersionAsk → List Need
 version_needs access call ask =
     let t = call.state.tables in
     needs (act_asked ask) (Some (node_asked ask))
-    (mount_by access t.nodes t.mounts (asker_of call) call.now (act_asked ask) (node_asked ask))
+    (mount_by access t.nodes t.mounts (seeker_of call) (asker_of call) call.now (act_asked ask) (node_asked ask))
 
 -- what is needed where versions are asked about
 abbrev pub needed_for : Access → Call → Wanted → List Need

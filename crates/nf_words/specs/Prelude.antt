@@ -10,7 +10,7 @@ pub use Rattle.nf_words.specs.Contents.{IsPieceSound, contents_of, row_content, 
 pub use Rattle.nf_words.specs.Copies.{copied_row, copies_of_all, copies_to, renamed}
 unfoldable pub use Rattle.nf_words.specs.Copies.{copies_within}
 pub use Rattle.nf_words.specs.Deeds.{closed_under, deed_done, deeds_done, discarded, dropped_under, ended_row, ended_under, forgotten, gone_under, is_closing, joined, purged, restored, told_deed, told_deeds, told_item, told_node}
-pub use Rattle.nf_words.specs.Endings.{blob_for, content_in, end_decision, end_lost, end_refusal, end_unallowed, end_unfit, end_unreached, ends_at, ends_goal, place_of, stored_at, stores, unless_refused}
+pub use Rattle.nf_words.specs.Endings.{blob_for, content_in, end_decision, end_lost, end_refusal, end_unallowed, end_unfit, end_unreached, ends_at, ends_goal, place_of, stored_at, stored_new, stores, unless_refused}
 pub use Rattle.nf_words.specs.Fine.{IsBorn, IsFilled, IsNewGroup, IsNewMember, IsNewMount, IsNewShare, IsNewToken, IsNewUser, IsOfPeople, IsOtherShare, IsRemounted, IsRequoted, IsUnmounted, StandsOn}
 pub use Rattle.nf_words.specs.History.{EndsAtDays, IsEnd, IsInBounds, IsLegal, IsLegalFrom, IsModest, LeavesRoom, MayAsk, MayBear, MayBring, MayCome, MayEnd, MayWant, NamesUser, after, after_mark, answer_at, failed, replay}
 pub use Rattle.nf_words.specs.Holds.{AreApartHolds, AreKeysApart, blocks, clashes, covers, IsHeld, is_exclusive, key_in_way, least, lesser, mode_of, node_of_key, same_key, Touch, touch_key, touch_under}

@@ -137,13 +137,12 @@ abbrev pub drop_version : Version → Change
 drop_version version = Drop (keys.Version version.node version.at)
 
 -- those that go are dropped, but for what is replaced, which was none
-abbrev pub drop_gone : Tables → Option ℕ → NodeRow → List Version → List Change
-drop_gone t back row gone =
-    map drop_version (filter (λ version. not (becomes_version t.versions back row && is_version row.id row.changed version)) gone)
+abbrev pub drop_gone : Bool → NodeRow → List Version → List Change
+drop_gone becomes row gone = map drop_version (filter (λ version. not (becomes && is_version row.id row.changed version)) gone)
 
 -- what becomes of the versions where a content becomes another
 abbrev pub turned_over : Tables → Option ℕ → NodeRow → List Version → List Change
-turned_over t back row gone = put_replaced t back row gone ++ (drop_back back row (is_put t back row gone) ++ drop_gone t back row gone)
+turned_over t back row gone = put_replaced t back row gone ++ (drop_back back row (is_put t back row gone) ++ drop_gone (becomes_version t.versions back row) row gone)
 
 -- the versions of a node are dropped
 abbrev pub forgotten_of : List VersionRow → ℕ → List Change
