@@ -9,7 +9,7 @@ mod replies;
 mod requests;
 mod spots;
 mod trash;
-mod versions;
+mod version_requests;
 mod words;
 
 pub use replies::{

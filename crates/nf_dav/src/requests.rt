@@ -14,7 +14,7 @@ use crate::fields::{overwrites, second_segments};
 use crate::fronts::{Front, first, front_on};
 use crate::spots::{name, spot};
 use crate::trash::{is_trash_route, trash_request};
-use crate::versions::{is_version_route, version_request};
+use crate::version_requests::{is_version_route, version_request};
 use nf_base::{Digest, MAX_OCS_BODY};
 use nf_http::Message;
 use nf_ocs::{Unread, is_ocs_route};
