@@ -223,7 +223,8 @@ impl<'a> Refill<'a> {
 /// Puts a version of a file among its others, the oldest first.
 fn insert(held: &mut Vec<Version>, version: Version) -> Result<(), AllocError> {
     let place = held.partition_point(|other| other.at < version.at);
-    held.insert(place, version)
+    held.insert(place, version)?;
+    Ok(())
 }
 
 fn moments_of(alloc: Global, held: &[Version]) -> Result<Vec<Moment>, AllocError>

@@ -17,7 +17,7 @@ use std::alloc::{AllocError, Global};
 use std::marker::Model;
 
 /// An owner whose files take up so many bytes after a step, and may take up so many.
-#[derive(Clone, Copy)]
+#[derive(Drop)]
 pub(crate) struct Charged {
     pub owner: UserId,
     pub charge: u128,
