@@ -26,7 +26,7 @@ use nf_mounts::Mounts;
 use nf_opening::Loaded;
 use nf_people::{People, PeopleRows};
 use nf_shares::Shares;
-use nf_table::{ItemKey, Table};
+use nf_trash::Trash;
 use nf_tree::Tree;
 use nf_words::{Allowed, Deed, Deeds, Goal, NodeRows, Ticket};
 use std::alloc::{AllocError, Global};
@@ -40,7 +40,7 @@ pub(crate) struct Tables {
     tree: Tree,
     shares: Shares,
     mounts: Mounts,
-    items: Table<ItemRow>,
+    items: Trash,
 }
 
 impl Model for Tables {
@@ -80,7 +80,7 @@ impl Tables {
             tree,
             shares,
             mounts: Mounts::load(alloc, parts.mounts)?,
-            items: Table::of(parts.items),
+            items: Trash::load(alloc, parts.items)?,
         })
     }
 
@@ -214,7 +214,7 @@ impl Tables {
                 let _ = self.people.drop_member(*group, *user);
             }
             RowKey::Item(node) => {
-                let _ = self.items.drop(&ItemKey { node: *node });
+                self.items.drop(*node);
             }
             RowKey::Meta
             | RowKey::User(_)
@@ -283,7 +283,7 @@ impl Tables {
     fn has_item(&self, node: NodeId) -> bool
         ensures { result ≡ is_some (item_row self.now.tables.items node) }
     {
-        self.items.find(&ItemKey { node }).is_some()
+        self.items.find(node).is_some()
     }
 
     /// Takes out the nodes of a run of items for good, each with all under it and with its item. Of what is in the trash no share is left
@@ -354,7 +354,7 @@ impl Tables {
         ensures tables { self.new.tables ≡ record self.old.tables { items = dropped item_key (node ∷ []) self.old.tables.items } }
         ensures room { self.new.room ≡ self.old.room }
     {
-        let _ = self.items.drop(&ItemKey { node });
+        self.items.drop(node);
     }
 
     /// Puts new nodes in, with the next numbers.
