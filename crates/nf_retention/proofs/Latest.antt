@@ -1,11 +1,13 @@
 -- Versions, newest first.
-use Rattle.std.proofs.Common.{◌≡◌, ◌<◌, ◌≤◌, ◌∙◌, ◌⊎◌, ℕ, Bool, true, false, List, [], ◌∷◌, map, refl, ap, subst, arith}
+use Rattle.std.proofs.Common.{◌≡◌, ◌∙◌, ℕ, List, [], ◌∷◌, drop, map, refl, ap, subst}
 use Rattle.std.specs.Cmp.{IsStrictWeakOrder}
 use Rattle.std.specs.List.Sorted.{IsPermutation}
 use Rattle.std.specs.Prelude.{if◌then◌else◌}
+use Rattle.nf_retention.specs.Budget.{IsLongestWithin, fitting}
 use Rattle.nf_retention.specs.Laws.{LatestIsRight}
-use Rattle.nf_retention.specs.Versions.{AreLatestFirst, is_later, latest_first, put_latest}
+use Rattle.nf_retention.specs.Versions.{AreLatestFirst, beyond, is_later, latest_first, put_latest}
 use Rattle.nf_retention.specs.declared.versions.Version.{Version}
+use Rattle.nf_retention.proofs.Fronts.{fitting_only, fitting_right}
 use Rattle.nf_retention.proofs.Newest.{chain, not_newer, one_way}
 use Rattle.nf_retention.proofs.Puts.{put, puts, puts_ascend, puts_same}
 
@@ -26,4 +28,11 @@ puts_latest (version ∷ versions) = ap (put is_later version) (puts_latest vers
 pub latest_right : LatestIsRight
 latest_right versions =
     let falls : AreLatestFirst (puts is_later versions) = λ i j d before within. not_newer _ _ _ _ (puts_ascend is_later latest_order versions i j d before within) in
-    (subst AreLatestFirst (puts_latest versions) falls, subst (IsPermutation versions) (puts_latest versions) (puts_same is_later latest_order versions))
+    (subst AreLatestFirst (puts_latest versions) falls, subst (IsPermutation versions) (puts_latest versions) (puts_same is_later versions))
+
+-- those behind the longest front within the bound go
+pub behind_front : (bound count : ℕ) (versions : List Version) → IsLongestWithin bound (map (λ version. version.size) (latest_first versions)) count
+    → drop count (latest_first versions) ≡ beyond bound versions
+behind_front bound count versions longest =
+    let sizes = map (λ (version : Version). version.size) (latest_first versions) in
+    ap (λ (n : ℕ). drop n (latest_first versions)) (fitting_only bound sizes count (fitting bound sizes) longest (fitting_right bound sizes))
