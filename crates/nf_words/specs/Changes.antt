@@ -176,15 +176,13 @@ purged_by other = []
 abbrev pub unsettled : Tables → Charged → List ℕ → List Version
 unsettled t to gone = beyond_bound to.quota to.charge (held_without t to.owner gone)
 
+-- some versions go
+abbrev pub forgets : List Version → List Deed
+forgets versions = map (λ version. deed.Forget version.node version.at) versions
+
 -- deeds, and those by which an owner's versions go that are beyond their bound then
 abbrev pub settled_by : Tables → Charged → List Deed → List Deed
-settled_by t to deeds =
-    deeds ++ map (λ (version : Version). deed.Forget version.node version.at) (unsettled t to (flat_map purged_by deeds))
-
--- the owner of the folder of copies is charged for them, in the place of what they replace
-abbrev pub charged_for : Tables → Transfer → Charged
-charged_for t transfer =
-    charged t (owner_of t.nodes transfer.folder) (option_map_or (size_of t.nodes) transfer.replaced 0) (size_of t.nodes transfer.node)
+settled_by t to deeds = deeds ++ forgets (unsettled t to (flat_map purged_by deeds))
 
 -- MOVE puts the node that is there, and COPY copies of it and of all under it, into the target's folder under the target's name. What
 -- is replaced is put in the trash. What goes to another owner is copied there, and is then put in the trash of its owner. What goes for
@@ -195,18 +193,26 @@ moves t now name transfer =
 
 abbrev pub copies : Tables → ℕ → List ℕ → Transfer → List Deed
 copies t now name transfer =
-    settled_by t (charged_for t transfer)
-    (discards t now transfer.replaced ++ deed.Join (copies_to t now transfer name) ∷ besides t now transfer.replaced)
+    discards t now transfer.replaced ++ deed.Join (copies_to t now transfer name) ∷ besides t now transfer.replaced
 
 abbrev pub crossing : Tables → ℕ → List ℕ → Transfer → List Deed
 crossing t now name transfer =
-    settled_by t (charged_for t transfer)
-    (discards t now transfer.replaced
+    discards t now transfer.replaced
     ++ deed.Join (copies_to t now transfer name)
-    ∷ (discards t now (Some transfer.node) ++ (besides t now transfer.replaced ++ besides t now (Some transfer.node))))
+    ∷ (discards t now (Some transfer.node) ++ (besides t now transfer.replaced ++ besides t now (Some transfer.node)))
 
+-- the owner of the folder of copies is charged for them, in the place of what they replace
+abbrev pub charged_for : Tables → Transfer → Charged
+charged_for t transfer =
+    charged t (owner_of t.nodes transfer.folder) (option_map_or (size_of t.nodes) transfer.replaced 0) (size_of t.nodes transfer.node)
+
+-- of the versions of that owner those go last that are beyond their bound then
 abbrev pub carries : Tables → ℕ → List ℕ → Transfer → List Deed
-carries t now name transfer = if crosses t.nodes transfer then crossing t now name transfer else moves t now name transfer
+carries t now name transfer =
+    if crosses t.nodes transfer then settled_by t (charged_for t transfer) (crossing t now name transfer) else moves t now name transfer
+
+abbrev pub copies_settled : Tables → ℕ → List ℕ → Transfer → List Deed
+copies_settled t now name transfer = settled_by t (charged_for t transfer) (copies t now name transfer)
 
 abbrev pub moved : Tables → ℕ → List ℕ → Option Transfer → Allowed
 moved t now name transfer =
@@ -214,7 +220,7 @@ moved t now name transfer =
 
 abbrev pub copied : Tables → ℕ → List ℕ → Option Transfer → Allowed
 copied t now name transfer =
-    option_map_or (λ transfer. done (copies t now name transfer) (made_or_done transfer.replaced)) transfer allowed.Close
+    option_map_or (λ transfer. done (copies_settled t now name transfer) (made_or_done transfer.replaced)) transfer allowed.Close
 
 -- the change that puts the row of a mount, if there is one
 abbrev pub mounting : Option MountRow → List Change
@@ -292,12 +298,12 @@ gone_beside t now item = gone_of t now (quota_of t item.owner) (items_but t item
 abbrev pub item_dropped : Tables → ℕ → ItemRow → Allowed
 item_dropped t now item = done (purges (item.node ∷ gone_beside t now item)) report.Done
 
+-- an item comes back, and of the others those go that do then
+abbrev pub restoring : Tables → ℕ → ItemRow → List Deed
+restoring t now item = deed.Restore item.node (home_of t item) (name_back t item) ∷ purges (gone_beside t now item)
+
 abbrev pub item_restored : Tables → ℕ → ItemRow → Allowed
-item_restored t now item =
-    done
-    (settled_by t (charged t item.owner 0 (item_size t item))
-    (deed.Restore item.node (home_of t item) (name_back t item) ∷ purges (gone_beside t now item)))
-    report.Made
+item_restored t now item = done (settled_by t (charged t item.owner 0 (item_size t item)) (restoring t now item)) report.Made
 
 abbrev pub trash_done : Call → TrashAsk → Allowed
 trash_done call (trash.List user) = allowed.Change [] None (report.Items (item_lines call.state.tables (asker_of call)))
@@ -308,17 +314,23 @@ trash_done call (trash.Restore user item) = option_map_or (item_restored call.st
 
 -- ---- versions
 
--- a file has another content: its row, and what becomes of versions
+-- a file has that content since that moment
+abbrev pub is_same : ℕ → List Piece → NodeRow → Bool
+is_same now content row = content_eq row.content content && row.changed == now
+
+-- what becomes of versions where that is a file's content, with the one of the moment `back` in its place, where one comes back
+abbrev pub turns_over : Tables → ℕ → Option ℕ → List Piece → NodeRow → List Change
+turns_over t now back content row =
+    let to = charged t row.owner (content_size row.content) (content_size content) in turned_over t back row (gone_after t now back row to.quota to.charge)
+
+-- a file has that content: its row, if that is another, and what becomes of versions
 abbrev pub refills : Tables → ℕ → Option ℕ → List Piece → NodeRow → List Change
 refills t now back content row =
-    let to = charged t row.owner (content_size row.content) (content_size content) in
-    Put (rows.Node (filled content now row))
-    ∷ turned_over t back row (gone_after t now back row to.quota to.charge)
+    (if is_same now content row then [] else Put (rows.Node (filled content now row)) ∷ []) ++ turns_over t now back content row
 
--- where that is another content, or since another moment
+-- nothing, where it has
 abbrev pub refilled : Tables → ℕ → List Piece → NodeRow → List Change
-refilled t now content row =
-    if content_eq row.content content && row.changed == now then [] else refills t now None content row
+refilled t now content row = if is_same now content row then [] else refills t now None content row
 
 -- a version is its file's content again
 abbrev pub brought_back : Tables → ℕ → ℕ → VersionRow → Allowed
@@ -342,15 +354,18 @@ swept t now = done (purges (flat_map (gone_from t now) (owners_of t.items))) rep
 
 -- ---- people
 
--- a user has another quota, if it is another, and of the user's trash and versions what is beyond it goes
+-- a user has another quota, and of the user's trash what is beyond it goes
+abbrev pub requoting : Tables → ℕ → ℕ → UserRow → List Deed
+requoting t now quota row = deed.Requote (record row { quota = quota }) ∷ purges (gone_of t now quota (items_of t row.id))
+
+-- a user with that quota
+abbrev pub charged_to : Tables → ℕ → UserRow → Charged
+charged_to t quota row = record { owner = row.id; charge = charge_of t row.id; quota = quota }
+
+-- if it is another; and of the user's versions
 abbrev pub requoted : Tables → ℕ → ℕ → UserRow → Allowed
 requoted t now quota row =
-    if row.quota == quota then nothing_done
-    else
-    done
-    (settled_by t (record { owner = row.id; charge = charge_of t row.id; quota = quota })
-    (deed.Requote (record row { quota = quota }) ∷ purges (gone_of t now quota (items_of t row.id))))
-    report.Plain
+    if row.quota == quota then nothing_done else done (settled_by t (charged_to t quota row) (requoting t now quota row)) report.Plain
 
 abbrev pub people_done : Tables → ℕ → PeopleAsk → Allowed
 people_done t now (people.SetQuota user quota) = option_map_or (requoted t now quota) (row_named t user) nothing_done

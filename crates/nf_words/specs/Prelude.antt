@@ -3,7 +3,7 @@ pub use Rattle.nf_words.specs.Asked.{Asked, asked_about, asked_of, asked_of_tras
 pub use Rattle.nf_words.specs.Callers.{asks_by_link, is_caller, may_ask}
 unfoldable pub use Rattle.nf_words.specs.Callers.{not_you_rule, token_rule}
 pub use Rattle.nf_words.specs.Calls.{Call, Way, Ways, asked_by, asker_of, behind, caller_row, found, is_by_link, is_itself, is_mount_asked, is_one, last_name, link_of, linked_of, mount_for, mount_of, mounted, place_at, places_by, places_of, root_of, seeker_of, user_of, way_by, way_of, ways_for, ways_of}
-pub use Rattle.nf_words.specs.Changes.{above, allowed_of, altered, beside, besides, blob_after, blob_of, brought_back, by_of, carries, changed, Charged, charged, charged_for, changes_of, copied, copies, counted, crossing, deleted, discard, discards, done, given, goal_of, goes_itself, gone_beside, gone_from, gone_with, hold_of, item_dropped, item_restored, left_row, made_folder, made_or_done, makes, meta_after, mount_left, mount_renamed, mounting, moved, moves, named_row, new_node, nothing_done, own_mount, people_done, purged_by, purges, raised, refilled, refills, reply_to, reported, requoted, row_at, same_end, served, set_row, settled_by, share_ended, share_made, share_set, share_told, shared, shown, stamped, stored, swept, told, trash_done, unsettled, version_done, with_goal, with_meta, with_mount_row}
+pub use Rattle.nf_words.specs.Changes.{above, allowed_of, altered, beside, besides, blob_after, blob_of, brought_back, by_of, carries, changed, Charged, charged, charged_for, charged_to, changes_of, copied, copies, copies_settled, counted, crossing, deleted, discard, discards, done, forgets, given, goal_of, goes_itself, gone_beside, gone_from, gone_with, hold_of, item_dropped, is_same, item_restored, left_row, made_folder, made_or_done, makes, meta_after, mount_left, mount_renamed, mounting, moved, moves, named_row, new_node, nothing_done, own_mount, people_done, purged_by, purges, raised, refilled, refills, reply_to, reported, requoted, requoting, restoring, row_at, same_end, served, set_row, settled_by, share_ended, share_made, share_set, share_told, shared, shown, stamped, stored, swept, told, trash_done, turns_over, unsettled, version_done, with_goal, with_meta, with_mount_row}
 pub use Rattle.nf_words.specs.Charges.{back_excess, carry_excess, copy_excess, counted_for, exceeded, excess, excess_at, is_over, quota_of, restore_excess}
 unfoldable pub use Rattle.nf_words.specs.Charges.{charge_of, quota_rule}
 pub use Rattle.nf_words.specs.Contents.{IsPieceSound, contents_of, row_content, stored_pieces}
@@ -11,7 +11,7 @@ pub use Rattle.nf_words.specs.Copies.{copied_row, copies_of_all, copies_to, rena
 unfoldable pub use Rattle.nf_words.specs.Copies.{copies_within}
 pub use Rattle.nf_words.specs.Deeds.{closed_under, deed_done, deeds_done, discarded, dropped_under, ended_row, ended_under, forgotten, gone_under, is_closing, joined, purged, restored, told_deed, told_deeds, told_item, told_node}
 pub use Rattle.nf_words.specs.Endings.{blob_for, content_in, end_decision, end_lost, end_refusal, end_unallowed, end_unfit, end_unreached, ends_at, ends_goal, place_of, stored_at, stored_new, stores, unless_refused}
-pub use Rattle.nf_words.specs.Fine.{IsBorn, IsFilled, IsNewGroup, IsNewMember, IsNewMount, IsNewShare, IsNewToken, IsNewUser, IsOfPeople, IsOtherShare, IsRemounted, IsRequoted, IsUnmounted, StandsOn}
+pub use Rattle.nf_words.specs.Fine.{IsBorn, IsFilled, IsNewGroup, IsNewMember, IsNewMount, IsNewShare, IsNewToken, IsNewUser, IsNewVersion, IsOfPeople, IsOtherShare, IsRemounted, IsRequoted, IsUnmounted, StandsOn}
 pub use Rattle.nf_words.specs.History.{EndsAtDays, IsEnd, IsInBounds, IsLegal, IsLegalFrom, IsModest, LeavesRoom, MayAsk, MayBear, MayBring, MayCome, MayEnd, MayWant, NamesUser, after, after_mark, answer_at, failed, replay}
 pub use Rattle.nf_words.specs.Holds.{AreApartHolds, AreKeysApart, blocks, clashes, covers, IsHeld, is_exclusive, key_in_way, least, lesser, mode_of, node_of_key, same_key, Touch, touch_key, touch_under}
 pub use Rattle.nf_words.specs.Later.{HasNoLater, is_later}

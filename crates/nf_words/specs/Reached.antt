@@ -102,7 +102,7 @@ unversioned call ask =
     let t = call.state.tables in
     let node = node_asked ask in
     if is_rooted t.nodes node
-        && (is_owner t.nodes (seeker_of call) node || is_some (mount_above t.nodes t.mounts (asker_of call) node))
+    && (is_owner t.nodes (seeker_of call) node || is_some (mount_above t.nodes t.mounts (asker_of call) node))
     then None
     else Some denial.NotFound
 

@@ -1,7 +1,8 @@
 -- The versions of files: which a file has, which it keeps when its content becomes another, and which of an owner's go.
-use Rattle.std.specs.Prelude.{ℕ, ◌+◌, ◌-◌, zero, suc, ◌==◌, ◌&&◌, ◌||◌, not, Bool, true, false, List, [], ◌∷◌, ◌++◌, filter, find, map, reverse, sum_by, is_empty, Option, None, Some, is_none, is_some, option_and_then, if◌then◌else◌}
+use Rattle.std.specs.Prelude.{ℕ, ◌==◌, ◌&&◌, ◌||◌, not, Bool, false, List, [], ◌∷◌, ◌++◌, filter, find, length, map, reverse, sum_by, Option, None, Some, is_none, is_some, if◌then◌else◌}
 use Rattle.std.specs.List.{flat_map, list_any}
 use Rattle.std.specs.Option.{option_map_or}
+use Rattle.nf_base.specs.Content.{content_eq}
 use Rattle.nf_base.specs.declared.changes.Change.{Change}
 use Rattle.nf_base.specs.declared.changes.Change.TheVariants.{Put, Drop}
 use Rattle.nf_base.specs.declared.changes.RowKey.TheVariants as keys
@@ -29,6 +30,10 @@ version_row versions node at = find (λ row. row.node == node && row.at == at) v
 -- those of nodes that are there
 abbrev pub versions_there : List NodeRow → List VersionRow → List VersionRow
 versions_there nodes versions = filter (λ row. is_some (node_row nodes row.node)) versions
+
+-- a content of no bytes
+abbrev pub is_empty : List Piece → Bool
+is_empty content = length content == 0
 
 -- the bytes of a content
 abbrev pub content_size : List Piece → ℕ
@@ -121,17 +126,22 @@ gone_after t now back row quota charge =
 abbrev pub is_version : ℕ → ℕ → Version → Bool
 is_version node at version = version.node == node && version.at == at
 
--- what is replaced is put, where it stays
-abbrev pub is_put : Tables → Option ℕ → NodeRow → List Version → Bool
-is_put t back row gone = becomes_version t.versions back row && not (list_any (is_version row.id row.changed) gone)
+-- what is replaced is a version then
+abbrev pub stays_version : Tables → Option ℕ → NodeRow → List Version → Bool
+stays_version t back row gone = becomes_version t.versions back row && not (list_any (is_version row.id row.changed) gone)
 
-abbrev pub put_replaced : Tables → Option ℕ → NodeRow → List Version → List Change
-put_replaced t back row gone = if is_put t back row gone then Put (rows.Version (version_for row)) ∷ [] else []
+-- the file has a version of that moment and content already
+abbrev pub has_already : List VersionRow → NodeRow → Bool
+has_already versions row = option_map_or (λ version. content_eq version.content row.content) (version_row versions row.id row.changed) false
+
+-- so it is put, unless it is there already
+abbrev pub put_replaced : Tables → NodeRow → Bool → List Change
+put_replaced t row stays = if stays && not (has_already t.versions row) then Put (rows.Version (version_for row)) ∷ [] else []
 
 -- the one that comes back is dropped, unless what is replaced takes its place
 abbrev pub drop_back : Option ℕ → NodeRow → Bool → List Change
-drop_back None row put = []
-drop_back (Some at) row put = if put && at == row.changed then [] else Drop (keys.Version row.id at) ∷ []
+drop_back None row stays = []
+drop_back (Some at) row stays = if stays && at == row.changed then [] else Drop (keys.Version row.id at) ∷ []
 
 abbrev pub drop_version : Version → Change
 drop_version version = Drop (keys.Version version.node version.at)
@@ -142,7 +152,9 @@ drop_gone becomes row gone = map drop_version (filter (λ version. not (becomes 
 
 -- what becomes of the versions where a content becomes another
 abbrev pub turned_over : Tables → Option ℕ → NodeRow → List Version → List Change
-turned_over t back row gone = put_replaced t back row gone ++ (drop_back back row (is_put t back row gone) ++ drop_gone (becomes_version t.versions back row) row gone)
+turned_over t back row gone =
+    let stays = stays_version t back row gone in
+    put_replaced t row stays ++ (drop_back back row stays ++ drop_gone (becomes_version t.versions back row) row gone)
 
 -- the versions of a node are dropped
 abbrev pub forgotten_of : List VersionRow → ℕ → List Change

@@ -369,7 +369,10 @@ pub enum Deed {
     /// A user has another quota.
     Requote(UserRow),
     /// The version of that moment of a file is there no more.
-    Forget { node: NodeId, at: Moment },
+    Forget {
+        node: NodeId,
+        at: Moment,
+    },
 }
 
 /// What a step does, one after the other.

@@ -67,7 +67,10 @@ pub enum Wanted {
 #[derive(Drop)]
 pub enum VersionAsk {
     /// Which versions a file has.
-    List { user: Name, node: NodeId },
+    List {
+        user: Name,
+        node: NodeId,
+    },
     /// The content of one, by its moment.
     Get {
         user: Name,
