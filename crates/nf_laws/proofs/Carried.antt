@@ -52,12 +52,13 @@ pub record Kind (t : Tables) (now : ℕ) (deeds : List Deed) (leave : List ℕ) 
     meta = meta;
     nodes = (deeds_done t (one ∷ more)).nodes;
     shares = (deeds_done t (one ∷ more)).shares;
+    versions = (deeds_done t (one ∷ more)).versions;
     items = (deeds_done t (one ∷ more)).items;
   }
 
 -- the rows of the tables that a deed leaves alone
 abbrev Rest : Tables → Tables → Type 0
-Rest t u = u ≡ record t { nodes = u.nodes; shares = u.shares; items = u.items }
+Rest t u = u ≡ record t { nodes = u.nodes; shares = u.shares; versions = u.versions; items = u.items }
 
 discard_rest : (t u : Tables) (now : ℕ) (row : NodeRow) → Rest u (deed_done u (discard t now row))
 discard_rest t u now row =

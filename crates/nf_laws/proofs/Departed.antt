@@ -87,10 +87,10 @@ module _ (t : Tables) (now : ℕ) (deeds : List Deed) (leave : List ℕ) (IsPut 
       → node_row after.nodes node ≡ node_row t.nodes node
   others_after node put off other = row_then node other ∙ acted.others node put off
 
-  pub rest_after : after ≡ record t { meta = meta; nodes = after.nodes; shares = after.shares; items = after.items }
+  pub rest_after : after ≡ record t { meta = meta; nodes = after.nodes; shares = after.shares; versions = after.versions; items = after.items }
   rest_after =
       purged_rest u kind.gone
-      ∙ ap (λ (v : Tables). record v { nodes = after.nodes; shares = after.shares; items = after.items }) kind.rest
+      ∙ ap (λ (v : Tables). record v { nodes = after.nodes; shares = after.shares; versions = after.versions; items = after.items }) kind.rest
 
   -- what is present is under none of what goes
   pub present_after : (node : ℕ) → LeadsToRoot t.nodes node → node_row after.nodes node ≡ node_row u.nodes node
@@ -146,6 +146,7 @@ kind_changed t now deeds leave IsPut Put meta report sound later kind =
     told_at (deed.Relink node folder name) some = some
     told_at (deed.Join rows) some = some
     told_at (deed.Requote row) some = some
+    told_at (deed.Forget node at) some = some
 
     some : 1 ≤ length (told_deeds t deeds)
     some =

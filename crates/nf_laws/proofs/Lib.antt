@@ -41,7 +41,9 @@ pub mod Moved
 pub mod Numbers
 pub mod OneRow
 pub mod Opening
+pub mod Files
 pub mod Others
+pub mod Turned
 pub mod Peopled
 pub mod Owned
 pub mod Parts
@@ -50,6 +52,7 @@ pub mod Presence
 pub mod Present
 pub mod Providing
 pub mod Purged
+pub mod Forgotten
 pub mod Puts
 pub mod Quotas
 pub mod Reached

@@ -24,7 +24,7 @@ use Rattle.nf_defs.specs.declared.Seeker.{Seeker}
 use Rattle.nf_defs.specs.declared.Seeker.TheVariants.{User}
 use Rattle.nf_laws.specs.Reads.{IsFreeToRead, IsWellAsked}
 use Rattle.nf_laws.specs.Tree.{Under}
-use Rattle.nf_words.specs.Prelude.{access_of, after, answer_to, asker_of, behind, Call, call_of, deeds_done, ended_row, goal_at, home_of, is_joined, is_member, IsModest, IsSound, kind_of, kind_to, last_name, listing_of, may_by, MayCome, MayWant, membership, mount_of, name_back, Need, needed, needed_by, new_root, new_user, own_item, people_limit, perms_after, purges, receiver_named, restored, root_of, row_named, seeker_of, set_fault, set_row, State, until_after, usual_perms}
+use Rattle.nf_words.specs.Prelude.{access_of, after, answer_to, asker_of, behind, Call, call_of, deeds_done, ended_row, goal_at, home_of, is_joined, is_member, IsModest, IsSound, kind_of, kind_to, last_name, listing_of, may_by, MayCome, MayWant, membership, mount_of, name_back, Need, needed, needed_by, new_root, new_user, own_item, people_limit, perms_after, purges, receiver_named, restored, root_of, row_named, seeker_of, set_fault, set_row, State, until_after, usual_perms, forgets}
 use Rattle.nf_words.specs.Tokens.{link_token}
 use Rattle.nf_words.specs.declared.answer.Goal.{Goal}
 use Rattle.nf_words.specs.declared.answer.Goal.TheVariants.{Serve, Store}
@@ -45,6 +45,7 @@ use Rattle.nf_words.specs.declared.request.TrashAsk.{TrashAsk}
 use Rattle.nf_words.specs.declared.request.TrashAsk.TheVariants as trash
 use Rattle.nf_words.specs.declared.request.ShareAsk.TheVariants as ask
 use Rattle.nf_words.specs.declared.request.Words.{Words}
+use Rattle.nf_retention.specs.declared.versions.Version.{Version}
 
 -- ---- who may do what
 
@@ -396,11 +397,12 @@ pub data Settles (s : State) (e : Entry) : ℕ → Type 0 where
 abbrev pub IsItemSettled : State → Entry → ℕ → Type 0
 IsItemSettled s e node = (item : ItemRow) × (item_row s.tables.items node ≡ Some item) × Settles s e item.owner
 
--- some items in trashes that are settled go for good then, each with all under it
+-- some items in trashes that are settled go for good then, each with all under it, and then versions
 pub record IsSettled (s : State) (e : Entry) (before after : Tables) : Type 0 where
   pub tops : List ℕ
   pub items : All (IsItemSettled s e) tops
-  pub gone : after ≡ deeds_done before (purges tops)
+  pub versions : List Version
+  pub gone : after ≡ deeds_done before (purges tops ++ forgets versions)
 
 -- ---- what a step changes
 
@@ -418,10 +420,11 @@ pub record NodesAllowed (s : State) (e : Entry) (after : Tables) : Type 0 where
     nodes = after.nodes;
     shares = after.shares;
     mounts = after.mounts;
+    versions = after.versions;
     items = after.items;
   }
 
--- and then trashes are settled, if any are
+-- and then trashes and versions are settled, if any are
 pub record ChangesAllowed (s : State) (e : Entry) (after : Tables) : Type 0 where
   pub between : Tables
   pub allowed : NodesAllowed s e between ⊎ (IsProviding s e between ⊎ IsRestoring s e between)
