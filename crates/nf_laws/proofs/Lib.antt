@@ -16,6 +16,7 @@ pub mod Counters
 pub mod Departed
 pub mod Discarding
 pub mod Ended
+pub mod Turning
 pub mod Entries
 pub mod Exceeding
 pub mod Fitting
