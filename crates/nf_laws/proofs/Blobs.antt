@@ -67,12 +67,13 @@ use Rattle.nf_words.specs.declared.request.TrashAsk.{TrashAsk}
 use Rattle.nf_words.specs.declared.request.TrashAsk.TheVariants as trash
 use Rattle.nf_words.specs.declared.request.Wanted.{Wanted}
 use Rattle.nf_words.specs.declared.request.Wanted.TheVariants as wanted
-use Rattle.nf_laws.proofs.Turning.{IsOldVersion, altered_old}
+use Rattle.nf_laws.proofs.Turning.{altered_old}
 use Rattle.nf_base.specs.declared.rows.VersionRow.{VersionRow}
 use Rattle.nf_retention.specs.declared.versions.Version.{Version}
 use Rattle.nf_words.specs.declared.request.VersionAsk.{VersionAsk}
 use Rattle.nf_words.specs.declared.request.VersionAsk.TheVariants as version
 use Rattle.nf_words.specs.Versions.{drop_back, drop_gone, has_already, is_version, put_replaced, stays_version, version_for}
+use Rattle.nf_laws.specs.Acts.{IsOldVersion}
 
 -- ---- a blob that is stored has the next number
 
