@@ -17,6 +17,7 @@ pub mod Departed
 pub mod Discarding
 pub mod Ended
 pub mod Turning
+pub mod Behind
 pub mod Refilled
 pub mod Entries
 pub mod Exceeding

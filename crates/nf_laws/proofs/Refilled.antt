@@ -37,6 +37,17 @@ versions_only u (change ∷ changes) of =
     here (Drop (keys.Version node at)) of rest = rest
     here change of rest = absurd of
 
+-- they count for nothing
+pub versions_count : (meta : MetaRow) (changes : List Change) → All IsOfVersions changes → counted meta changes ≡ meta
+versions_count meta [] of = refl
+versions_count meta (change ∷ changes) of =
+    here change (All-head IsOfVersions change changes of) (versions_count meta changes (All-tail IsOfVersions change changes of))
+  where
+    here : (change : Change) → IsOfVersions change → counted meta changes ≡ meta → counted (above meta change) changes ≡ meta
+    here (Put (rows.Version row)) of rest = rest
+    here (Drop (keys.Version node at)) of rest = rest
+    here change of rest = absurd of
+
 pub drops_only : (gone : List Version) → All IsOfVersions (map drop_version gone)
 drops_only gone = All-map IsOfVersions drop_version gone (λ k d within. tt)
 
