@@ -25,7 +25,7 @@ use Rattle.nf_words.proofs.Passing.{Passes, call_passes, if_none}
 use Rattle.nf_words.proofs.Starts.{has_asker}
 use Rattle.nf_words.proofs.Steps.{ok_reply, reports_nothing}
 use Rattle.nf_words.proofs.Ways.{bounded, way_there}
-use Rattle.nf_words.specs.Prelude.{access_of, allowed_of, answered_by, AreSound, behind, broken_by, by_of, Call, call_decision, call_of, copied, deleted, done, found, given, gone_of, item_dropped, item_restored, items_of, last_name, listing_of, made_folder, may_by, MayWant, mount_left, mount_of, mount_renamed, moved, Need, node_at, node_found, nothing_done, offered, own_item, people_done, perms_after, purges, reported, requoted, root_of, row_named, seeker_of, served, share_ended, share_made, share_set, share_shown, share_steered, until_after, share_told, shared, stored, transfer_of, trash_done, unreached, way_by, way_of}
+use Rattle.nf_words.specs.Prelude.{access_of, allowed_of, answered_by, AreSound, behind, broken_by, by_of, Call, call_decision, call_of, copied, deleted, done, found, given, gone_of, item_dropped, item_restored, items_of, last_name, listing_of, made_folder, may_by, MayWant, mount_left, mount_of, mount_renamed, moved, Need, node_at, node_found, nothing_done, offered, own_item, people_done, perms_after, purges, reported, requoted, root_of, row_named, seeker_of, served, share_ended, share_made, share_set, share_shown, share_steered, until_after, share_told, shared, stored, transfer_of, trash_done, unreached, way_by, way_of, charged_to, requoting, settled_by}
 use Rattle.nf_words.specs.declared.answer.Allowed.{Allowed}
 use Rattle.nf_words.specs.declared.answer.Allowed.TheVariants as allowed
 use Rattle.nf_words.specs.declared.answer.Report.TheVariants as report
@@ -57,6 +57,7 @@ report_lists_none report.Done listing = λ is. cc
 report_lists_none (report.Share line) listing = λ is. cc
 report_lists_none (report.Shares lines) listing = λ is. cc
 report_lists_none (report.Items lines) listing = λ is. cc
+report_lists_none (report.Versions lines) listing = λ is. cc
 report_lists_none report.Plain listing = λ is. cc
 
 -- only a GET is granted a content to send
@@ -125,7 +126,7 @@ people_hides : (t : Tables) (now : ℕ) (asked : PeopleAsk) → is_shown (people
 people_hides t now (people.SetQuota user quota) =
     found_hides (requoted t now quota) (row_named t user) (λ row.
     either_hides (row.quota == quota) nothing_done
-    (done (deed.Requote (record row { quota = quota }) ∷ purges (gone_of t now quota (items_of t row.id))) report.Plain) refl refl)
+    (done (settled_by t (charged_to t quota row) (requoting t now quota row)) report.Plain) refl refl)
 people_hides t now (people.NewUser name token quota) = refl
 people_hides t now (people.NewGroup name) = refl
 people_hides t now (people.AddMember user group) = refl

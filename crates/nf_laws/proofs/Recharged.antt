@@ -32,7 +32,7 @@ use Rattle.nf_laws.proofs.Upwards.{climbs_is_under}
 use Rattle.nf_laws.proofs.Weighing.{copies_owned, parts_sum, without_owned}
 use Rattle.nf_laws.specs.Charges.{bytes_owned, owned_bytes}
 use Rattle.nf_words.proofs.Found.{child_parent}
-use Rattle.nf_words.proofs.Known.{KnownCopies, KnownCross, KnownDeeds, KnownLeaving, KnownMove, KnownTransfer}
+use Rattle.nf_words.proofs.Known.{KnownCopies, KnownCross, KnownDeeds, KnownLeaving, KnownMove, KnownTransfer, alone}
 use Rattle.nf_words.proofs.Known.KnownDeeds.{by_copying, by_crossing, by_moving}
 use Rattle.nf_words.proofs.Transfers.{replaced_leaves}
 use Rattle.nf_words.proofs.Ways.{inside_present, inside_there}
@@ -514,7 +514,7 @@ first_sound : (t : Tables) (now : ℕ) (xs ys : List Deed) → AreSound t → t.
     → AreSound (stamp (deeds_done t xs) now)
 first_sound t now xs ys sound later known =
     subst AreSound (deeds_stamped t now xs)
-    (turn_sound (stamp t now) now xs ys (stamp_sound t now sound later) refl (step_turn t now (xs ++ ys) sound later known))
+    (turn_sound (stamp t now) now xs ys (stamp_sound t now sound later) refl (step_turn t now (xs ++ ys) sound later (alone t now (xs ++ ys) known)))
 
 module _ (t : Tables) (now user : ℕ) (transfer : Transfer) (name : List ℕ) (sound : AreSound t) (later : t.meta.last ≤ now) where
   -- the deeds by which what is replaced leaves its place

@@ -14,10 +14,11 @@ use Rattle.nf_base.specs.declared.rows.VersionRow.{VersionRow}
 use Rattle.nf_defs.specs.Prelude.{filled, made, node_key, put, put_all, Tables}
 use Rattle.nf_laws.proofs.Lists.{put_more}
 use Rattle.nf_retention.specs.declared.versions.Version.{Version}
-use Rattle.nf_words.specs.Prelude.{becomes_version, changed, charged, content_size, drop_version, gone_after, is_same, refilled, refills, turned_over, turns_over}
+use Rattle.nf_words.specs.Prelude.{becomes_version, changed, charged, content_size, drop_version, gone_after, is_same, refilled, refills, turned_over, turns_over, above, counted}
 use Rattle.nf_words.specs.Versions.{drop_back, drop_gone, has_already, is_version, put_replaced, stays_version, version_for}
 use Rattle.nf_words.specs.declared.answer.Allowed.TheVariants as allowed
 use Rattle.nf_words.specs.declared.answer.Report.{Report}
+use Rattle.nf_base.specs.declared.rows.MetaRow.{MetaRow}
 
 -- ---- changes of versions alone
 
