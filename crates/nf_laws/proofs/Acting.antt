@@ -74,7 +74,7 @@ use Rattle.nf_words.specs.declared.request.TrashAsk.{TrashAsk}
 use Rattle.nf_words.specs.declared.request.TrashAsk.TheVariants as trash
 use Rattle.nf_words.specs.declared.request.Wanted.{Wanted}
 use Rattle.nf_words.specs.declared.request.Wanted.TheVariants as wanted
-use Rattle.nf_laws.proofs.Refilled.{added_made, drops_only, IsOfVersions, turned_only, versions_count, versions_only}
+use Rattle.nf_laws.proofs.Refilled.{added_made, drops_only, IsOfVersions, turned_only, versions_count, versions_only, filled_same}
 use Rattle.nf_laws.proofs.Turning.{added_fewer, altered_old, discard_keeps, KeepsVersions, purges_keep, versions_left, deeds_fewer}
 use Rattle.nf_laws.proofs.InTurn.{deeds_append}
 use Rattle.nf_retention.specs.declared.versions.Version.{Version}
@@ -574,10 +574,6 @@ blobs_counted next size digest = here (size == 0)
     here true = omega arith
     here false = omega arith
 
--- a row with the content and the moment that it has is as it was
-filled_same : (row : NodeRow) (content : List Piece) (now : ℕ) → row.content ≡ content → row.changed ≡ now → row ≡ filled content now row
-filled_same row content now same moment = λ i. record row { content = same i; changed = moment i }
-
 over_rows : (t : Tables) (now node : ℕ) (content : List Piece) (blob : Option ℕ) (row : NodeRow) → AreSound t
     → node_row t.nodes node ≡ Some row → is_folder_kind row.kind ≡ false → (refilled t now content row ≡ [] → blob ≡ None)
     → blob_after t.meta.next_blob blob ≡ t.meta.next_blob + length content → All (IsOldVersion t) (put_all t (refilled t now content row)).versions
@@ -589,13 +585,11 @@ over_rows t now node content blob row sound there file stored counts old = here 
 
     same : is_same now content row ≡ true → blob ≡ None → All (IsOldVersion t) t.versions → IsAfter []
     same e none old =
-        let parts = and_parts (content_eq row.content content) (row.changed == now) e in
         record {
           row = row;
           there = there;
           file = file;
-          itself = there ∙ ap (λ (r : NodeRow). Some r)
-              (filled_same row content now ((content_decides row.content content).0 parts.0) (eqb-true row.changed now parts.1));
+          itself = there ∙ ap (λ (r : NodeRow). Some r) (filled_same row content now e);
           others = λ other differs. refl;
           versions = old;
           rest = λ i. record t { meta = record t.meta { next_blob = (ap (blob_after t.meta.next_blob) (sym none) ∙ counts) i } };

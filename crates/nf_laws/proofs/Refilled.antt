@@ -1,8 +1,8 @@
 -- The tables where a file has another content, and with a new file: but for its node only versions are others.
-use Rattle.std.proofs.Common.{◌≡◌, ◌==◌, ◌&&◌, ℕ, not, Bool, true, false, List, [], ◌∷◌, ◌++◌, ◌∙◌, filter, map, if◌then◌else◌, refl, sym, ap}
+use Rattle.std.proofs.Common.{◌≡◌, ◌==◌, ◌&&◌, ℕ, not, Bool, true, false, List, [], ◌∷◌, ◌++◌, ◌∙◌, filter, map, if◌then◌else◌, refl, sym, ap, ◌≢◌, subst}
 use Rattle.std.specs.Prelude.{None, Option, Some}
 use Rattle.std.specs.List.{All}
-use Rattle.std.proofs.lemmas.Bool.{cond_both}
+use Rattle.std.proofs.lemmas.Bool.{cond_both, and_parts, eqb-true}
 use Rattle.std.proofs.lemmas.List.Elements.{All-append, All-cons, All-head, All-map, All-nil, All-tail}
 use Rattle.nf_base.specs.declared.changes.Change.{Change}
 use Rattle.nf_base.specs.declared.changes.Change.TheVariants.{Drop, Put}
@@ -11,14 +11,19 @@ use Rattle.nf_base.specs.declared.content.Piece.{Piece}
 use Rattle.nf_base.specs.declared.rows.NodeRow.{NodeRow}
 use Rattle.nf_base.specs.declared.rows.Row.TheVariants as rows
 use Rattle.nf_base.specs.declared.rows.VersionRow.{VersionRow}
-use Rattle.nf_defs.specs.Prelude.{filled, made, node_key, put, put_all, Tables}
+use Rattle.nf_defs.specs.Prelude.{filled, made, node_key, put, put_all, Tables, node_row}
 use Rattle.nf_laws.proofs.Lists.{put_more}
 use Rattle.nf_retention.specs.declared.versions.Version.{Version}
-use Rattle.nf_words.specs.Prelude.{becomes_version, changed, charged, content_size, drop_version, gone_after, is_same, refilled, refills, turned_over, turns_over, above, counted}
+use Rattle.nf_words.specs.Prelude.{becomes_version, changed, charged, content_size, drop_version, gone_after, is_same, refilled, refills, turned_over, turns_over, above, counted, AreSound}
 use Rattle.nf_words.specs.Versions.{drop_back, drop_gone, has_already, is_version, put_replaced, stays_version, version_for}
 use Rattle.nf_words.specs.declared.answer.Allowed.TheVariants as allowed
 use Rattle.nf_words.specs.declared.answer.Report.{Report}
 use Rattle.nf_base.specs.declared.rows.MetaRow.{MetaRow}
+use Rattle.nf_base.specs.Content.{content_eq}
+use Rattle.nf_words.proofs.Bodies.{content_decides}
+use Rattle.nf_words.proofs.Fits.{put_found}
+use Rattle.nf_laws.proofs.Puts.{put_other}
+use Rattle.nf_laws.proofs.Rows.{row_is}
 
 -- ---- changes of versions alone
 
@@ -121,3 +126,49 @@ pub changed_nodes : (t : Tables) (now : ℕ) (changes : List Change) (blob : Opt
     → (changed t now (allowed.Change changes blob report)).nodes ≡ (put_all t changes).nodes
 changed_nodes t now [] blob report = refl
 changed_nodes t now (change ∷ changes) blob report = refl
+
+pub changed_rest : (t : Tables) (now : ℕ) (changes : List Change) (blob : Option ℕ) (report : Report)
+    → changed t now (allowed.Change changes blob report)
+    ≡ record (put_all t changes) { meta = (changed t now (allowed.Change changes blob report)).meta }
+changed_rest t now [] blob report = refl
+changed_rest t now (change ∷ changes) blob report = refl
+
+-- ---- a file that is filled
+
+-- a node has another content since that moment, and no other is another
+pub record IsFilledAt (before after : List NodeRow) (now node : ℕ) (content : List Piece) : Type 0 where
+  pub row : NodeRow
+  pub there : node_row before node ≡ Some row
+  pub itself : node_row after node ≡ Some (record row { content = content; changed = now })
+  pub others : (other : ℕ) → other ≢ node → node_row after other ≡ node_row before other
+
+-- a row that has the content since then
+pub filled_same : (row : NodeRow) (content : List Piece) (now : ℕ) → is_same now content row ≡ true
+    → row ≡ record row { content = content; changed = now }
+filled_same row content now e =
+    let parts = and_parts (content_eq row.content content) (row.changed == now) e in
+    let same = (content_decides row.content content).0 parts.0 in
+    let moment = eqb-true row.changed now parts.1 in λ i. record row { content = same i; changed = moment i }
+
+pub filled_at : (t : Tables) (now node : ℕ) (content : List Piece) (row : NodeRow) → AreSound t → node_row t.nodes node ≡ Some row
+    → IsFilledAt t.nodes (nodes_filled t now content row) now node content
+filled_at t now node content row sound there = here (is_same now content row) refl
+  where
+    new : NodeRow
+    new = filled content now row
+
+    here : (b : Bool) → is_same now content row ≡ b → IsFilledAt t.nodes (if b then t.nodes else put node_key new t.nodes) now node content
+    here true e = record {
+      row = row;
+      there = there;
+      itself = there ∙ ap (λ (r : NodeRow). Some r) (filled_same row content now e);
+      others = λ other differs. refl;
+    }
+    here false e =
+        let id = (row_is t node row sound there).0 in
+        record {
+          row = row;
+          there = there;
+          itself = subst (λ (n : ℕ). node_row (put node_key new t.nodes) n ≡ Some new) id (put_found new t.nodes);
+          others = λ other differs. put_other new t.nodes other (λ is. differs (is ∙ id));
+        }
