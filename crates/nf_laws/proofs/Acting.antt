@@ -1,16 +1,15 @@
 -- What a DELETE, a MKCOL and a PUT change, a MOVE of a mount, and what is asked about the trash.
-use Rattle.std.proofs.Common.{find, max, ℕ, ◌+◌, ◌≤◌, zero, suc, ◌-◌, option_map, ◌==◌, ◌&&◌, ◌≡◌, ◌<◌, Bool, true, false, not, List, [], ◌∷◌, ◌++◌, Option, None, Some, Result, Ok, if◌then◌else◌, length, get_or, map, slice_get, unwrap_or, inl, inr, refl, sym, ap, subst, ◌∙◌, arith, length-append, flat_map}
+use Rattle.std.proofs.Common.{find, max, ℕ, ◌+◌, ◌≤◌, zero, suc, ◌-◌, option_map, ◌==◌, ◌≡◌, ◌<◌, Bool, true, false, not, List, [], ◌∷◌, ◌++◌, Option, None, Some, Result, Ok, if◌then◌else◌, length, get_or, map, slice_get, unwrap_or, inl, inr, refl, sym, ap, subst, ◌∙◌, arith, length-append, flat_map}
 use Rattle.std.specs.Prelude.{is_some, IsOk}
 use Rattle.std.specs.List.{All, Contains, flat_map}
 use Rattle.nf_defs.proofs.ByName.{Contains-filter}
 use Rattle.nf_defs.proofs.Walks.{Contains-from_flat}
 use Rattle.std.specs.Option.{IfSome, option_map_or}
 use Rattle.std.proofs.Math.Seq.{get_or-append_seam}
-use Rattle.std.proofs.lemmas.Bool.{and_parts, cases_Bool, eqb-true, ne_eqb, not-true}
+use Rattle.std.proofs.lemmas.Bool.{cases_Bool, eqb-true, ne_eqb, not-true}
 use Rattle.std.proofs.lemmas.List.Elements.{All-cons, All-contains, All-contains_itself, All-weaker, Contains-append_left, Contains-append_right}
 use Rattle.std.proofs.lemmas.Option.{unwrap_or-slice_get}
 use Rattle.nf_access.specs.Mounts.{mount_row}
-use Rattle.nf_base.specs.Content.{content_eq}
 use Rattle.nf_base.specs.declared.changes.Change.{Change}
 use Rattle.nf_base.specs.declared.changes.Change.TheVariants.{Put}
 use Rattle.nf_base.specs.declared.content.Piece.{Piece}
@@ -45,7 +44,6 @@ use Rattle.nf_laws.specs.Acts.{AreTaken, DeletesKeep, DropsKeep, EmptyingKeeps, 
 use Rattle.nf_laws.specs.Reads.{LeadsToKey}
 use Rattle.nf_laws.specs.Walks.{LeadsToFree}
 use Rattle.nf_words.proofs.Begins.{delete_leaves, only_at, places_at, wanted_passes, WantedPasses}
-use Rattle.nf_words.proofs.Bodies.{content_decides}
 use Rattle.nf_words.proofs.Ends.{known_change, goal_held}
 use Rattle.nf_words.proofs.Fits.{newest, put_found, KnownChange}
 use Rattle.nf_words.proofs.Found.{free_known, last_more, last_of}

@@ -16,7 +16,7 @@ use Rattle.nf_laws.specs.Access.{by_asking, by_delete, by_quota, by_sweep, Chang
 use Rattle.nf_words.proofs.Begins.{wanted_passes, WantedPasses}
 use Rattle.nf_words.proofs.Ends.{known_change, goal_held}
 use Rattle.nf_words.proofs.Known.{Known}
-use Rattle.nf_words.proofs.Passing.{acts_pass, call_passes, end_passes, needs_pass, not_refused, Passes, all_acts_pass}
+use Rattle.nf_words.proofs.Passing.{call_passes, end_passes, needs_pass, not_refused, Passes, all_acts_pass}
 use Rattle.nf_words.proofs.Starts.{has_asker, IsAsking}
 use Rattle.nf_words.specs.Prelude.{access_of, allowed_of, AreSound, blob_for, Call, call_of, call_decision, changed, content_in, decision_of, deeds_done, end_refusal, ends_at, given, goal_at, IsSound, IsStorable, MayAsk, MayEnd, MayWant, Need, needed, needed_by, places_of, purges, seeker_of, State, stored_at, swept, forgets, needed_for, mount_by, asker_of}
 use Rattle.nf_words.specs.declared.answer.Allowed.{Allowed}

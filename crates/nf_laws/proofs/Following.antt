@@ -11,7 +11,7 @@ use Rattle.nf_base.specs.declared.rows.ShareRow.{ShareRow}
 use Rattle.nf_defs.specs.Prelude.{folder_of, node_row, Tables}
 use Rattle.nf_laws.proofs.Regions.{none_given}
 use Rattle.nf_laws.specs.Access.{Follows, IsMadeIn, IsNeeded, in_it, in_made, is_made, is_updated}
-use Rattle.nf_laws.specs.Acts.{IsAdded, IsRefilled}
+use Rattle.nf_laws.specs.Acts.{IsAdded}
 use Rattle.nf_laws.specs.Transfers.{IsPlacedCopy, Mirrors}
 use Rattle.nf_words.specs.Prelude.{AreSound, ended_row, Need}
 use Rattle.nf_words.specs.declared.request.Transfer.{Transfer}

@@ -26,7 +26,7 @@ use Rattle.nf_words.proofs.Ensured.{each_new, each_of}
 use Rattle.nf_words.proofs.Fits.{newest}
 use Rattle.nf_words.proofs.Passing.{Passes}
 use Rattle.nf_words.proofs.Provided.{none_of}
-use Rattle.nf_words.specs.Prelude.{access_of, altered, AreSound, asked_by, asker_of, Call, call_of, changed, deed_done, done, given, gone_of, is_about_people, is_caller, is_joined, is_member, is_taken, joined_by, IsInBounds, IsSound, items_of, left_by, may_ask, MayWant, membership, mounts_joined, new_root, new_user, nothing_done, not_you_rule, people_changed, people_done, places_of, purges, put_mounts, raised, requoted, row_named, State, told, users_of, settled_by, charged_to, requoting, unsettled, purged_by}
+use Rattle.nf_words.specs.Prelude.{access_of, altered, AreSound, asked_by, asker_of, Call, call_of, changed, deed_done, done, given, gone_of, is_about_people, is_caller, is_joined, is_member, is_taken, joined_by, IsInBounds, IsSound, items_of, left_by, may_ask, MayWant, membership, mounts_joined, new_root, new_user, nothing_done, not_you_rule, people_changed, people_done, places_of, put_mounts, raised, requoted, row_named, State, told, users_of, settled_by, charged_to, requoting, unsettled, purged_by}
 use Rattle.nf_words.specs.declared.answer.Allowed.TheVariants as allowed
 use Rattle.nf_words.specs.declared.answer.Breach.{Breach}
 use Rattle.nf_words.specs.declared.answer.Breach.TheVariants as rule

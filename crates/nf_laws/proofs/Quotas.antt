@@ -1,17 +1,14 @@
 -- No act takes a charge beyond its quota.
-use Rattle.std.proofs.Common.{ℕ, ◌+◌, ◌==◌, ◌&&◌, ◌≡◌, ◌≤◌, ◌⊎◌, Bool, true, false, List, [], ◌∷◌, ◌++◌, Option, None, Some, Result, Ok, if◌then◌else◌, inl, inr, refl, ap, subst, ◌∙◌, arith, le_refl, sym}
+use Rattle.std.proofs.Common.{ℕ, ◌+◌, ◌==◌, ◌≡◌, ◌≤◌, ◌⊎◌, Bool, true, false, List, [], ◌∷◌, ◌++◌, Option, None, Some, Result, Ok, if◌then◌else◌, inl, inr, refl, ap, subst, ◌∙◌, arith, le_refl, sym}
 use Rattle.std.specs.Prelude.{sum_by}
 use Rattle.std.specs.List.{flat_map, All}
 use Rattle.std.specs.Option.{IfSome, option_and_then, option_map_or}
 use Rattle.std.proofs.lemmas.Bool.{cond_both, eqb-true}
 use Rattle.std.proofs.lemmas.List.Sums.{sum_by_push}
-use Rattle.nf_base.specs.Content.{content_eq}
 use Rattle.nf_base.specs.declared.changes.Change.{Change}
-use Rattle.nf_base.specs.declared.changes.Change.TheVariants.{Put}
 use Rattle.nf_base.specs.declared.content.Piece.{Piece}
 use Rattle.nf_base.specs.declared.rows.MetaRow.{MetaRow}
 use Rattle.nf_base.specs.declared.rows.NodeRow.{NodeRow}
-use Rattle.nf_base.specs.declared.rows.Row.TheVariants as rows
 use Rattle.nf_defs.specs.Prelude.{Access, filled, node_row, owner_of, Tables, content_of, is_folder, put_all}
 use Rattle.nf_laws.proofs.Affording.{Affords, call_affords}
 use Rattle.nf_laws.proofs.Charging.{alike, charge_beside}
@@ -225,10 +222,13 @@ asked_keeps : (t : Tables) (now user : ℕ) (act : Allowed) → AreSound t → t
     → AllKept t user (stamp (altered t now act) now)
 unfolding charge_of
 asked_keeps t now user (allowed.Change changes blob report) sound later known affords light =
-    inl (elim light [
-      | inl of ↦ rows_keep t now user changes blob report sound known affords of
-      | inr keeps ↦ keeps
-    ], act_kept t now (allowed.Change changes blob report) sound later known tt)
+    inl (
+      elim light [
+        | inl of ↦ rows_keep t now user changes blob report sound known affords of
+        | inr keeps ↦ keeps
+      ],
+      act_kept t now (allowed.Change changes blob report) sound later known tt,
+    )
 asked_keeps t now user (allowed.Deeds deeds report) sound later known affords light = inr (affords user)
 asked_keeps t now user act sound later known affords light = inl (inl (le_refl _), all_kept t sound)
 

@@ -1,5 +1,5 @@
 -- What who asks is served is what may be read, and what may be read is served: the own, and what a mount leads to.
-use Rattle.std.proofs.Common.{ℕ, ◌==◌, ◌≡◌, ◌≢◌, false, subst, true, Bool, List, [], ◌∷◌, Option, None, Some, Result, Ok, refl, sym, ap, ◌∙◌, ◌⊎◌, inl, inr}
+use Rattle.std.proofs.Common.{ℕ, ◌==◌, ◌≡◌, ◌≢◌, false, subst, true, Bool, List, [], Option, None, Some, Result, Ok, refl, sym, ap, ◌∙◌, ◌⊎◌, inl, inr}
 use Rattle.std.specs.Prelude.{if◌then◌else◌}
 use Rattle.std.specs.List.{list_any, All}
 use Rattle.std.specs.Option.{option_map_or}
@@ -25,12 +25,11 @@ use Rattle.nf_words.proofs.Passing.{Passes, call_passes, if_none, MayDo, version
 use Rattle.nf_words.proofs.Starts.{has_asker}
 use Rattle.nf_words.proofs.Steps.{ok_reply, reports_nothing}
 use Rattle.nf_words.proofs.Ways.{bounded, way_there}
-use Rattle.nf_words.specs.Prelude.{access_of, allowed_of, answered_by, AreSound, behind, broken_by, by_of, Call, call_decision, call_of, copied, deleted, done, found, given, gone_of, item_dropped, item_restored, items_of, last_name, listing_of, made_folder, may_by, MayWant, mount_left, mount_of, mount_renamed, moved, Need, node_at, node_found, nothing_done, offered, own_item, people_done, perms_after, purges, reported, requoted, root_of, row_named, seeker_of, served, share_ended, share_made, share_set, share_shown, share_steered, until_after, share_told, shared, stored, transfer_of, trash_done, unreached, way_by, way_of, charged_to, requoting, settled_by, version_done, version_row, brought_back, mount_by, needed_for, asker_of}
+use Rattle.nf_words.specs.Prelude.{access_of, allowed_of, answered_by, AreSound, behind, broken_by, by_of, Call, call_decision, call_of, copied, deleted, done, found, given, item_dropped, item_restored, last_name, listing_of, made_folder, may_by, MayWant, mount_left, mount_of, mount_renamed, moved, Need, node_at, node_found, nothing_done, offered, own_item, people_done, perms_after, reported, requoted, root_of, row_named, seeker_of, served, share_ended, share_made, share_set, share_shown, share_steered, until_after, share_told, shared, stored, transfer_of, trash_done, unreached, way_by, way_of, charged_to, requoting, settled_by, version_done, version_row, brought_back, mount_by, needed_for, asker_of}
 use Rattle.nf_words.specs.declared.answer.Allowed.{Allowed}
 use Rattle.nf_words.specs.declared.answer.Allowed.TheVariants as allowed
 use Rattle.nf_words.specs.declared.answer.Report.TheVariants as report
 use Rattle.nf_words.specs.declared.answer.By.{By}
-use Rattle.nf_words.specs.declared.answer.Deed.TheVariants as deed
 use Rattle.nf_words.specs.declared.answer.Denial.{Denial}
 use Rattle.nf_words.specs.declared.answer.Goal.TheVariants.{Serve}
 use Rattle.nf_words.specs.declared.answer.Reply.TheVariants.{Granted, Listing}

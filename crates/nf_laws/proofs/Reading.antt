@@ -1,5 +1,5 @@
 -- What a PUT stored is what a later GET of the path is granted.
-use Rattle.std.proofs.Common.{ℕ, Bool, suc, ◌+◌, ◌==◌, ◌&&◌, ◌≡◌, true, false, not, List, [], ◌∷◌, ◌++◌, Option, None, Some, Result, Ok, length, take, option_map, refl, sym, ap, subst, ◌∙◌, arith, le_refl, ◌≢◌, ◌<◌, get_or}
+use Rattle.std.proofs.Common.{ℕ, Bool, suc, ◌+◌, ◌==◌, ◌≡◌, true, false, not, List, [], ◌∷◌, ◌++◌, Option, None, Some, Result, Ok, length, take, option_map, refl, sym, ap, subst, ◌∙◌, arith, le_refl, ◌≢◌, ◌<◌, get_or}
 use Rattle.std.specs.Prelude.{IsOk, is_some, if◌then◌else◌}
 use Rattle.std.specs.Option.{option_map_or, IfSome}
 use Rattle.std.proofs.Math.Seq.{take-length}
@@ -9,13 +9,10 @@ use Rattle.nf_access.specs.Access.{Allows, allows, is_open}
 use Rattle.nf_access.specs.Mounts.{mount_at}
 use Rattle.nf_access.specs.Shares.{Ground, ground_of}
 use Rattle.nf_base.specs.Content.{content_eq}
-use Rattle.nf_base.specs.declared.changes.Change.{Change}
-use Rattle.nf_base.specs.declared.changes.Change.TheVariants.{Put}
 use Rattle.nf_base.specs.declared.content.Piece.{Piece}
 use Rattle.nf_base.specs.declared.rows.NodeKind.TheVariants.{File}
 use Rattle.nf_base.specs.declared.rows.NodeRow.{NodeRow}
 use Rattle.nf_base.specs.declared.rows.Place.TheVariants.{Inside}
-use Rattle.nf_base.specs.declared.rows.Row.TheVariants as rows
 use Rattle.nf_base.specs.declared.rows.ShareRow.{ShareRow}
 use Rattle.nf_defs.proofs.Climbs.{holds_some}
 use Rattle.nf_defs.specs.Prelude.{child_of, filled, is_folder, is_folder_kind, Leads, leads_on, node_key, node_row, put, stays, Tables, with_node}
@@ -41,7 +38,7 @@ use Rattle.nf_words.proofs.Orders.{none_of}
 use Rattle.nf_words.proofs.Passing.{Passes, in_order}
 use Rattle.nf_words.proofs.Starts.{by_link, by_user, has_asker, IsAsking, link_mount, link_seeks, user_no_link, user_seeks}
 use Rattle.nf_words.proofs.Ways.{bounded}
-use Rattle.nf_words.specs.Prelude.{access_of, acts_rule, after, after_mark, allowed_of, answered_by, AreSound, asker_of, blob_for, broken_by, Call, call_decision, call_of, caller_row, changed, content_in, decision_of, end_refusal, ends_at, exists_rule, found, IsSound, IsHeld, IsStorable, is_by_link, is_owner, limit_rule, link_of, linked_of, makes, may_by, mount_for, mount_of, mounted, new_node, overwrite_rule, place_rule, refilled, replay, root_of, rules, seeker_of, shown, State, stored_at, stores, target_rule, unless_refused, unreached, way_of, AreApartHolds, HoldsFor, IsTicketSound, step, ticket_of, without_ticket, Way, way_by, named_rule, sharing_rule, room_rule, quota_rule, is_same, stored_new, charged, content_size, unsettled, version_rule}
+use Rattle.nf_words.specs.Prelude.{access_of, acts_rule, after, after_mark, allowed_of, answered_by, AreSound, asker_of, blob_for, broken_by, Call, call_decision, call_of, caller_row, changed, content_in, decision_of, end_refusal, ends_at, exists_rule, found, IsSound, IsHeld, IsStorable, is_by_link, is_owner, limit_rule, link_of, linked_of, may_by, mount_for, mount_of, mounted, new_node, overwrite_rule, place_rule, refilled, replay, root_of, rules, seeker_of, shown, State, stored_at, stores, target_rule, unless_refused, unreached, way_of, AreApartHolds, HoldsFor, IsTicketSound, step, ticket_of, without_ticket, Way, way_by, named_rule, sharing_rule, room_rule, quota_rule, is_same, stored_new, charged, content_size, unsettled, version_rule}
 use Rattle.nf_words.specs.declared.answer.Allowed.{Allowed}
 use Rattle.nf_words.specs.declared.answer.Allowed.TheVariants as allowed
 use Rattle.nf_words.specs.declared.answer.Denial.{Denial}

@@ -1,5 +1,5 @@
 -- The tables where a file has another content, and with a new file: but for its node only versions are others.
-use Rattle.std.proofs.Common.{◌≡◌, ◌==◌, ◌&&◌, ℕ, not, Bool, true, false, List, [], ◌∷◌, ◌++◌, ◌∙◌, filter, map, if◌then◌else◌, refl, sym, ap, ◌≢◌, subst}
+use Rattle.std.proofs.Common.{◌≡◌, ◌==◌, ◌&&◌, ℕ, not, Bool, true, false, List, [], ◌∷◌, ◌++◌, ◌∙◌, filter, map, if◌then◌else◌, refl, ap, ◌≢◌, subst}
 use Rattle.std.specs.Prelude.{None, Option, Some}
 use Rattle.std.specs.List.{All}
 use Rattle.std.proofs.lemmas.Bool.{cond_both, and_parts, eqb-true}
@@ -10,9 +10,7 @@ use Rattle.nf_base.specs.declared.changes.RowKey.TheVariants as keys
 use Rattle.nf_base.specs.declared.content.Piece.{Piece}
 use Rattle.nf_base.specs.declared.rows.NodeRow.{NodeRow}
 use Rattle.nf_base.specs.declared.rows.Row.TheVariants as rows
-use Rattle.nf_base.specs.declared.rows.VersionRow.{VersionRow}
 use Rattle.nf_defs.specs.Prelude.{filled, made, node_key, put, put_all, Tables, node_row}
-use Rattle.nf_laws.proofs.Lists.{put_more}
 use Rattle.nf_retention.specs.declared.versions.Version.{Version}
 use Rattle.nf_words.specs.Prelude.{becomes_version, changed, charged, content_size, drop_version, gone_after, is_same, refilled, refills, turned_over, turns_over, above, counted, AreSound}
 use Rattle.nf_words.specs.Versions.{drop_back, drop_gone, has_already, is_version, put_replaced, stays_version, version_for}

@@ -17,7 +17,7 @@ use Rattle.nf_laws.proofs.Present.{kept_leads}
 use Rattle.nf_laws.proofs.Rows.{AreKept, kept_row}
 use Rattle.nf_laws.proofs.Sources.{was_given}
 use Rattle.nf_laws.specs.Access.{shares_without}
-use Rattle.nf_laws.specs.Acts.{IsAdded, IsRefilled}
+use Rattle.nf_laws.specs.Acts.{IsAdded}
 use Rattle.nf_words.specs.Prelude.{AreSound, ended_row, LeadsToRoot}
 use Rattle.nf_laws.proofs.Refilled.{IsFilledAt}
 

@@ -1,5 +1,5 @@
 -- What a body that is stored adds to the charge of an owner.
-use Rattle.std.proofs.Common.{ℕ, ◌+◌, ◌==◌, ◌&&◌, ◌≡◌, Bool, true, false, not, List, [], ◌∷◌, Option, None, Some, Result, Ok, if◌then◌else◌, refl, sym, ap, subst, ◌∙◌, arith, map}
+use Rattle.std.proofs.Common.{ℕ, ◌+◌, ◌==◌, ◌≡◌, Bool, true, false, not, List, [], ◌∷◌, Option, None, Some, Result, Ok, if◌then◌else◌, refl, sym, ap, subst, ◌∙◌, arith, map}
 use Rattle.std.specs.Prelude.{IsOk, sum_by}
 use Rattle.std.specs.Option.{IfSome, option_map_or}
 use Rattle.std.proofs.lemmas.Bool.{and_parts, cond_both, eq-eqb, eqb-true, ne_eqb}

@@ -1,5 +1,5 @@
 -- What becomes of versions by an act: each is one that there was, or what its file had.
-use Rattle.std.proofs.Common.{◌≡◌, ◌⊎◌, ℕ, inl, inr, not, List, [], ◌∷◌, Option, None, Some, get_or, refl, sym, subst, Bool, true, false, ◌==◌, filter, map, option_map, if◌then◌else◌, ap, ◌∙◌}
+use Rattle.std.proofs.Common.{◌≡◌, ℕ, inl, inr, not, List, [], ◌∷◌, Option, None, Some, get_or, refl, sym, subst, Bool, true, false, ◌==◌, filter, map, option_map, if◌then◌else◌, ap, ◌∙◌}
 use Rattle.std.specs.Prelude.{bytes_eq, is_some}
 use Rattle.std.specs.List.{All, Contains}
 use Rattle.std.proofs.lemmas.List.Elements.{All-contains_itself, All-filter, All-head, All-map, All-tail, filter_agree}
@@ -17,7 +17,6 @@ use Rattle.nf_laws.proofs.Lists.{changes_have}
 use Rattle.nf_words.proofs.Fits.{IsTurned}
 use Rattle.nf_words.proofs.Known.{Known}
 use Rattle.nf_words.specs.Prelude.{altered, AreSound, deed_done, IsOfPeople, deeds_done, discard, drop_version, goes_itself, item_for, purges, versions_there}
-use Rattle.nf_words.specs.Versions.{version_for}
 use Rattle.nf_words.specs.declared.answer.Allowed.{Allowed}
 use Rattle.nf_words.specs.declared.answer.Allowed.TheVariants as allowed
 use Rattle.nf_words.specs.declared.answer.Deed.{Deed}

@@ -24,7 +24,7 @@ use Rattle.nf_defs.specs.declared.Seeker.{Seeker}
 use Rattle.nf_defs.specs.declared.Seeker.TheVariants.{User}
 use Rattle.nf_laws.specs.Reads.{IsFreeToRead, IsWellAsked}
 use Rattle.nf_laws.specs.Tree.{Under}
-use Rattle.nf_words.specs.Prelude.{access_of, after, answer_to, asker_of, behind, Call, call_of, deeds_done, ended_row, goal_at, home_of, is_joined, is_member, IsModest, IsSound, kind_of, kind_to, last_name, listing_of, may_by, MayCome, MayWant, membership, mount_of, name_back, Need, needed, needed_by, new_root, new_user, own_item, people_limit, perms_after, purges, receiver_named, restored, root_of, row_named, seeker_of, set_fault, set_row, State, until_after, usual_perms, forgets, needed_for, mount_above, mount_by, is_owner, unversioned, version_row, LeadsToRoot}
+use Rattle.nf_words.specs.Prelude.{access_of, after, answer_to, asker_of, behind, Call, call_of, deeds_done, ended_row, goal_at, home_of, is_joined, is_member, IsModest, IsSound, kind_of, kind_to, last_name, listing_of, may_by, MayCome, MayWant, membership, mount_of, name_back, Need, needed, needed_by, new_root, new_user, own_item, people_limit, perms_after, purges, receiver_named, restored, root_of, row_named, seeker_of, set_fault, set_row, State, until_after, usual_perms, forgets, needed_for, mount_by, unversioned, version_row, LeadsToRoot}
 use Rattle.nf_words.specs.Tokens.{link_token}
 use Rattle.nf_words.specs.declared.answer.Goal.{Goal}
 use Rattle.nf_words.specs.declared.answer.Goal.TheVariants.{Serve, Store}

@@ -15,7 +15,7 @@ use Rattle.nf_laws.specs.Access.{LeadsBy}
 use Rattle.nf_laws.specs.Reads.{LeadsToKey}
 use Rattle.nf_laws.specs.Tree.{Under}
 use Rattle.nf_laws.specs.Wholes.{blob_in}
-use Rattle.nf_words.specs.Prelude.{after, answer_to, asker_of, behind, blob_for, Call, call_of, content_in, ended_row, goal_at, gone_from, home_of, IsSound, last_name, left_row, MayAsk, mount_of, name_back, named_row, root_of, seeker_of, State, step, user_of, version_row, versions_there, way_of, without_ticket}
+use Rattle.nf_words.specs.Prelude.{after, answer_to, asker_of, behind, blob_for, Call, call_of, content_in, ended_row, goal_at, gone_from, home_of, IsSound, last_name, left_row, MayAsk, mount_of, name_back, named_row, root_of, seeker_of, State, step, user_of, versions_there, way_of, without_ticket}
 use Rattle.nf_words.specs.declared.answer.By.{By}
 use Rattle.nf_words.specs.declared.answer.Goal.TheVariants.{Store}
 use Rattle.nf_words.specs.declared.answer.LockKey.{LockKey}
