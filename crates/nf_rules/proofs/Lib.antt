@@ -17,3 +17,4 @@ pub mod Shares
 pub mod Stacked
 pub mod Stays
 pub mod Unbroken
+pub mod Settled
