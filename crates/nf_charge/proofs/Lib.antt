@@ -8,3 +8,4 @@ pub mod Leaving
 pub mod Lifting
 pub mod Positions
 pub mod Pushing
+pub mod Totaling

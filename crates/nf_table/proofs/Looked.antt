@@ -24,7 +24,7 @@ by_order_is Equal less equal greater = refl
 by_order_is Greater less equal greater = refl
 
 module _ {R : Type 0} (key : R → List ℕ) where
-  at_put : (n : List ℕ) (row : R) (rows : List R) → row_at key n (put key row rows) ≡ cond (bytes_eq (key row) n) (Some row) (row_at key n rows)
+  pub at_put : (n : List ℕ) (row : R) (rows : List R) → row_at key n (put key row rows) ≡ cond (bytes_eq (key row) n) (Some row) (row_at key n rows)
   at_put n row [] = refl
   at_put n row (x ∷ xs) =
       let rest = at_put n row xs in

@@ -1,6 +1,6 @@
 //! A table of rows.
 
-ghost use Rattle.std.specs.Prelude.{◌≡◌, ◌+◌, ◌≤◌, ◌<◌, [], Bool, None, bytes_eq, filter, length, map, reverse, IsOk, OnOk, option_copied};
+ghost use Rattle.std.specs.Prelude.{◌≡◌, ◌+◌, ◌≤◌, ◌<◌, [], Bool, None, bytes_eq, filter, length, map, nat_lt, reverse, IsOk, OnOk, option_copied};
 ghost use Rattle.std.specs.Fn.{FnOnceReturnsAtMut, FnReturnsAt};
 ghost use Rattle.std.specs.List.{list_any};
 ghost use Rattle.nf_defs.specs.Prelude.{dropped, IsRising, put};
@@ -63,6 +63,13 @@ impl<R: Keyed + Drop> Table<R> {
         ensures room { length self.now.rows ≤ self.now.room }
     {
         self.rows.len()
+    }
+
+    /// Whether one row more fits without more memory.
+    pub fn has_room(&self) -> bool
+        ensures { result ≡ nat_lt (length self.now.rows) self.now.room }
+    {
+        self.rows.len() < self.rows.capacity()
     }
 
     /// Makes room for so many rows more. The one error is that there is no memory for them.

@@ -10,4 +10,5 @@ pub mod Walks
 pub mod Fates
 pub mod Marks
 pub mod Removed
+pub mod Totaled
 pub mod Tops

@@ -1,17 +1,19 @@
 //! What goes with a node that is taken out, and where the rows that stay go.
 
-ghost use Rattle.std.specs.Prelude.{◌≡◌, ◌==◌, ◌+◌, ◌≤◌, All, [], ◌∷◌, false, length, slice_index, vec_len, vec_capacity};
+ghost use Rattle.std.specs.Prelude.{◌≡◌, ◌==◌, ◌+◌, ◌≤◌, All, Bool, [], ◌∷◌, false, filter, length, slice_index, vec_len, vec_capacity};
 ghost use Rattle.std.specs.List.{position};
 ghost use Rattle.std.specs.Option.{option_map_or};
 ghost use Rattle.nf_base.specs.declared.limits.TheConstants.{MAX_NODES};
+ghost use Rattle.nf_base.specs.declared.rows.NodeRow.{NodeRow};
 ghost use Rattle.nf_charge.specs.Sums.{AreSums, LeadUp};
+ghost use Rattle.nf_charge.specs.Totals.{AreTotals};
 ghost use Rattle.nf_defs.specs.Tree.{piece_count, trashed, walk_within, with_node, without_all};
 ghost use Rattle.nf_tree.specs.Order.{AreFates, AreMarked, AreMarkedBy, AreRisingNodes, IsIndex, all_lifted, goes, outstays};
 
 use crate::{nodes, order};
 use nf_base::{MAX_DEPTH, NodeId, NodeRow, Place};
-use nf_charge::Sums;
 use nf_charge::rows::index_of;
+use nf_charge::{Sums, Totals};
 
 /// Drops the rows of the nodes under some tops and their sums, and tells where each row goes. How many pieces they had is
 /// answered.
@@ -20,6 +22,7 @@ pub(crate) fn drop_under(
     order: &[usize],
     fates: &mut Vec<usize>,
     sums: &mut Sums,
+    totals: &mut Totals,
     tops: &[NodeId],
 ) -> usize
     requires rising { AreRisingNodes rows.old.items }
@@ -28,8 +31,10 @@ pub(crate) fn drop_under(
     requires few { vec_len rows.old ≤ MAX_NODES }
     requires leads { LeadUp rows.old.items }
     requires sums { AreSums rows.old.items sums.old.sums }
+    requires totals { AreTotals rows.old.items totals.old }
     ensures rows { rows.new.items ≡ without_all rows.old.items tops.now }
     ensures rows_room { vec_capacity rows.new ≡ vec_capacity rows.old }
+    ensures totals { AreTotals rows.new.items totals.new }
     ensures fates { AreFates (outstays rows.old.items tops.now) rows.old.items (vec_len rows.old) fates.new.items }
     ensures fates_room { vec_capacity fates.new ≡ vec_capacity fates.old }
     ensures sums { AreSums rows.new.items sums.new.sums }
@@ -37,6 +42,7 @@ pub(crate) fn drop_under(
     ensures pieces { result + piece_count rows.new.items ≡ piece_count rows.old.items }
 {
     settle(rows, order, fates, tops);
+    take_all(rows, fates, totals);
     lift_all(rows, sums, tops);
     let end = rows.len();
     let mut kept = 0;
@@ -56,6 +62,20 @@ pub(crate) fn drop_under(
     rows.truncate(kept);
     sums.truncate(kept);
     gone
+}
+
+/// No longer counts the rows that go for their owners.
+fn take_all(rows: &[NodeRow], fates: &[usize], totals: &mut Totals)
+    requires long { length fates.now ≡ length rows.now }
+    ensures { (kept : NodeRow → Bool) → AreFates kept rows.now (length rows.now) fates.now → AreTotals rows.now totals.old → AreTotals (filter kept rows.now) totals.new }
+{
+    let end = rows.len();
+    for at in 0..end {
+        if fates[at] >= end {
+            let row = &rows[at];
+            totals.take(row.owner, row.content.size());
+        }
+    }
 }
 
 /// Takes some nodes out of their folders, whose sums no longer count them. Their places in the order stay.

@@ -5,13 +5,16 @@ ghost use Rattle.std.specs.List.{position};
 ghost use Rattle.nf_base.specs.declared.limits.TheConstants.{MAX_PIECES};
 ghost use Rattle.nf_base.specs.declared.rows.Row.TheVariants.{Node};
 ghost use Rattle.nf_charge.specs.Sums.{LeadUp, bytes_under};
+ghost use Rattle.nf_charge.specs.Totals.{bytes_owned};
 ghost use Rattle.nf_defs.specs.Tree.{node_row, child_of, is_folder, is_file, is_leaf, content_of, piece_count, is_under, depth, found_from, children_of, walk_of, walk_within, is_rooted, with_node, filled, relinked, trashed, without_all, without_under};
 ghost use Rattle.nf_tree.specs.Order.{AreRisingNodes, placed};
 
 use crate::{nodes, order, removal};
-use nf_base::{Content, MAX_DEPTH, MAX_NODES, Moment, Name, NodeId, NodeRow, Place, Row, RowList};
-use nf_charge::Sums;
+use nf_base::{
+    Content, MAX_DEPTH, MAX_NODES, Moment, Name, NodeId, NodeRow, Place, Row, RowList, UserId,
+};
 use nf_charge::rows::index_of;
+use nf_charge::{Sums, Totals, bytes_owned};
 use nf_defs::Found;
 use std::alloc::{AllocError, Global};
 use std::marker::Model;
@@ -61,6 +64,8 @@ pub struct Tree {
     fates: Vec<usize>,
     /// How many bytes what is under each row's node has.
     sums: Sums,
+    /// How many bytes all nodes of each owner have.
+    totals: Totals,
     /// How many pieces the rows have.
     pieces: usize,
     /// How many rows fit without more memory.
@@ -70,13 +75,14 @@ pub struct Tree {
 impl Model for Tree {
     ghost use Rattle.std.specs.Prelude.{vec_capacity};
     ghost use Rattle.nf_charge.specs.Sums.{AreSums, LeadUp};
+    ghost use Rattle.nf_charge.specs.Totals.{AreTotals};
     ghost use Rattle.nf_tree.specs.Held.{HaveRoom, Held, IsTree};
 
     ghost Value = { Held };
 
     ghost view = { λ tree. record { rows = tree.rows.items; room = tree.room } };
 
-    ghost invariant = { λ tree. IsTree tree.rows.items tree.order.items tree.pieces tree.room × HaveRoom tree.room (vec_capacity tree.rows) (vec_capacity tree.order) (vec_capacity tree.fates) tree.sums.room × LeadUp tree.rows.items × AreSums tree.rows.items tree.sums.sums };
+    ghost invariant = { λ tree. IsTree tree.rows.items tree.order.items tree.pieces tree.room × HaveRoom tree.room (vec_capacity tree.rows) (vec_capacity tree.order) (vec_capacity tree.fates) tree.sums.room × LeadUp tree.rows.items × AreSums tree.rows.items tree.sums.sums × AreTotals tree.rows.items tree.totals };
 }
 
 impl Tree {
@@ -90,6 +96,7 @@ impl Tree {
             order: Vec::new(alloc),
             fates: Vec::new(alloc),
             sums: Sums::new(alloc),
+            totals: Totals::new(alloc),
             pieces: 0,
             room: 0,
         }
@@ -109,11 +116,13 @@ impl Tree {
         let mut fates = Vec::new(alloc);
         fates.reserve(room)?;
         let sums = Sums::of(alloc, &rows)?;
+        let totals = Totals::of(alloc, &rows)?;
         Ok(Tree {
             rows,
             order,
             fates,
             sums,
+            totals,
             pieces,
             room,
         })
@@ -137,6 +146,7 @@ impl Tree {
             self.fates.clear();
             self.fates.reserve(many + more)?;
             self.sums.reserve(many + more)?;
+            self.totals.reserve(more)?;
             self.room = many + more;
         }
         Ok(())
@@ -173,6 +183,17 @@ impl Tree {
         match index_of(&self.rows, node) {
             Some(at) => self.sums.get(at),
             None => 0,
+        }
+    }
+
+    /// How many bytes all nodes of an owner have together, in the trash or not; in a running total.
+    pub fn bytes_of(&self, owner: UserId) -> u128
+        ensures { result ≡ bytes_owned self.now.rows owner }
+    {
+        match self.totals.get(owner) {
+            Some(bytes) => bytes,
+            // There was no memory for a total once, so each row is looked at.
+            None => bytes_owned(&self.rows, owner),
         }
     }
 
@@ -307,6 +328,7 @@ impl Tree {
     {
         let last = self.rows.len();
         self.pieces += nodes::pieces_of(&row);
+        self.totals.add(row.owner, row.content.size());
         self.rows.push_reserved(row);
         order::put(&self.rows, &mut self.order, last);
         self.sums.push(&self.rows);
@@ -320,7 +342,10 @@ impl Tree {
     {
         let at = self.place_of(file);
         let more = content.pieces().len();
-        self.sums.change(&self.rows, at, content.size());
+        let bytes = content.size();
+        self.sums.change(&self.rows, at, bytes);
+        let row = &self.rows[at];
+        self.totals.replace(row.owner, row.content.size(), bytes);
         let old = nodes::refill(&mut self.rows[at], content, changed);
         self.pieces = self.pieces - old.pieces().len() + more;
         old
@@ -400,6 +425,7 @@ impl Tree {
             order::lower(&mut self.order, at);
             let row = self.rows.remove(at);
             self.pieces -= nodes::pieces_of(&row);
+            self.totals.take(row.owner, row.content.size());
             self.sums.remove(at);
         }
     }
@@ -413,6 +439,7 @@ impl Tree {
             &self.order,
             &mut self.fates,
             &mut self.sums,
+            &mut self.totals,
             tops,
         );
         order::renumber(&mut self.order, &self.fates);

@@ -4,12 +4,13 @@ use Rattle.std.proofs.lemmas.List.Filters.{FiltersInPlace-all, FiltersInPlace-mo
 use Rattle.std.proofs.lemmas.List.Edits.{length-swap}
 use Rattle.nf_base.specs.declared.rows.NodeRow.{NodeRow}
 use Rattle.nf_charge.specs.Sums.{AreSums, AreWeighed}
+use Rattle.nf_charge.specs.Totals.{AreTotals}
 use Rattle.nf_defs.specs.Tree.{piece_count, without_all}
 use Rattle.nf_tree.specs.Order.{AreFates, all_lifted, outstays}
 use Rattle.nf_charge.proofs.Positions.{no_row}
 use Rattle.nf_tree.proofs.Fates.{goes_by, gone_kept, gone_more, gone_rest, stays_by, still}
 use Rattle.nf_tree.proofs.Weights.{weighed_swapped, weighed_taken}
-use Rattle.nf_tree.proofs.Tops.{fates_lifted, lifted_left, pieces_lifted, sums_left_all}
+use Rattle.nf_tree.proofs.Tops.{all_left, fates_lifted, lifted_left, pieces_lifted, sums_left_all}
 use Rattle.nf_tree.proofs.removal.drop_under.Goals as goal
 use Rattle.nf_tree.proofs.removal.drop_under.Goals.{then-index-end, then-kept-at, else-kept-at, else-index-end}
 
@@ -142,3 +143,16 @@ returns-clause-sums c =
 
 pub returns-clause-sums_room : goal.returns-clause-sums_room
 returns-clause-sums_room c = c.truncate-2.ensures.room ∙ c.loop-at.invariant.sums_room
+
+pub returns-clause-totals : goal.returns-clause-totals
+returns-clause-totals c =
+    let rows = c.args.rows.now.items in
+    let tops = c.args.tops.now in
+    let xs = c.lift_all.new.rows.items in
+    let p = outstays rows tops in
+    let all : length xs ≤ c.loop-at.at = omega (arith, c.len-end.ensures, c.lift_all.new.rows.ok, c.loop-at-test.false) in
+    let rest = c.truncate.ensures.items ∙ FiltersInPlace-all c.loop-at.invariant.filtered all ∙ ap (filter p) c.lift_all.ensures.rows
+    ∙ lifted_left tops rows c.requires.rising c.requires.leads ∙ all_left tops rows c.requires.rising c.requires.leads in
+    let fates : AreFates p rows (length rows) c.settle.new.fates.items = rw c.deref.ensures.value at c.settle.ensures.fates in
+    let taken = rw (c.deref-2.ensures.value, c.deref-3.ensures.value) at c.take_all.ensures in
+    subst (λ (list : List NodeRow). AreTotals list c.take_all.new.totals) (sym rest) (taken p fates c.requires.totals)

@@ -1,8 +1,10 @@
 use Rattle.std.proofs.Common.{◌≡◌, ◌<◌, ◌≤◌, ◌++◌, ◌∷◌, List, [], length, ap, subst, sym, ◌∙◌, arith}
 use Rattle.std.specs.List.{All}
+use Rattle.nf_base.specs.Content.{size_of}
 use Rattle.nf_base.specs.declared.limits.TheConstants.{MAX_PIECES}
 use Rattle.nf_base.specs.declared.rows.NodeRow.{NodeRow}
 use Rattle.std.proofs.lemmas.List.{length_push}
+use Rattle.nf_charge.proofs.Totaling.{totals_pushed}
 use Rattle.nf_charge.specs.Sums.{AreSums, LeadUp}
 use Rattle.nf_tree.specs.Held.{Held}
 use Rattle.nf_tree.specs.Order.{IsIndex, LacksOnly, AreRisingNodes}
@@ -71,10 +73,13 @@ invariant_of-self c =
     let leads = subst (λ rows. LeadUp (rows ++ c.args.row ∷ [])) (sym view) c.requires.leads in
     let sums = subst (λ (rows : List NodeRow). AreSums rows c.push.new.self.sums)
     (c.deref-2.ensures.value ∙ c.push_reserved.ensures.items) c.push.ensures.sums in
+    let added_totals =
+    rw (ap (λ (row : NodeRow). row.owner) c.row.view_is, c.size.ensures ∙ ap (λ (row : NodeRow). size_of row.content) c.row.view_is) at c.add.ensures in
     rw (c.push_reserved.ensures.items, c.push_reserved.ensures.capacity, c.put.ensures.room, c.pieces_of.ensures.count, c.push.ensures.room) (
       added c.self.inside.rows.items c.args.row c.self.inside.order.items c.put.new.order.items c.self.inside.pieces c.self.inside.room
           c.self.invariant.0 fits newest few index,
       c.self.invariant.1,
       leads,
       sums,
+      totals_pushed c.self.inside.rows.items c.args.row c.self.inside.totals c.add.new.self c.self.invariant.4 added_totals,
     )

@@ -6,4 +6,4 @@ use Rattle.nf_tree.proofs.tree.Tree.new.Goals as goal
 pub invariant_of-result : goal.invariant_of-result
 invariant_of-result c =
     rw (c.new.ensures.items, c.new-2.ensures.items, c.new-4.ensures)
-    (empty, record { in_rows = omega arith; in_order = omega arith; in_fates = omega arith; in_sums = omega arith }, none_lead, no_sums)
+    (empty, record { in_rows = omega arith; in_order = omega arith; in_fates = omega arith; in_sums = omega arith }, none_lead, no_sums, c.new-5.ensures)

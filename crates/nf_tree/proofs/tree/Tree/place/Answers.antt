@@ -3,6 +3,7 @@ use Rattle.std.proofs.lemmas.List.{length-set}
 use Rattle.nf_base.specs.declared.rows.NodeRow.{NodeRow}
 use Rattle.nf_charge.specs.Sums.{AreSums, IsLifted, LeadUp}
 use Rattle.nf_charge.proofs.Positions.{no_row}
+use Rattle.nf_charge.proofs.Totaling.{totals_moved}
 use Rattle.nf_defs.specs.Tree.{trashed, with_node}
 use Rattle.nf_tree.specs.Held.{Held}
 use Rattle.nf_tree.specs.Order.{AreRisingNodes, IsIndex, LacksOnly, placed}
@@ -90,6 +91,8 @@ invariant_of-self c =
       c.self.invariant.1,
       subst LeadUp (sym same) c.requires.leads,
       subst (λ (list : List NodeRow). AreSums list c.enter.new.self.sums) c.deref-4.ensures.value c.enter.ensures.sums,
+      totals_moved rows at c.place.new.row old c.self.inside.totals (node_within rows at c.args.node old there) c.index_mut.ensures.value
+          (ap (λ (row : NodeRow). row.owner) c.place.ensures) (ap (λ (row : NodeRow). row.content) c.place.ensures) c.self.invariant.4,
     )
 
 pub returns : goal.returns

@@ -1,8 +1,10 @@
 use Rattle.std.proofs.Common.{◌+◌, ◌-◌, ◌<◌, ◌≡◌, ◌==◌, List, Some, length, get_or, map, ap, subst, sym, ◌∙◌, arith}
 use Rattle.std.specs.List.{position}
 use Rattle.std.proofs.lemmas.List.{length-set}
+use Rattle.nf_base.specs.Content.{size_of}
 use Rattle.nf_base.specs.declared.rows.NodeRow.{NodeRow}
 use Rattle.nf_charge.proofs.Positions.{no_row}
+use Rattle.nf_charge.proofs.Totaling.{totals_removed}
 use Rattle.nf_defs.specs.Tree.{is_leaf, trashed}
 use Rattle.nf_tree.specs.Held.{Held}
 use Rattle.nf_tree.specs.Order.{LacksOnly, lowered}
@@ -41,6 +43,8 @@ invariant_of-self c =
     let sums : c.self.inside.pieces - c.pieces_of.result + length row.content ≡ c.self.inside.pieces = omega (arith, counted, c.pieces_of.ensures.count, c.self.invariant.0.counted) in
     let is = ap (λ (h : Held). is_leaf h.rows c.args.leaf) c.self.view_is ∙ c.requires in
     let left = sums_lifted rows at c.args.leaf c.deref-in-Some.result.now c.leave.new.self.sums c.deref-in-Some.ensures.value there c.leave.ensures.sums in
+    let taken =
+    rw (ap (λ (row : NodeRow). row.owner) c.row.view_is, c.size.ensures ∙ ap (λ (row : NodeRow). size_of row.content) c.row.view_is) at c.take-in-Some.ensures in
     rw (
       c.remove-row.ensures.items,
       c.lower.ensures.order,
@@ -57,6 +61,7 @@ invariant_of-self c =
       leaf_leads rows c.args.leaf at c.self.invariant.0.rising c.self.invariant.2 is there,
       leaf_sums rows c.args.leaf at c.self.invariant.0.rising c.self.invariant.2 is there
           c.self.inside.sums.sums c.leave.new.self.sums c.self.invariant.3 left,
+      totals_removed rows at row c.self.inside.totals c.take-in-Some.new.self within c.remove-row.ensures.value c.self.invariant.4 taken,
     )
 
 pub returns-in-Some : goal.returns-in-Some

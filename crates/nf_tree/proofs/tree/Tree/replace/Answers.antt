@@ -1,10 +1,13 @@
-use Rattle.std.proofs.Common.{◌==◌, ◌<◌, length, set, ap, subst, sym, refl, ◌∙◌, arith}
+use Rattle.std.proofs.Common.{◌==◌, ◌<◌, ◌≡◌, length, set, ap, subst, sym, refl, ◌∙◌, arith}
+use Rattle.std.proofs.lemmas.List.{get_or_read}
+use Rattle.nf_base.specs.Content.{size_of}
 use Rattle.nf_base.specs.declared.rows.NodeRow.{NodeRow}
 use Rattle.nf_charge.specs.Sums.{AreSums, IsRefill}
 use Rattle.nf_charge.proofs.Positions.{no_row}
 use Rattle.nf_defs.specs.Tree.{content_of, is_file}
 use Rattle.nf_tree.specs.Held.{Held}
 use Rattle.nf_defs.proofs.Lookups.{find_there}
+use Rattle.nf_charge.proofs.Totaling.{totals_set}
 use Rattle.nf_charge.proofs.Leading.{leads_filled}
 use Rattle.nf_tree.proofs.Trees.{changed_tree, changed_held, node_within, counted_there, same_index, pieces_few, file_row, content_row}
 use Rattle.nf_tree.proofs.Weights.{refills}
@@ -42,17 +45,24 @@ invariant_of-self c =
     let within = node_within rows at c.args.file old there in
     let counted = counted_there rows at old within is in
     let new = c.refill-old.ensures.row in
-    let fill = refills rows at row old c.args.content c.args.changed c.size.result within is new c.size.ensures in
+    let fill = refills rows at row old c.args.content c.args.changed c.size-bytes.result within is new c.size-bytes.ensures in
     let index = same_index rows at row old c.self.inside.order.items within is (rw new refl) c.self.invariant.0.index in
-    let sums = subst (λ list. (row : NodeRow) → IsRefill list at row c.size.result → AreSums (set list at row) c.change.new.self.sums)
+    let sums = subst (λ list. (row : NodeRow) → IsRefill list at row c.size-bytes.result → AreSums (set list at row) c.change.new.self.sums)
     c.deref.ensures.value c.change.ensures.sums row fill in
+    let was = c.index-row.result.now in
+    let same : old ≡ was = get_or_read rows at old within is was ∙ sym c.index-row.ensures in
+    let replaced =
+    rw (ap (λ (row : NodeRow). row.owner) c.row.view_is, c.size.ensures ∙ ap (λ (row : NodeRow). size_of row.content) c.row.view_is) at c.replace.ensures in
     rw (c.pieces.ensures.pieces, c.refill-old.ensures.content, c.pieces-more.ensures.pieces, c.change.ensures.room) (
       changed_tree rows at row old c.self.inside.order.items c.self.inside.order.items c.self.inside.pieces _ c.self.inside.room
           c.self.invariant.0 within is (rw new refl) (rw new c.pieces-more.ensures.kept.few)
           (let long = ap (λ (row : NodeRow). length row.content) new in omega (arith, counted, long, c.self.invariant.0.counted)) index,
       c.self.invariant.1,
-      leads_filled rows at row c.size.result c.self.invariant.0.rising c.self.invariant.2 within fill,
+      leads_filled rows at row c.size-bytes.result c.self.invariant.0.rising c.self.invariant.2 within fill,
       sums,
+      totals_set rows at row was c.size-bytes.result c.self.inside.totals c.replace.new.self within c.index-row.ensures
+          (ap (λ (row : NodeRow). row.owner) new ∙ ap (λ (row : NodeRow). row.owner) same)
+          (ap (λ (row : NodeRow). size_of row.content) new ∙ sym c.size-bytes.ensures) c.self.invariant.4 replaced,
     )
 
 pub returns-clause-rows : goal.returns-clause-rows

@@ -1,0 +1,3 @@
+pub mod Aged
+pub mod Outgoing
+pub mod Laws
