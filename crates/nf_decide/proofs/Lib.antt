@@ -21,5 +21,6 @@ pub mod Stamps
 pub mod Tells
 pub mod ToldFirst
 pub mod ToldGone
+pub mod TrashSums
+pub mod Walks
 pub mod Runs
-pub mod ByOwner

@@ -6,5 +6,5 @@ pub mod Ending
 pub mod Listed
 pub mod Counts
 pub mod Linked
+pub mod Going
 pub mod Gone
-pub mod ByOwner

@@ -1,21 +1,20 @@
 //! What is put in the trash and comes back from there, and what goes for good beside it.
 
-ghost use Rattle.std.specs.Prelude.{◌≡◌, ◌++◌, List, ◌∷◌, map, unwrap_or, IfOk, OnOk};
-ghost use Rattle.nf_base.specs.declared.rows.ItemRow.{ItemRow};
-ghost use Rattle.nf_defs.specs.Prelude.{folder_of};
+ghost use Rattle.std.specs.Prelude.{◌≡◌, ◌++◌, Some, map, unwrap_or, IfOk, OnOk};
+ghost use Rattle.nf_defs.specs.Prelude.{folder_of, item_row};
 ghost use Rattle.nf_retention.specs.Trash.{trashed};
-ghost use Rattle.nf_words.specs.Prelude.{AreSound, done, gone_beside, gone_of, item_dropped, item_for, item_restored, item_size, items_but, items_of, purges, quota_of, requoted};
+ghost use Rattle.nf_words.specs.Prelude.{AreSound, done, item_dropped, item_for, item_restored, item_size, items_of, purges, requoted};
 ghost use Rattle.nf_words.specs.declared.answer.Allowed.TheVariants as allowed;
 ghost use Rattle.nf_words.specs.declared.answer.Deed.TheVariants as deed;
 ghost use Rattle.nf_words.specs.declared.answer.Report.TheVariants as report;
 
+use crate::going::{gone_beside, gone_by};
 use crate::homes::{home_of, name_back};
-use crate::quotas::quota_of;
 use crate::settling::{Charged, charged, settle};
 use crate::shared::nothing_done;
 use crate::view::View;
 use nf_base::{ItemRow, Moment, NodeId, NodeRow, Place, UserId, UserRow};
-use nf_retention::{Trashed, going, newest_first, trash_bound};
+use nf_retention::Trashed;
 use nf_words::{Allowed, Deed, Deeds, Report};
 use std::alloc::{AllocError, Global};
 
@@ -73,93 +72,7 @@ pub(crate) fn trash_of(
         .collect(alloc)
 }
 
-/// Of all but that of a node.
-fn trash_but(
-    alloc: Global,
-    view: &View<'_>,
-    user: UserId,
-    node: NodeId,
-) -> Result<Vec<Trashed>, AllocError>
-    requires { AreSound view.now.tables }
-    ensures { IfOk result (λ carried. carried.items ≡ map (trashed (item_size view.now.tables)) (items_but view.now.tables user node)) }
-{
-    view.items()
-        .rows()
-        .iter()
-        .filter(|item| item.owner == user)
-        .filter(|item| item.node != node)
-        .map(|item| trashed(view, item))
-        .collect(alloc)
-}
-
-/// Of a new item, and of all that its owner has.
-fn trash_with(alloc: Global, view: &View<'_>, item: &ItemRow) -> Result<Vec<Trashed>, AllocError>
-    requires { AreSound view.now.tables }
-    ensures { IfOk result (λ carried. carried.items ≡ map (trashed (item_size view.now.tables)) (item.now ∷ items_of view.now.tables item.now.owner)) }
-{
-    let mut carried = trash_of(alloc, view, item.owner)?;
-    carried.insert(0, trashed(view, item))?;
-    Ok(carried)
-}
-
 // ---- what goes
-
-/// Of some items of a user's with that quota, the nodes of those that go for good.
-pub(crate) fn gone_of(
-    alloc: Global,
-    view: &View<'_>,
-    moment: Moment,
-    quota: u64,
-    carried: Vec<Trashed>,
-) -> Result<Vec<NodeId>, AllocError>
-    ensures { IfOk result (λ nodes. (items : List ItemRow) → carried.items ≡ map (trashed (item_size view.now.tables)) items → nodes.items ≡ gone_of view.now.tables moment quota items) }
-{
-    let sorted = newest_first(carried)?;
-    going(alloc, &sorted, moment, trash_bound(quota))
-}
-
-/// What goes of a user's trash with a node that is put there.
-pub(crate) fn gone_with(
-    alloc: Global,
-    view: &View<'_>,
-    moment: Moment,
-    item: &ItemRow,
-) -> Result<Vec<NodeId>, AllocError>
-    requires { AreSound view.now.tables }
-    ensures { IfOk result (λ nodes. nodes.items ≡ gone_of view.now.tables moment (quota_of view.now.tables item.now.owner) (item.now ∷ items_of view.now.tables item.now.owner)) }
-{
-    let carried = trash_with(alloc, view, item)?;
-    gone_of(alloc, view, moment, quota_of(view, item.owner), carried)
-}
-
-/// What goes of it beside an item that is there no more.
-fn gone_beside(
-    alloc: Global,
-    view: &View<'_>,
-    moment: Moment,
-    item: &ItemRow,
-) -> Result<Vec<NodeId>, AllocError>
-    requires { AreSound view.now.tables }
-    ensures { IfOk result (λ nodes. nodes.items ≡ gone_beside view.now.tables moment item.now) }
-{
-    let carried = trash_but(alloc, view, item.owner, item.node)?;
-    gone_of(alloc, view, moment, quota_of(view, item.owner), carried)
-}
-
-/// What goes of a user's trash with that quota.
-pub(crate) fn gone_by(
-    alloc: Global,
-    view: &View<'_>,
-    moment: Moment,
-    quota: u64,
-    user: UserId,
-) -> Result<Vec<NodeId>, AllocError>
-    requires { AreSound view.now.tables }
-    ensures { IfOk result (λ nodes. nodes.items ≡ gone_of view.now.tables moment quota (items_of view.now.tables user)) }
-{
-    let carried = trash_of(alloc, view, user)?;
-    gone_of(alloc, view, moment, quota, carried)
-}
 
 /// Puts the deeds by which some nodes go for good at the end.
 pub(crate) fn push_purges(deeds: &mut Vec<Deed>, nodes: &[NodeId]) -> Result<(), AllocError>
@@ -190,7 +103,8 @@ pub(crate) fn item_dropped(
     moment: Moment,
     item: &ItemRow,
 ) -> Result<Allowed, AllocError>
-    requires { AreSound view.now.tables }
+    requires sound { AreSound view.now.tables }
+    requires there { item_row view.now.tables.items item.now.node ≡ Some item.now }
     ensures { IfOk result (λ allowed. allowed ≡ item_dropped view.now.tables moment item.now) }
 {
     let mut deeds = Vec::new(alloc);
@@ -206,7 +120,8 @@ pub(crate) fn item_restored(
     moment: Moment,
     item: &ItemRow,
 ) -> Result<Allowed, AllocError>
-    requires { AreSound view.now.tables }
+    requires sound { AreSound view.now.tables }
+    requires there { item_row view.now.tables.items item.now.node ≡ Some item.now }
     ensures { IfOk result (λ allowed. allowed ≡ item_restored view.now.tables moment item.now) }
 {
     let deed = Deed::Restore {

@@ -1,6 +1,6 @@
 //! The items of the trash.
 
-ghost use Rattle.std.specs.Prelude.{◌≡◌, option_and_then, option_copied};
+ghost use Rattle.std.specs.Prelude.{◌≡◌, Some, option_and_then, option_copied, IfSome};
 ghost use Rattle.nf_defs.specs.Prelude.{item_row};
 ghost use Rattle.nf_words.specs.Trash.{item_if_of, lacks_item, own_item, untrashed};
 ghost use Rattle.nf_decide.specs.Deciding.{asking_of};
@@ -9,19 +9,19 @@ use crate::deciding::Call;
 use crate::view::View;
 use nf_base::{ItemRow, NodeId, UserId};
 use nf_reach::Asker;
-use nf_table::ItemKey;
 use nf_words::{Denial, TrashAsk};
 
 /// The item of a node.
 pub(crate) fn item_row<'a>(view: &'a View<'_>, node: NodeId) -> Option<&'a ItemRow>
     ensures { option_copied result ≡ item_row view.now.tables.items node }
 {
-    view.items().find(&ItemKey { node })
+    view.items().find(node)
 }
 
 /// The user's item of a node.
 pub(crate) fn own_item<'a>(view: &'a View<'_>, user: UserId, node: NodeId) -> Option<&'a ItemRow>
-    ensures { option_copied result ≡ option_and_then (item_if_of user) (item_row view.now.tables.items node) }
+    ensures own { option_copied result ≡ option_and_then (item_if_of user) (item_row view.now.tables.items node) }
+    ensures there { IfSome result (λ item. item_row view.now.tables.items item.now.node ≡ Some item.now) }
 {
     let item = item_row(view, node)?;
     if item.owner == user { Some(item) } else { None }

@@ -5,7 +5,8 @@ ghost use Rattle.std.specs.List.{list_any};
 ghost use Rattle.nf_words.specs.Prelude.{AreSound, beside, besides, discard, discards, row_at};
 ghost use Rattle.nf_words.specs.declared.answer.Deed.TheVariants as deed;
 
-use crate::discarding::{gone_with, item_for, push_purges};
+use crate::discarding::{item_for, push_purges};
+use crate::going::gone_with;
 use crate::view::View;
 use nf_base::{ItemRow, Moment, NodeId, NodeRow};
 use nf_words::Deed;

@@ -1,14 +1,13 @@
 //! What goes of the trash of all users where nobody asks for anything.
 
 ghost use Rattle.std.specs.Prelude.{◌≡◌, IfOk};
-ghost use Rattle.nf_words.specs.Prelude.{AreSound, gone_from, owners_of, swept};
-ghost use Rattle.nf_decide.specs.ByOwner.{AreOwned};
+ghost use Rattle.nf_words.specs.Prelude.{AreSound, owners_of, swept};
 
-use crate::discarding::{done, gone_of, push_purges};
-use crate::owned::{Owned, by_owner, of_user};
+use crate::discarding::{done, push_purges};
+use crate::going::gone_by;
 use crate::quotas::quota_of;
 use crate::view::View;
-use nf_base::{ItemRow, Moment, NodeId, UserId};
+use nf_base::{ItemRow, Moment, UserId};
 use nf_words::{Allowed, Report};
 use std::alloc::{AllocError, Global};
 use std::collections::BTreeSet;
@@ -18,28 +17,12 @@ pub fn swept(alloc: Global, view: &View<'_>, moment: Moment) -> Result<Allowed, 
     requires { AreSound view.now.tables }
     ensures { IfOk result (λ allowed. allowed ≡ swept view.now.tables moment) }
 {
-    let owned = by_owner(alloc, view)?;
     let mut deeds = Vec::new(alloc);
     for user in owners_of(alloc, view.items().rows())? {
-        let gone = gone_from(alloc, view, moment, &owned, user)?;
+        let gone = gone_by(alloc, view, moment, quota_of(view, user), user)?;
         push_purges(&mut deeds, &gone)?;
     }
     Ok(done(deeds, Report::Plain))
-}
-
-/// What goes of a user's.
-fn gone_from(
-    alloc: Global,
-    view: &View<'_>,
-    moment: Moment,
-    owned: &[Owned],
-    user: UserId,
-) -> Result<Vec<NodeId>, AllocError>
-    requires { AreOwned view.now.tables owned.now }
-    ensures { IfOk result (λ nodes. nodes.items ≡ gone_from view.now.tables moment user) }
-{
-    let carried = of_user(alloc, owned, user)?;
-    gone_of(alloc, view, moment, quota_of(view, user), carried)
 }
 
 /// Whose items there are, each user once.

@@ -26,7 +26,8 @@ use nf_mounts::Mounts;
 use nf_opening::Loaded;
 use nf_people::{People, PeopleRows};
 use nf_shares::Shares;
-use nf_table::{ItemKey, Table, VersionKey};
+use nf_table::{Table, VersionKey};
+use nf_trash::Trash;
 use nf_tree::Tree;
 use nf_words::{Allowed, Deed, Deeds, Goal, NodeRows, Ticket};
 use std::alloc::{AllocError, Global};
@@ -41,7 +42,7 @@ pub(crate) struct Tables {
     shares: Shares,
     mounts: Mounts,
     versions: Table<VersionRow>,
-    items: Table<ItemRow>,
+    items: Trash,
 }
 
 impl Model for Tables {
@@ -83,7 +84,7 @@ impl Tables {
             shares,
             mounts: Mounts::load(alloc, parts.mounts)?,
             versions: Table::of(parts.versions),
-            items: Table::of(parts.items),
+            items: Trash::load(alloc, parts.items)?,
         })
     }
 
@@ -222,7 +223,7 @@ impl Tables {
             }
             RowKey::Version { node, at } => self.forget(*node, *at),
             RowKey::Item(node) => {
-                let _ = self.items.drop(&ItemKey { node: *node });
+                self.items.drop(*node);
             }
             RowKey::Meta
             | RowKey::User(_)
@@ -290,7 +291,7 @@ impl Tables {
     fn has_item(&self, node: NodeId) -> bool
         ensures { result ≡ is_some (item_row self.now.tables.items node) }
     {
-        self.items.find(&ItemKey { node }).is_some()
+        self.items.find(node).is_some()
     }
 
     /// Takes out the nodes of a run of items for good, each with all under it and with its item. Of what is in the trash no share is left
@@ -381,7 +382,7 @@ impl Tables {
         ensures tables { self.new.tables ≡ record self.old.tables { items = dropped item_key (node ∷ []) self.old.tables.items } }
         ensures room { self.new.room ≡ self.old.room }
     {
-        let _ = self.items.drop(&ItemKey { node });
+        self.items.drop(node);
     }
 
     /// Puts new nodes in, with the next numbers.

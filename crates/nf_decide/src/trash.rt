@@ -1,7 +1,8 @@
 //! What is asked about the trash of a user.
 
-ghost use Rattle.std.specs.Prelude.{◌≡◌, [], ◌∷◌, ◌++◌, None, filter_map, option_copied, IfOk, OnOk};
+ghost use Rattle.std.specs.Prelude.{◌≡◌, [], ◌∷◌, ◌++◌, None, Some, filter_map, option_copied, IfOk, IfSome, OnOk};
 ghost use Rattle.std.specs.Option.{option_map_or};
+ghost use Rattle.nf_defs.specs.Prelude.{item_row};
 ghost use Rattle.nf_words.specs.Prelude.{AreSound, item_dropped, item_line, item_lines, item_restored, nothing_done, trash_done};
 ghost use Rattle.nf_words.specs.declared.answer.Allowed.TheVariants as allowed;
 ghost use Rattle.nf_words.specs.declared.answer.Report.TheVariants as report;
@@ -56,7 +57,8 @@ fn dropped(
     moment: Moment,
     item: Option<&ItemRow>,
 ) -> Result<Allowed, AllocError>
-    requires { AreSound view.now.tables }
+    requires sound { AreSound view.now.tables }
+    requires there { IfSome item (λ item. item_row view.now.tables.items item.now.node ≡ Some item.now) }
     ensures { IfOk result (λ allowed. allowed ≡ option_map_or (item_dropped view.now.tables moment) (option_copied item.entry) nothing_done) }
 {
     match item {
@@ -72,7 +74,8 @@ fn restored(
     moment: Moment,
     item: Option<&ItemRow>,
 ) -> Result<Allowed, AllocError>
-    requires { AreSound view.now.tables }
+    requires sound { AreSound view.now.tables }
+    requires there { IfSome item (λ item. item_row view.now.tables.items item.now.node ≡ Some item.now) }
     ensures { IfOk result (λ allowed. allowed ≡ option_map_or (item_restored view.now.tables moment) (option_copied item.entry) nothing_done) }
 {
     match item {

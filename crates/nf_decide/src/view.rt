@@ -1,20 +1,22 @@
 //! What a decision reads of the site: its parts, lent one by one.
 
-ghost use Rattle.std.specs.Prelude.{◌≡◌, length, sum_by};
+ghost use Rattle.std.specs.Prelude.{◌≡◌, ◌≤◌, length, sum_by};
 ghost use Rattle.nf_tree.specs.Order.{AreRisingNodes};
 ghost use Rattle.nf_access.specs.Shares.{ground_of};
 ghost use Rattle.nf_words.specs.Charges.{charge_of};
 ghost use Rattle.nf_words.specs.Contents.{stored_pieces};
 ghost use Rattle.nf_words.specs.Listing.{size_of};
 ghost use Rattle.nf_words.specs.Sound.{AreSound};
+ghost use Rattle.nf_words.specs.Prelude.{last_number};
+ghost use Rattle.nf_words.specs.Trash.{item_size, items_of};
 
-use nf_base::{ItemRow, MetaRow, Moment, NodeId, UserId, VersionRow};
+use nf_base::{MetaRow, Moment, NodeId, UserId, VersionRow};
 use nf_defs::Seeker;
 use nf_mounts::Mounts;
 use nf_people::People;
 use nf_reach::Asker;
 use nf_shares::Shares;
-use nf_table::Table;
+use nf_trash::Trash;
 use nf_tree::Tree;
 use nf_words::Ticket;
 use std::marker::Model;
@@ -28,7 +30,7 @@ pub struct View<'a> {
     pub shares: &'a Shares,
     pub mounts: &'a Mounts,
     pub versions: &'a Table<VersionRow>,
-    pub items: &'a Table<ItemRow>,
+    pub items: &'a Trash,
     pub tickets: &'a [Ticket],
     pub seen: Moment,
 }
@@ -103,8 +105,8 @@ impl<'a> View<'a> {
         self.versions
     }
 
-    /// The items of the trash, by rising node.
-    pub(crate) fn items(&self) -> &Table<ItemRow>
+    /// The items of the trash.
+    pub(crate) fn items(&self) -> &Trash
         ensures { result.now.rows ≡ self.now.tables.items }
     {
         self.items
@@ -133,6 +135,15 @@ impl<'a> View<'a> {
             Some(row) => self.size(row.root),
             None => 0,
         }
+    }
+
+    /// How many bytes a user's items of the trash have together: all that is the user's, but for what the user is charged for.
+    pub(crate) fn trashed(&self, user: UserId) -> u128
+        requires { AreSound self.now.tables }
+        ensures sum { result ≡ sum_by (item_size self.now.tables) (items_of self.now.tables user) }
+        ensures few { result ≤ last_number }
+    {
+        self.tree.bytes_of(user) - u128::from(self.charge(user))
     }
 
     /// How many pieces the rows name, with repeats.
