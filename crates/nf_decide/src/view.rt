@@ -16,6 +16,7 @@ use nf_mounts::Mounts;
 use nf_people::People;
 use nf_reach::Asker;
 use nf_shares::Shares;
+use nf_table::Table;
 use nf_trash::Trash;
 use nf_tree::Tree;
 use nf_words::Ticket;
