@@ -13,7 +13,7 @@ use crate::discarding::done;
 use crate::leaving::leaves;
 use crate::nodes::owner_of;
 use crate::quotas::size_replaced;
-use crate::settling::{Charged, charged, settle};
+use crate::settling::{Charged, owner_charged, settle};
 use crate::shared::nothing_done;
 use crate::transferring::crosses;
 use crate::view::View;
@@ -211,7 +211,7 @@ fn charged_at(view: &View<'_>, transfer: &Transfer) -> Charged
 {
     let old = size_replaced(view, &transfer.replaced);
     let owner = owner_of(view.tree(), transfer.folder);
-    charged(view, owner, old, view.size(transfer.node))
+    owner_charged(view, owner, old, view.size(transfer.node))
 }
 
 /// What is put at a place is made, where nothing was there.

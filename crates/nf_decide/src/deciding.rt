@@ -68,7 +68,8 @@ struct Seen {
 impl<'a> Call<'a> {
     /// What the step may do, or its refusal by the first rule that holds.
     pub fn decide(&self, alloc: Global) -> Result<Result<Allowed, Denial>, AllocError>
-        requires { AreSound self.now.state.tables }
+        requires sound { AreSound self.now.state.tables }
+        requires late { self.now.state.tables.meta.last ≤ self.now.now }
         ensures { IfOk result (λ decision. decision ≡ call_decision self.entry.now) }
     {
         let seen = match self.judge() {
@@ -385,6 +386,7 @@ impl<'a> Call<'a> {
         requires named { IsNamed self.now }
         requires there { IsThere self.now.state.tables seen.now.offer }
         requires few { limited self.now.state.tables (places_of self.now) (asked_by self.now).makes ≡ None }
+        requires late { self.now.state.tables.meta.last ≤ self.now.now }
         ensures { IfOk result (λ allowed. allowed ≡ allowed_of (access_of self.entry.now.state) self.entry.now) }
     {
         let view = &self.view;

@@ -10,7 +10,7 @@ ghost use Rattle.nf_words.specs.declared.answer.Report.TheVariants as report;
 
 use crate::going::{gone_beside, gone_by};
 use crate::homes::{home_of, name_back};
-use crate::settling::{Charged, charged, settle};
+use crate::settling::{Charged, owner_charged, settle};
 use crate::shared::nothing_done;
 use crate::view::View;
 use nf_base::{ItemRow, Moment, NodeId, NodeRow, Place, UserId, UserRow};
@@ -132,7 +132,7 @@ pub(crate) fn item_restored(
     let mut deeds = Vec::new(alloc);
     deeds.push(deed)?;
     push_purges(&mut deeds, &gone_beside(alloc, view, moment, item)?)?;
-    let charged = charged(view, item.owner, 0, view.size(item.node));
+    let charged = owner_charged(view, item.owner, 0, view.size(item.node));
     settle(alloc, view, &charged, &mut deeds)?;
     Ok(done(deeds, Report::Made))
 }

@@ -15,7 +15,7 @@ use crate::limits::{limit_at, pieces_of};
 use crate::nodes::{is_root, owner_of};
 use crate::quotas::excess_at;
 use crate::refilling::{push_dropped, stored_over};
-use crate::settling::{charged, settled};
+use crate::settling::{owner_charged, settled};
 use crate::view::View;
 use nf_base::{
     Act, BlobId, Content, Digest, Moment, Name, NodeId, NodeKind, Piece,
@@ -37,6 +37,7 @@ pub fn decide_end(
     requires sound { IsGoalSound view.now.tables goal.now }
     requires held { IsStorable view.now.tables goal.now }
     requires brought { MayBring goal.now outcome.now }
+    requires late { view.now.tables.meta.last ≤ moment }
     ensures { IfOk result (λ decision. decision ≡ ends_goal (access_of view.now) view.now.tables moment outcome.now goal.now) }
 {
     match outcome {
@@ -60,6 +61,7 @@ fn store(
     requires rows { AreSound view.now.tables }
     requires few { length ≤ MAX_BODY }
     requires held { IsHeld view.now.tables key.now }
+    requires late { view.now.tables.meta.last ≤ moment }
     ensures { IfOk result (λ decision. decision ≡ stores (access_of view.now) view.now.tables moment by.now key.now digest.now length) }
 {
     match end_refusal(view, moment, by, key, length) {
@@ -177,6 +179,7 @@ fn stored_at(
     requires few { length ≤ MAX_BODY }
     requires held { IsHeld view.now.tables key.now }
     requires sound { AreSound view.now.tables }
+    requires late { view.now.tables.meta.last ≤ moment }
     ensures { IfOk result (λ allowed. allowed ≡ stored_at view.now.tables moment key.now digest.now length) }
 {
     let blob = blob_for(view.meta().next_blob, length);
@@ -203,7 +206,7 @@ fn stored_under(
     ensures { IfOk result (λ allowed. allowed ≡ stored_new view.now.tables (new_node view.now.tables moment folder name.now File content) blob) }
 {
     let name = name.copy()?;
-    let charged = charged(view, owner_of(view.tree(), folder), 0, content.size());
+    let charged = owner_charged(view, owner_of(view.tree(), folder), 0, content.size());
     let gone = settled(alloc, view, &charged)?;
     let row = new_node(view, moment, folder, name, NodeKind::File, content);
     let mut changes = only(alloc, row)?;

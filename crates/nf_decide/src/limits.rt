@@ -312,7 +312,7 @@ fn limit_passed(
 fn are_many(view: &View<'_>, pieces: u128) -> bool
     ensures { result ≡ nat_lt (count_of Pieces) (stored_pieces view.now.tables + pieces) }
 {
-    let all_pieces = pieces.saturating_add(view.stored_pieces() as u128);
+    let all_pieces = pieces.saturating_add(view.stored_pieces());
     passes(all_pieces, Limit::Pieces)
 }
 

@@ -1,19 +1,21 @@
 //! How a file's content becomes another: what is replaced becomes a version, and older ones thin out and stay within their bound.
 
-ghost use Rattle.std.specs.Prelude.{◌≡◌, ◌++◌, ◌&&◌, ◌==◌, [], None, Some, filter, length, map, not, reverse, IfOk, OnOk};
+ghost use Rattle.std.specs.Prelude.{◌≡◌, ◌≤◌, ◌++◌, ◌∷◌, ◌&&◌, ◌==◌, [], None, Some, true, false, filter, if◌then◌else◌, map, nat_lt, not, reverse, IfOk, OnOk};
+ghost use Rattle.std.specs.List.Sorted.{IsNonDecreasingBy};
 ghost use Rattle.std.specs.Option.{option_map_or};
-ghost use Rattle.nf_base.specs.Content.{content_eq};
-ghost use Rattle.nf_base.specs.declared.changes.Change.TheVariants.{Drop};
+ghost use Rattle.nf_base.specs.declared.changes.Change.TheVariants.{Drop, Put};
 ghost use Rattle.nf_base.specs.declared.changes.RowKey.TheVariants as keys;
+ghost use Rattle.nf_base.specs.declared.rows.Row.TheVariants as rows;
 ghost use Rattle.nf_defs.specs.Tree.{filled, is_file, is_folder_kind, node_row};
 ghost use Rattle.nf_retention.specs.Thinning.{AreFalling};
-ghost use Rattle.nf_words.specs.Changes.{brought_back, charged, nothing_done, refilled, refills};
+ghost use Rattle.nf_retention.specs.declared.versions.Version.{Version as TheVersion};
+ghost use Rattle.nf_words.specs.Changes.{brought_back, charged, is_same, nothing_done, refilled, refills};
 ghost use Rattle.nf_words.specs.Sound.{AreSound};
-ghost use Rattle.nf_words.specs.Versions.{becomes_version, content_size, drop_back, drop_gone, drop_version, gone_after, held, is_among, put_replaced, staying, those_at, thinned_out, version_for, version_row, with_replaced};
+ghost use Rattle.nf_words.specs.Versions.{becomes_version, beyond_bound, content_size, drop_back, drop_gone, drop_version, gone_after, has_already, held, held_beside, is_among, is_at, put_replaced, staying, thinned_out, turned_over, version_for, version_row, with_replaced};
 ghost use Rattle.nf_words.specs.declared.answer.Allowed.TheVariants.{Change as ChangeOf};
 ghost use Rattle.nf_words.specs.declared.answer.Report.TheVariants.{Done};
 
-use crate::settling::{beyond_bound, charged, has_version, held_beside, is_version, version};
+use crate::settling::{beyond_bound, has_version, held_beside, is_version, owner_charged, version};
 use crate::shared::nothing_done;
 use crate::versions::{version_row, versions_of};
 use crate::view::View;
@@ -43,6 +45,7 @@ pub(crate) fn stored_over(
     blob: Option<BlobId>,
 ) -> Result<Allowed, AllocError>
     requires sound { AreSound view.now.tables }
+    requires late { view.now.tables.meta.last ≤ moment }
     requires file { is_file view.now.tables.nodes node ≡ true }
     ensures { IfOk result (λ allowed. allowed ≡ ChangeOf (option_map_or (refilled view.now.tables moment content) (node_row view.now.tables.nodes node) []) blob Done) }
 {
@@ -54,6 +57,7 @@ pub(crate) fn stored_over(
 }
 
 /// What becomes of the rows where that is another content.
+#[tactic(auto, using(crate::proofs::Refills::row_itself))]
 fn refilled(
     alloc: Global,
     view: &View<'_>,
@@ -62,24 +66,20 @@ fn refilled(
     content: Content,
 ) -> Result<Changes, AllocError>
     requires sound { AreSound view.now.tables }
+    requires late { view.now.tables.meta.last ≤ moment }
     requires file { is_file view.now.tables.nodes node ≡ true }
     ensures { IfOk result (λ changes. changes ≡ option_map_or (refilled view.now.tables moment content) (node_row view.now.tables.nodes node) []) }
 {
     match view.tree().node(node) {
         Some(row) if !is_same(row, moment, &content) => {
-            let refill = Refill {
-                view,
-                row,
-                moment,
-                back: None,
-            };
-            refill.changes(alloc, content)
+            refills(alloc, view, moment, None, content, row)
         }
         Some(_) | None => Ok(Changes::new(alloc)),
     }
 }
 
 /// The version of that moment is the file's content again, if it is there.
+#[tactic(auto, using(crate::proofs::Refills::version_file))]
 pub(crate) fn version_back(
     alloc: Global,
     view: &View<'_>,
@@ -88,6 +88,7 @@ pub(crate) fn version_back(
     at: Moment,
 ) -> Result<Allowed, AllocError>
     requires sound { AreSound view.now.tables }
+    requires late { view.now.tables.meta.last ≤ moment }
     ensures { IfOk result (λ allowed. allowed ≡ option_map_or (brought_back view.now.tables moment node) (version_row view.now.tables.versions node at) nothing_done) }
 {
     match version_row(view, node, at) {
@@ -96,6 +97,7 @@ pub(crate) fn version_back(
     }
 }
 
+#[tactic(auto, using(crate::proofs::Refills::row_itself))]
 fn brought_back(
     alloc: Global,
     view: &View<'_>,
@@ -104,18 +106,13 @@ fn brought_back(
     version: &VersionRow,
 ) -> Result<Allowed, AllocError>
     requires sound { AreSound view.now.tables }
+    requires late { view.now.tables.meta.last ≤ moment }
+    requires file { is_file view.now.tables.nodes node ≡ true }
     ensures { IfOk result (λ allowed. allowed ≡ brought_back view.now.tables moment node version.now) }
 {
+    let content = version.content.clone()?;
     let changes = match view.tree().node(node) {
-        Some(row) => {
-            let refill = Refill {
-                view,
-                row,
-                moment,
-                back: Some(version.at),
-            };
-            refill.changes(alloc, version.content.clone()?)?
-        }
+        Some(row) => refills(alloc, view, moment, Some(version.at), content, row)?,
         None => Changes::new(alloc),
     };
     Ok(Allowed::Change {
@@ -125,6 +122,40 @@ fn brought_back(
     })
 }
 
+/// What becomes of the rows where a file has another content, with the version of the moment `back` in its place, where one comes back.
+fn refills(
+    alloc: Global,
+    view: &View<'_>,
+    moment: Moment,
+    back: Option<Moment>,
+    content: Content,
+    row: &NodeRow,
+) -> Result<Changes, AllocError>
+    requires sound { AreSound view.now.tables }
+    requires late { view.now.tables.meta.last ≤ moment }
+    requires file { is_folder_kind row.now.kind ≡ false }
+    requires there { node_row view.now.tables.nodes row.now.id ≡ Some row.now }
+    ensures { IfOk result (λ changes. changes ≡ refills view.now.tables moment back content row.now) }
+{
+    let refill = Refill {
+        view,
+        row,
+        moment,
+        back,
+    };
+    refill.changes(alloc, content)
+}
+
+/// Whether that is the moment of the version that comes back.
+fn is_at(back: Option<Moment>, at: Moment) -> bool
+    ensures { result ≡ is_at back at }
+{
+    match back {
+        Some(back) => back == at,
+        None => false,
+    }
+}
+
 /// Whether what a file has becomes a version when it is replaced, beside those that stay.
 pub(crate) fn becomes_version(view: &View<'_>, row: &NodeRow, back: Option<Moment>) -> bool
     ensures { result ≡ becomes_version view.now.tables.versions back row.now }
@@ -132,96 +163,164 @@ pub(crate) fn becomes_version(view: &View<'_>, row: &NodeRow, back: Option<Momen
     if row.content.pieces().is_empty() {
         return false;
     }
-    back == Some(row.changed) || version_row(view, row.id, row.changed).is_none()
+    is_at(back, row.changed) || version_row(view, row.id, row.changed).is_none()
+}
+
+/// Whether a file has a version of the moment of its content, and of that content, already.
+fn has_already(view: &View<'_>, row: &NodeRow) -> bool
+    ensures { result ≡ has_already view.now.tables.versions row.now }
+{
+    match version_row(view, row.id, row.changed) {
+        Some(version) => version.content == row.content,
+        None => false,
+    }
 }
 
 impl<'a> Refill<'a> {
     /// The rows that change: the file's, and those of versions.
     fn changes(&self, alloc: Global, content: Content) -> Result<Changes, AllocError>
-        requires sound { AreSound self.view.now.tables }
-        requires file { is_folder_kind self.row.now.kind ≡ false }
-        ensures { IfOk result (λ changes. changes ≡ refills self.view.now.tables self.moment self.back content self.row.now) }
+        requires sound { AreSound self.now.view.now.tables }
+        requires late { self.now.view.now.tables.meta.last ≤ self.now.moment }
+        requires file { is_folder_kind self.now.row.now.kind ≡ false }
+        requires there { node_row self.now.view.now.tables.nodes self.now.row.now.id ≡ Some self.now.row.now }
+        ensures { IfOk result (λ changes. changes ≡ refills self.now.view.now.tables self.now.moment self.now.back content self.now.row.now) }
     {
         let gone = self.gone(alloc, content.size())?;
         let mut changes = Changes::new(alloc);
-        changes.push(Change::Put(Row::Node(filled(self.row, self.moment, content)?)))?;
-        let becomes = becomes_version(self.view, self.row, self.back);
-        let is_put = becomes && !has_version(&gone, self.row.id, self.row.changed);
-        if is_put {
-            changes.push(Change::Put(Row::Version(version_for(self.row)?)))?;
-        }
-        self.push_back(&mut changes, is_put)?;
-        push_gone(&mut changes, self.row, becomes, &gone)?;
+        push_filled(&mut changes, self.row, self.moment, content)?;
+        self.push_versions(&mut changes, &gone)?;
         Ok(changes)
     }
 
-    /// The version that comes back leaves the list, unless what is replaced takes its place there.
-    fn push_back(&self, changes: &mut Changes, is_put: bool) -> Result<(), AllocError>
-        ensures { OnOk result (changes.new ≡ changes.old ++ drop_back self.back self.row.now is_put) }
+    /// What becomes of versions, where those go.
+    fn push_versions(&self, changes: &mut Changes, gone: &[Version]) -> Result<(), AllocError>
+        ensures { OnOk result (changes.new ≡ changes.old ++ turned_over self.now.view.now.tables self.now.back self.now.row.now gone.now) }
     {
-        match self.back {
-            Some(at) if !(is_put && at == self.row.changed) => {
-                changes.push(dropped(self.row.id, at))
-            }
-            Some(_) | None => Ok(()),
+        let row = self.row;
+        let becomes = becomes_version(self.view, row, self.back);
+        let stays = becomes && !has_version(gone, row.id, row.changed);
+        self.push_replaced(changes, stays)?;
+        self.push_back(changes, stays)?;
+        push_gone(changes, row, becomes, gone)
+    }
+
+    /// What is replaced is a version then, unless it is there already.
+    fn push_replaced(&self, changes: &mut Changes, stays: bool) -> Result<(), AllocError>
+        ensures { OnOk result (changes.new ≡ changes.old ++ put_replaced self.now.view.now.tables self.now.row.now stays) }
+    {
+        if stays && !has_already(self.view, self.row) {
+            changes.push(Change::Put(Row::Version(version_for(self.row)?)))?;
         }
+        Ok(())
+    }
+
+    /// The version that comes back leaves the list, unless what is replaced takes its place there.
+    fn push_back(&self, changes: &mut Changes, stays: bool) -> Result<(), AllocError>
+        ensures { OnOk result (changes.new ≡ changes.old ++ drop_back self.now.back self.now.row.now stays) }
+    {
+        let row = self.row;
+        let Some(at) = self.back else {
+            return Ok(());
+        };
+        if !(stays && at == row.changed) {
+            changes.push(dropped(row.id, at))?;
+        }
+        Ok(())
     }
 
     /// The versions that go then: of the file those that thin out, and of its owner those that are beyond the bound.
     fn gone(&self, alloc: Global, size: u64) -> Result<Vec<Version>, AllocError>
-        requires sound { AreSound self.view.now.tables }
-        ensures { IfOk result (λ gone. (let to = charged self.view.now.tables self.row.now.owner (content_size self.row.now.content) size in gone.items ≡ gone_after self.view.now.tables self.moment self.back self.row.now to.quota to.charge)) }
+        requires sound { AreSound self.now.view.now.tables }
+        requires late { self.now.view.now.tables.meta.last ≤ self.now.moment }
+        requires there { node_row self.now.view.now.tables.nodes self.now.row.now.id ≡ Some self.now.row.now }
+        ensures { IfOk result (λ gone. (let to = charged self.now.view.now.tables self.now.row.now.owner (content_size self.now.row.now.content) size in gone.items ≡ gone_after self.now.view.now.tables self.now.moment self.now.back self.now.row.now to.quota to.charge)) }
     {
-        let mut held = self.held(alloc)?;
+        let held = self.held(alloc)?;
         let moments = self.thinned_out(alloc, &held)?;
         let mut gone = those_at(alloc, &held, &moments)?;
-        leave_out(&mut held, &moments);
-        let mut others = held_beside(alloc, self.view, self.row.owner, self.row.id)?;
-        others.append(&mut held)?;
-        let charged = charged(self.view, self.row.owner, self.row.content.size(), size);
-        let mut beyond = beyond_bound(alloc, &charged, others)?;
+        let mut beyond = self.beyond(alloc, held, &moments, size)?;
         gone.append(&mut beyond)?;
         Ok(gone)
     }
 
+    /// Of the owner's versions those that are beyond the bound, once some of the file's are gone.
+    fn beyond(
+        &self,
+        alloc: Global,
+        mut versions: Vec<Version>,
+        moments: &[Moment],
+        size: u64,
+    ) -> Result<Vec<Version>, AllocError>
+        requires sound { AreSound self.now.view.now.tables }
+        requires falling { AreFalling moments.now }
+        ensures { IfOk result (λ gone. (let to = charged self.now.view.now.tables self.now.row.now.owner (content_size self.now.row.now.content) size in gone.items ≡ beyond_bound to.quota to.charge (held_beside self.now.view.now.tables self.now.row.now.owner self.now.row.now.id ++ filter (λ version. not (is_among moments.now version.at)) versions.items))) }
+    {
+        let row = self.row;
+        leave_out(&mut versions, moments);
+        let mut others = held_beside(alloc, self.view, row.owner, row.id)?;
+        others.append(&mut versions)?;
+        let charged = owner_charged(self.view, row.owner, row.content.size(), size);
+        beyond_bound(alloc, &charged, others)
+    }
+
     /// The versions of the file with what is replaced among them, newest first.
     fn held(&self, alloc: Global) -> Result<Vec<Version>, AllocError>
-        ensures { IfOk result (λ held_now. held_now.items ≡ reverse (map held (with_replaced self.view.now.tables.versions self.back self.row.now))) }
+        requires { AreSound self.now.view.now.tables }
+        ensures { IfOk result (λ versions. versions.items ≡ reverse (map held (with_replaced self.now.view.now.tables.versions self.now.back self.now.row.now))) }
+    {
+        let mut held = self.with_replaced(alloc)?;
+        held.reverse();
+        Ok(held)
+    }
+
+    /// The same, the oldest first.
+    fn with_replaced(&self, alloc: Global) -> Result<Vec<Version>, AllocError>
+        requires { AreSound self.now.view.now.tables }
+        ensures { IfOk result (λ versions. versions.items ≡ map held (with_replaced self.now.view.now.tables.versions self.now.back self.now.row.now)) }
     {
         let mut held = self.staying(alloc)?;
-        if becomes_version(self.view, self.row, self.back) {
-            insert(&mut held, replaced(self.row))?;
+        if !becomes_version(self.view, self.row, self.back) {
+            return Ok(held);
         }
-        held.reverse();
+        insert(&mut held, replaced(self.row))?;
         Ok(held)
     }
 
     /// Those of the file that are there and don't come back, the oldest first.
     fn staying(&self, alloc: Global) -> Result<Vec<Version>, AllocError>
-        ensures { IfOk result (λ versions. versions.items ≡ map held (staying self.view.now.tables.versions self.back self.row.now.id)) }
+        ensures { IfOk result (λ versions. versions.items ≡ map held (staying self.now.view.now.tables.versions self.now.back self.now.row.now.id)) }
     {
-        let back = self.back;
-        versions_of(self.view, self.row.id)
+        let (row, back) = (self.row, self.back);
+        versions_of(self.view, row.id)
             .iter()
-            .filter(|row| back != Some(row.at))
-            .map(|row| version(row))
+            .filter(|one| !is_at(back, one.at))
+            .map(|one| version(one))
             .collect(alloc)
     }
 
     /// The moments of those that thin out, where there is something to replace.
-    fn thinned_out(&self, alloc: Global, held: &[Version]) -> Result<Vec<Moment>, AllocError>
-        requires { held.now ≡ reverse (map held (with_replaced self.view.now.tables.versions self.back self.row.now)) }
-        ensures { IfOk result (λ moments. moments.items ≡ thinned_out self.moment self.row.now (with_replaced self.view.now.tables.versions self.back self.row.now)) }
+    fn thinned_out(&self, alloc: Global, versions: &[Version]) -> Result<Vec<Moment>, AllocError>
+        requires sound { AreSound self.now.view.now.tables }
+        requires late { self.now.view.now.tables.meta.last ≤ self.now.moment }
+        requires there { node_row self.now.view.now.tables.nodes self.now.row.now.id ≡ Some self.now.row.now }
+        requires versions { versions.now ≡ reverse (map held (with_replaced self.now.view.now.tables.versions self.now.back self.now.row.now)) }
+        ensures moments { IfOk result (λ moments. moments.items ≡ thinned_out self.now.moment self.now.row.now (with_replaced self.now.view.now.tables.versions self.now.back self.now.row.now)) }
+        ensures falling { IfOk result (λ moments. AreFalling moments.items) }
     {
-        if self.row.content.pieces().is_empty() {
+        let row = self.row;
+        if row.content.pieces().is_empty() {
             return Ok(Vec::new(alloc));
         }
-        thinned(alloc, self.moment, &moments_of(alloc, held)?)
+        let moments = moments_of(alloc, versions)?;
+        thinned(alloc, self.moment, &moments)
     }
 }
 
-/// Puts a version of a file among its others, the oldest first.
-fn insert(held: &mut Vec<Version>, version: Version) -> Result<(), AllocError> {
+/// Puts a version of a file among its others, the oldest first: behind those of earlier moments.
+fn insert(held: &mut Vec<Version>, version: Version) -> Result<(), AllocError>
+    requires { IsNonDecreasingBy (λ (other : TheVersion). other.at) held.old.items }
+    ensures { OnOk result (held.new.items ≡ filter (λ other. nat_lt other.at version.at) held.old.items ++ version ∷ filter (λ other. not (nat_lt other.at version.at)) held.old.items) }
+{
     let place = held.partition_point(|other| other.at < version.at);
     held.insert(place, version)?;
     Ok(())
@@ -320,9 +419,25 @@ fn push_gone(
     Ok(())
 }
 
+/// A file's row has another content, where that is another.
+fn push_filled(
+    changes: &mut Changes,
+    row: &NodeRow,
+    moment: Moment,
+    content: Content,
+) -> Result<(), AllocError>
+    requires { is_folder_kind row.now.kind ≡ false }
+    ensures { OnOk result (changes.new ≡ changes.old ++ (if is_same moment content row.now then [] else Put (rows.Node (filled content moment row.now)) ∷ [])) }
+{
+    if !is_same(row, moment, &content) {
+        changes.push(Change::Put(Row::Node(filled(row, moment, content)?)))?;
+    }
+    Ok(())
+}
+
 /// Whether a row has that content since that moment.
 fn is_same(row: &NodeRow, moment: Moment, content: &Content) -> bool
-    ensures { result ≡ (content_eq row.now.content content.now && row.now.changed == moment) }
+    ensures { result ≡ is_same moment content.now row.now }
 {
     row.content == *content && row.changed == moment
 }

@@ -33,7 +33,7 @@ impl Model for Charged {
 }
 
 /// An owner with so many bytes in the place of so many.
-pub(crate) fn charged(view: &View<'_>, owner: UserId, old: u64, new: u64) -> Charged
+pub(crate) fn owner_charged(view: &View<'_>, owner: UserId, old: u64, new: u64) -> Charged
     requires { AreSound view.now.tables }
     ensures { result ≡ charged view.now.tables owner old new }
 {

@@ -1,6 +1,6 @@
 //! The versions of files: which there are, and what is sent and told of them.
 
-ghost use Rattle.std.specs.Prelude.{◌≡◌, [], IfOk, None, map, option_copied};
+ghost use Rattle.std.specs.Prelude.{◌≡◌, ◌≤◌, [], IfOk, None, map, option_copied};
 ghost use Rattle.std.specs.Option.{option_map_or};
 ghost use Rattle.nf_base.specs.declared.rows.VersionRow.{VersionRow as TheRow};
 ghost use Rattle.nf_reach.specs.Asking.{refusal_for};
@@ -119,7 +119,8 @@ impl<'a> Call<'a> {
         alloc: Global,
         ask: &VersionAsk,
     ) -> Result<Allowed, AllocError>
-        requires { AreSound self.now.state.tables }
+        requires sound { AreSound self.now.state.tables }
+        requires late { self.now.state.tables.meta.last ≤ self.now.now }
         ensures { IfOk result (λ allowed. allowed ≡ version_done self.entry.now.state.tables self.entry.now.now ask.now) }
     {
         let view = &self.view;

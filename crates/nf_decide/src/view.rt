@@ -1,6 +1,7 @@
 //! What a decision reads of the site: its parts, lent one by one.
 
-ghost use Rattle.std.specs.Prelude.{◌≡◌, ◌≤◌, length, sum_by};
+ghost use Rattle.std.specs.Prelude.{◌≡◌, ◌*◌, ◌≤◌, length, sum_by};
+ghost use Rattle.nf_base.specs.declared.limits.TheConstants.{MAX_PIECES};
 ghost use Rattle.nf_tree.specs.Order.{AreRisingNodes};
 ghost use Rattle.nf_access.specs.Shares.{ground_of};
 ghost use Rattle.nf_words.specs.Charges.{charge_of};
@@ -148,10 +149,10 @@ impl<'a> View<'a> {
     }
 
     /// How many pieces the rows name, with repeats.
-    pub(crate) fn stored_pieces(&self) -> usize
+    pub(crate) fn stored_pieces(&self) -> u128
         ensures { result ≡ stored_pieces self.now.tables }
     {
-        self.tree.pieces() + pieces_in(self.versions.rows())
+        self.tree.pieces() as u128 + pieces_in(self.versions.rows())
     }
 
     /// Tells callers that the nodes are by rising number; it does nothing.
@@ -162,13 +163,14 @@ impl<'a> View<'a> {
     }
 }
 
-/// How many pieces some versions have, with repeats.
-fn pieces_in(rows: &[VersionRow]) -> usize
-    ensures { result ≡ sum_by (λ row. length row.content) rows.now }
+/// How many pieces some versions have, with repeats. No sum of these passes a u128.
+fn pieces_in(rows: &[VersionRow]) -> u128
+    ensures count { result ≡ sum_by (λ row. length row.content) rows.now }
+    ensures few { result ≤ MAX_PIECES * length rows.now }
 {
-    let mut count: usize = 0;
+    let mut count = 0;
     for row in rows {
-        count = count.saturating_add(row.content.pieces().len());
+        count += row.content.pieces().len() as u128;
     }
     count
 }
