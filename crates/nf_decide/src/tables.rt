@@ -303,6 +303,21 @@ impl Tables {
         ensures room { self.new.room ≡ self.old.room }
         ensures run { run.new.items ≡ [] }
     {
+        if run.is_empty() {
+            return;
+        }
+        self.purge_run(run);
+    }
+
+    /// The same of a run of some.
+    fn purge_run(&mut self, run: &mut Vec<NodeId>)
+        requires some { run.old.items ≢ [] }
+        requires items { All (λ node. IsSome (item_row self.old.tables.items node)) run.old.items }
+        requires bears { BearsDeeds self.old.tables (purges run.old.items) }
+        ensures tables { self.new.tables ≡ deeds_done self.old.tables (purges run.old.items) }
+        ensures room { self.new.room ≡ self.old.room }
+        ensures run { run.new.items ≡ [] }
+    {
         self.tree.purge_all(run);
         run.sort_unstable();
         self.items.drop_all(run);

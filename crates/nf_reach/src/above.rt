@@ -20,6 +20,7 @@ impl<'a> Asker<'a> {
     }
 
     /// The same, so many folders up at most.
+    #[tactic(auto, using(crate::proofs::Nearest::nearest_here, crate::proofs::Nearest::nearest_ends, crate::proofs::Nearest::nearest_up))]
     fn mount_within(&self, up: u32, node: NodeId) -> Option<NodeId>
         ensures { result ≡ nearest up self.now.base.nodes (is_mounted self.now.mounts (user_in self.now.seeker)) node }
     {
@@ -33,6 +34,7 @@ impl<'a> Asker<'a> {
     }
 
     /// The node of the nearest one that lets who asks do the act, so many folders up at most.
+    #[tactic(auto, using(crate::proofs::Nearest::nearest_here, crate::proofs::Nearest::nearest_ends, crate::proofs::Nearest::nearest_up))]
     fn granting_within(&self, up: u32, act: Act, node: NodeId) -> Option<NodeId>
         ensures { result ≡ nearest up self.now.base.nodes (is_granting (by_chains self.now.base) self.now.mounts self.now.seeker (user_in self.now.seeker) self.now.moment act) node }
     {
