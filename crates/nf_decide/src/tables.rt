@@ -1,6 +1,6 @@
 //! The rows of the site in memory.
 
-ghost use Rattle.std.specs.Prelude.{◌≡◌, ◌⊎◌, ℕ, ◌+◌, ◌<◌, ◌≤◌, ◌∷◌, ◌++◌, [], false, is_some, IsTrue, All, AllPairs, length, map, max, slice_get, IfOk, IsSome, OnOk, None, Some};
+ghost use Rattle.std.specs.Prelude.{◌≡◌, ◌≢◌, ◌⊎◌, ℕ, ◌+◌, ◌<◌, ◌≤◌, ◌∷◌, ◌++◌, [], false, is_some, IsTrue, All, AllPairs, length, map, max, slice_get, IfOk, IsSome, OnOk, None, Some};
 ghost use Rattle.nf_base.specs.declared.changes.Change.TheVariants.{Put};
 ghost use Rattle.nf_base.specs.declared.limits.TheConstants.{MAX_NODES};
 ghost use Rattle.nf_base.specs.declared.rows.NodeRow.{NodeRow};
