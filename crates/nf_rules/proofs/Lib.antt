@@ -18,3 +18,4 @@ pub mod Stacked
 pub mod Stays
 pub mod Unbroken
 pub mod Settled
+pub mod Held
