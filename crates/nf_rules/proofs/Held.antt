@@ -26,6 +26,11 @@ pub bound_falls : (quota less more : ℕ) → less ≤ more → versions_bound q
 bound_falls quota less more le =
     le-div ((quota - more) / 2) (quota - less) 2 (omega arith) (omega (arith, le, div-mul-le_self (quota - more) 2))
 
+-- and where a quota is more
+pub bound_rises : (charge less more : ℕ) → less ≤ more → versions_bound less charge ≤ versions_bound more charge
+bound_rises charge less more le =
+    le-div ((less - charge) / 2) (more - charge) 2 (omega arith) (omega (arith, le, div-mul-le_self (less - charge) 2))
+
 -- ---- rows that differ, among a list
 
 -- the version is held so
