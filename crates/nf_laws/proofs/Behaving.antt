@@ -1,5 +1,5 @@
 -- Of a Begin that no rule refuses: which versions go behind its deeds, and that what it changes else touches none.
-use Rattle.std.proofs.Common.{ℕ, ◌==◌, ◌≡◌, ◌≤◌, Bool, true, false, List, [], ◌∷◌, ◌++◌, map, Option, None, Some, Ok, if◌then◌else◌, inl, refl, sym, ap, subst, ◌∙◌, flat_map, ◌&&◌, ◌⊎◌, inr, option_map}
+use Rattle.std.proofs.Common.{ℕ, ◌==◌, ◌≡◌, ◌≤◌, Bool, true, false, List, [], ◌∷◌, ◌++◌, map, Option, None, Some, Ok, if◌then◌else◌, inl, refl, sym, ap, subst, ◌∙◌, flat_map, ◌&&◌, ◌⊎◌, inr, option_map, ◌≢◌}
 use Rattle.std.specs.Option.{option_and_then, option_map_or}
 use Rattle.std.proofs.lemmas.Bool.{cond_both, eqb-true, and_parts}
 use Rattle.nf_base.specs.declared.rows.ItemRow.{ItemRow}
@@ -50,45 +50,82 @@ use Rattle.nf_base.specs.declared.rows.Row.TheVariants as rows
 use Rattle.nf_base.specs.declared.rows.MountRow.{MountRow}
 use Rattle.nf_base.specs.declared.rows.MemberRow.{MemberRow}
 use Rattle.nf_base.specs.declared.rows.NodeRow.{NodeRow}
+use Rattle.nf_laws.proofs.Blobs.{AreOf, IsOf}
+use Rattle.nf_laws.proofs.Puts.{other_number}
 
 -- ---- what touches no version
 
-abbrev IsTurnless : Change → Type 0
-IsTurnless (Put (rows.Version row)) = ⊥
-IsTurnless (Drop (keys.Version node at)) = ⊥
-IsTurnless other = Unit {0}
+-- no version is put or dropped, no file has a content, and a user has a new number
+abbrev IsTurnless : Tables → Change → Type 0
+IsTurnless t (Put (rows.User row)) = row.id ≡ t.meta.next_user
+IsTurnless t (Put (rows.Version row)) = ⊥
+IsTurnless t (Drop (keys.User user)) = ⊥
+IsTurnless t (Drop (keys.Version node at)) = ⊥
+IsTurnless t other = IsOf [] other
 
-abbrev pub AreTurnless : List Change → Type 0
-AreTurnless [] = Unit {0}
-AreTurnless (change ∷ changes) = IsTurnless change × AreTurnless changes
+abbrev pub AreTurnless : Tables → List Change → Type 0
+AreTurnless t [] = Unit {0}
+AreTurnless t (change ∷ changes) = IsTurnless t change × AreTurnless t changes
 
-append_turnless : (xs ys : List Change) → AreTurnless xs → AreTurnless ys → AreTurnless (xs ++ ys)
-append_turnless [] ys first second = second
-append_turnless (x ∷ xs) ys first second = (first.0, append_turnless xs ys first.1 second)
+mounts_turnless : (t : Tables) (mounts : List MountRow) → AreTurnless t (put_mounts mounts)
+mounts_turnless t [] = tt
+mounts_turnless t (row ∷ mounts) = (tt, mounts_turnless t mounts)
 
-mounts_turnless : (mounts : List MountRow) → AreTurnless (put_mounts mounts)
-mounts_turnless [] = tt
-mounts_turnless (row ∷ mounts) = (tt, mounts_turnless mounts)
+one_of : (t : Tables) (change : Change) → IsTurnless t change → IsOf [] change
+one_of t (Put (rows.User row)) it = tt
+one_of t (Put (rows.Version row)) it = absurd it
+one_of t (Drop (keys.User user)) it = absurd it
+one_of t (Drop (keys.Version node at)) it = absurd it
+one_of t other it = it
 
-one_turnless : (t : Tables) (change : Change) → IsTurnless change → (made t change).versions ≡ t.versions
-one_turnless t (Put (rows.Version row)) it = absurd it
-one_turnless t (Put (rows.Meta row)) it = refl
-one_turnless t (Put (rows.User row)) it = refl
-one_turnless t (Put (rows.Token row)) it = refl
-one_turnless t (Put (rows.Group row)) it = refl
-one_turnless t (Put (rows.Member row)) it = refl
-one_turnless t (Put (rows.Node row)) it = refl
-one_turnless t (Put (rows.Share row)) it = refl
-one_turnless t (Put (rows.Mount row)) it = refl
-one_turnless t (Put (rows.Item row)) it = refl
-one_turnless t (Put (rows.Upload row)) it = refl
-one_turnless t (Put (rows.Chunk row)) it = refl
-one_turnless t (Drop (keys.Version node at)) it = absurd it
-one_turnless t (Drop key) it = refl
+pub turnless_of : (t : Tables) (changes : List Change) → AreTurnless t changes → AreOf [] changes
+turnless_of t [] all = tt
+turnless_of t (change ∷ changes) all = (one_of t change all.0, turnless_of t changes all.1)
 
-pub all_turnless : (t : Tables) (changes : List Change) → AreTurnless changes → (put_all t changes).versions ≡ t.versions
-all_turnless t [] all = refl
-all_turnless t (change ∷ changes) all = all_turnless (made t change) changes all.1 ∙ one_turnless t change all.0
+one_turnless : (first t : Tables) (change : Change) → IsTurnless first change → (made t change).versions ≡ t.versions
+one_turnless first t (Put (rows.Version row)) it = absurd it
+one_turnless first t (Put (rows.Meta row)) it = refl
+one_turnless first t (Put (rows.User row)) it = refl
+one_turnless first t (Put (rows.Token row)) it = refl
+one_turnless first t (Put (rows.Group row)) it = refl
+one_turnless first t (Put (rows.Member row)) it = refl
+one_turnless first t (Put (rows.Node row)) it = refl
+one_turnless first t (Put (rows.Share row)) it = refl
+one_turnless first t (Put (rows.Mount row)) it = refl
+one_turnless first t (Put (rows.Item row)) it = refl
+one_turnless first t (Put (rows.Upload row)) it = refl
+one_turnless first t (Put (rows.Chunk row)) it = refl
+one_turnless first t (Drop (keys.Version node at)) it = absurd it
+one_turnless first t (Drop key) it = refl
+
+pub all_turnless : (first t : Tables) (changes : List Change) → AreTurnless first changes → (put_all t changes).versions ≡ t.versions
+all_turnless first t [] all = refl
+all_turnless first t (change ∷ changes) all = all_turnless first (made t change) changes all.1 ∙ one_turnless first t change all.0
+
+-- a user who was there has the row that there was
+one_user : (first t : Tables) (user : ℕ) (change : Change) → user ≢ first.meta.next_user → IsTurnless first change
+    → user_row (made t change).users user ≡ user_row t.users user
+one_user first t user (Put (rows.User row)) other it = other_number (λ (r : UserRow). r.id) row t.users user (λ same. other (same ∙ it))
+one_user first t user (Put (rows.Version row)) other it = absurd it
+one_user first t user (Put (rows.Meta row)) other it = refl
+one_user first t user (Put (rows.Token row)) other it = refl
+one_user first t user (Put (rows.Group row)) other it = refl
+one_user first t user (Put (rows.Member row)) other it = refl
+one_user first t user (Put (rows.Node row)) other it = refl
+one_user first t user (Put (rows.Share row)) other it = refl
+one_user first t user (Put (rows.Mount row)) other it = refl
+one_user first t user (Put (rows.Item row)) other it = refl
+one_user first t user (Put (rows.Upload row)) other it = refl
+one_user first t user (Put (rows.Chunk row)) other it = refl
+one_user first t user (Drop (keys.User gone)) other it = absurd it
+one_user first t user (Drop (keys.Version node at)) other it = absurd it
+one_user first t user (Drop key) other it = refl
+
+pub users_turnless : (first t : Tables) (user : ℕ) (changes : List Change) → user ≢ first.meta.next_user → AreTurnless first changes
+    → user_row (put_all t changes).users user ≡ user_row t.users user
+users_turnless first t user [] other all = refl
+users_turnless first t user (change ∷ changes) other all =
+    users_turnless first (made t change) user changes other all.1 ∙ one_user first t user change other all.0
 
 -- ---- how versions are settled
 
@@ -115,7 +152,7 @@ pub record IsBroughtBack (t : Tables) (now : ℕ) (changes : List Change) : Type
   pub are : changes ≡ refills t now (Some version.at) version.content row
 
 abbrev pub SettlesSo : Tables → ℕ → Allowed → Type 0
-SettlesSo t now (allowed.Change changes blob report) = (AreTurnless changes × (blob ≡ None)) ⊎ IsBroughtBack t now changes
+SettlesSo t now (allowed.Change changes blob report) = (AreTurnless t changes × (blob ≡ None)) ⊎ IsBroughtBack t now changes
 SettlesSo t now (allowed.Deeds deeds report) = AreSettledSo t now deeds
 SettlesSo t now act = Unit {0}
 
@@ -202,7 +239,7 @@ module _ (call : Call) (sound : AreSound call.state.tables) (later : call.state.
 
   folder_settles : (last : List ℕ) (place : Found) → DoesSo (made_folder all call.now last (Some place))
   folder_settles last (At node) = tt
-  folder_settles last (Free folder) = inl ((tt, tt), refl)
+  folder_settles last (Free folder) = inl ((refl, tt), refl)
   folder_settles last (Missing depth) = tt
 
   delete_settles : (spot : Spot) (itself : Bool) → DoesSo (if itself then mount_left call (way_of call spot)
@@ -230,7 +267,7 @@ module _ (call : Call) (sound : AreSound call.state.tables) (later : call.state.
   shared_settles : (places : Places) (asked : ShareAsk) → DoesSo (shared (access_of call.state) call places asked)
   shared_settles places (ask.New spot to perms until) =
       where_there (share_made (access_of call.state) call) nothing_done (offered call spot to perms until) none
-      (λ offer. inl ((tt, mounts_turnless (mounts_for all offer)), refl))
+      (λ offer. inl ((tt, mounts_turnless all (mounts_for all offer)), refl))
   shared_settles places (ask.List spot with_me) = none
   shared_settles places (ask.Show share) = where_there (share_told all []) nothing_done (share_shown call share) none (λ row. inl (tt, refl))
   shared_settles places (ask.Set share perms until) =
@@ -239,7 +276,7 @@ module _ (call : Call) (sound : AreSound call.state.tables) (later : call.state.
       let until = until_after until row.until in
       let perms = perms_after all perms row in
       inl (
-        cond_both (perms == row.perms && same_end until row.until) [] (Put (rows.Share (set_row perms until row)) ∷ []) AreTurnless
+        cond_both (perms == row.perms && same_end until row.until) [] (Put (rows.Share (set_row perms until row)) ∷ []) (AreTurnless all)
             (λ same. tt) (λ other. (tt, tt)),
         refl,
       ))
@@ -256,24 +293,24 @@ module _ (call : Call) (sound : AreSound call.state.tables) (later : call.state.
       here : (o : Option UserRow) → row_named all name ≡ o → DoesSo (option_map_or (requoted all call.now quota) o nothing_done)
       here None e = none
       here (Some row) e = requoted_settles quota row (row_there all call.now sound name row e)
-  people_settle (people.NewUser name token quota) = inl ((tt, (tt, (tt, tt))), refl)
+  people_settle (people.NewUser name token quota) = inl ((refl, (refl, (tt, tt))), refl)
   people_settle (people.NewGroup name) = inl ((tt, tt), refl)
   people_settle (people.AddMember user group) = inl (here (membership all user group), refl)
     where
-      here : (o : Option MemberRow) → AreTurnless (option_map_or (joined_by all) o [])
+      here : (o : Option MemberRow) → AreTurnless all (option_map_or (joined_by all) o [])
       here None = tt
       here (Some row) =
-          cond_both (is_member all row) [] (Put (rows.Member row) ∷ put_mounts (mounts_joined all row)) AreTurnless (λ is. tt)
-          (λ not. (tt, mounts_turnless (mounts_joined all row)))
+          cond_both (is_member all row) [] (Put (rows.Member row) ∷ put_mounts (mounts_joined all row)) (AreTurnless all) (λ is. tt)
+          (λ not. (tt, mounts_turnless all (mounts_joined all row)))
   people_settle (people.DropMember user group) = inl (here (membership all user group), refl)
     where
-      here : (o : Option MemberRow) → AreTurnless (option_map_or (left_by all) o [])
+      here : (o : Option MemberRow) → AreTurnless all (option_map_or (left_by all) o [])
       here None = tt
       here (Some row) =
-          cond_both (is_member all row) (Drop (keys.Member row.group row.user) ∷ []) [] AreTurnless (λ is. (tt, tt)) (λ not. tt)
+          cond_both (is_member all row) (Drop (keys.Member row.group row.user) ∷ []) [] (AreTurnless all) (λ is. (tt, tt)) (λ not. tt)
   people_settle (people.AddToken user token) = inl (here (user_named all.users user), refl)
     where
-      here : (o : Option ℕ) → AreTurnless (option_map_or (λ user. Put (rows.Token (record { digest = token; user = user })) ∷ []) o [])
+      here : (o : Option ℕ) → AreTurnless all (option_map_or (λ user. Put (rows.Token (record { digest = token; user = user })) ∷ []) o [])
       here None = tt
       here (Some id) = (tt, tt)
 

@@ -11,15 +11,15 @@ use Rattle.nf_base.specs.declared.rows.NodeRow.{NodeRow}
 use Rattle.nf_base.specs.declared.rows.VersionRow.{VersionRow}
 use Rattle.nf_defs.proofs.ByName.{Contains-filter, Contains-map}
 use Rattle.nf_defs.proofs.Puts.{key_total}
-use Rattle.nf_defs.specs.Prelude.{is_file, key_cmp, node_row, owner_of, Tables, version_key, is_under}
+use Rattle.nf_defs.specs.Prelude.{is_file, key_cmp, node_row, owner_of, Tables, version_key, is_under, item_row, user_row, user_key, put}
 use Rattle.nf_laws.proofs.Files.{file_row}
-use Rattle.nf_laws.proofs.Owned.{KeepsOwners}
+use Rattle.nf_laws.proofs.Owned.{KeepsOwners, altered_owners}
 use Rattle.nf_laws.proofs.Rows.{row_is, stamp, stamped_has}
 use Rattle.nf_laws.proofs.Turning.{deeds_fewer}
 use Rattle.nf_retention.specs.Budget.{versions_bound}
 use Rattle.nf_retention.specs.declared.versions.Version.{Version}
 use Rattle.nf_words.specs.Others.{IsVersionSound}
-use Rattle.nf_words.specs.Prelude.{after, AreSound, charge_of, deeds_done, IsSound, MayCome, quota_of, State, forgets, forgotten, settled_by, unsettled, purged_by, held_without, altered, told, decision_of, MayAsk, purges, deed_done, restored, home_of, name_back}
+use Rattle.nf_words.specs.Prelude.{after, AreSound, charge_of, deeds_done, IsSound, MayCome, quota_of, State, forgets, forgotten, settled_by, unsettled, purged_by, held_without, altered, told, decision_of, MayAsk, purges, deed_done, restored, home_of, name_back, charged_to, requoting, charged, item_size, restoring, charged_for, copies, crossing, gone_of, items_of, IsRequoted, stored_at, IsHeld, call_of, gone_from, owners_of, swept}
 use Rattle.nf_words.specs.Versions.{beyond_bound, content_size, held, is_version, is_held_by, is_under_any}
 use Rattle.nf_words.specs.declared.answer.Deed.{Deed}
 use Rattle.nf_words.specs.declared.answer.Deed.TheVariants as deed
@@ -39,11 +39,31 @@ use Rattle.nf_defs.proofs.Climbs.{under_climb}
 use Rattle.nf_laws.proofs.Entries.{entry_has}
 use Rattle.nf_laws.proofs.Going.{items_purged}
 use Rattle.nf_laws.proofs.Restoring.{back_beside}
-use Rattle.nf_laws.proofs.Recharged.{IsLower}
-use Rattle.nf_words.proofs.Known.{KnownGoes, KnownRestore}
+use Rattle.nf_laws.proofs.Recharged.{IsLower, purges_lower, requoted_charge, copies_less, crossing_less, IsComing, restored_less}
+use Rattle.nf_words.proofs.Known.{KnownGoes, KnownRestore, Known, KnownSettled, KnownCopies, KnownCross}
 use Rattle.nf_words.specs.declared.answer.Allowed.{Allowed}
+use Rattle.nf_words.specs.declared.answer.Allowed.TheVariants as allowed
+use Rattle.nf_words.specs.declared.answer.Report.TheVariants as report
+use Rattle.nf_base.specs.declared.rows.Row.TheVariants as rows
 use Rattle.nf_base.specs.declared.rows.UserRow.{UserRow}
 use Rattle.nf_base.specs.declared.rows.ItemRow.{ItemRow}
+use Rattle.nf_laws.proofs.Behaving.{AreSettledSo, AreTurnless, IsBroughtBack, SettlesSo, all_turnless, by_copies, by_cross, by_none, by_quota, by_return, call_settles, turnless_of, users_turnless}
+use Rattle.nf_laws.proofs.Parts.{step_sound}
+use Rattle.nf_laws.proofs.Stays.{altered_sound}
+use Rattle.nf_laws.proofs.Trashing.{trash_same, act_kept}
+use Rattle.nf_laws.proofs.Quotas.{rows_fewer}
+use Rattle.nf_laws.proofs.Charging.{charge_beside}
+use Rattle.nf_laws.proofs.Puts.{number_found, other_number}
+use Rattle.nf_laws.proofs.Peopled.{people_sound}
+use Rattle.nf_words.proofs.Fits.{KnownChange}
+use Rattle.nf_words.proofs.Ends.{known_change}
+use Rattle.nf_base.specs.declared.changes.Change.{Change}
+use Rattle.nf_base.specs.declared.changes.Change.TheVariants.{Put}
+use Rattle.nf_words.specs.declared.request.Transfer.{Transfer}
+use Rattle.nf_words.specs.declared.answer.LockKey.{LockKey}
+use Rattle.nf_words.specs.declared.answer.Report.{Report}
+use Rattle.nf_words.specs.declared.history.Event.{Event}
+use Rattle.nf_words.specs.declared.history.Event.TheVariants.{Begin, End, Sweep}
 
 -- a user's versions are within their bound
 abbrev IsSettled : Tables → ℕ → Type 0
@@ -66,10 +86,10 @@ module _ (u : Tables) (sound : AreSound u) (user : ℕ) where
   abbrev own : VersionRow → Bool
   own row = owner_of u.nodes row.node == user
 
-  abbrev rows : List VersionRow
-  rows = filter own u.versions
+  abbrev its : List VersionRow
+  its = filter own u.versions
 
-  rows_apart : AllPairs AreHeldApart rows
+  rows_apart : AllPairs AreHeldApart its
   rows_apart = AllPairs-filter AreHeldApart own u.versions (λ i j d before within is.
       let a = get_or u.versions i d in
       let b = get_or u.versions j d in
@@ -85,9 +105,9 @@ module _ (u : Tables) (sound : AreSound u) (user : ℕ) where
       → Contains versions (held row) × (content_size row.content ≤ g (held row)))
       → held_bytes u user ≤ sum_by g versions
   among versions g each =
-      sum_among (λ (row : VersionRow). content_size row.content) g versions rows rows_apart (λ k d less.
-      each (get_or rows k d) (All-filter own (Contains u.versions) u.versions (All-contains_itself u.versions) k d less)
-      (eqb-true (owner_of u.nodes (get_or rows k d).node) user (filter_passes own u.versions k d less)))
+      sum_among (λ (row : VersionRow). content_size row.content) g versions its rows_apart (λ k d less.
+      each (get_or its k d) (All-filter own (Contains u.versions) u.versions (All-contains_itself u.versions) k d less)
+      (eqb-true (owner_of u.nodes (get_or its k d).node) user (filter_passes own u.versions k d less)))
 
   -- each was the user's before: they are no more
   fewer : (t : Tables)
@@ -99,8 +119,8 @@ module _ (u : Tables) (sound : AreSound u) (user : ℕ) where
       let before = filter was t.versions in
       omega (
         arith,
-        among (map held before) (λ (v : Version). v.size) (λ row is its.
-        let h = each row is its in
+        among (map held before) (λ (v : Version). v.size) (λ row is own_is.
+        let h = each row is own_is in
         (Contains-map held before row (Contains-filter was t.versions row h.0 (eq-eqb (owner_of t.nodes row.node) user h.1)), omega arith)),
         sum_held before,
       )
@@ -128,8 +148,8 @@ module _ (u : Tables) (sound : AreSound u) (user : ℕ) where
       let gone = beyond_bound quota charge versions in
       omega (
         arith,
-        among versions (left_size gone) (λ row is its.
-        let h = each row is its in
+        among versions (left_size gone) (λ row is own_is.
+        let h = each row is own_is in
         (h.0, subst (λ (b : Bool). content_size row.content ≤ (if b then 0 else content_size row.content)) (sym h.1) (omega arith))),
         beyond_leaves (versions_bound quota charge) versions,
         bound_falls quota (charge_of u user) charge less,
@@ -153,9 +173,9 @@ owner_was t u row before sound keeps was is =
 settled_kept : (t u : Tables) (user : ℕ) → AreSound t → AreSound u → KeepsOwners t u → All (Contains t.versions) u.versions → IsSettled t user
     → charge_of u user ≤ charge_of t user → quota_of t user ≤ quota_of u user → IsSettled u user
 settled_kept t u user before sound keeps versions settled charge quota =
-    settled_fewer u sound user t settled charge quota (λ row is its.
+    settled_fewer u sound user t settled charge quota (λ row is own_is.
     let was = All-contains (Contains t.versions) u.versions row versions is in
-    (was, owner_was t u row before sound keeps was is ∙ its))
+    (was, owner_was t u row before sound keeps was is ∙ own_is))
 
 -- ---- versions that go behind deeds
 
@@ -218,9 +238,9 @@ settled_behind t now to first before sound keeps charge quota gone =
     let same : deeds_done t (settled_by t to first) ≡ deeds_done (deeds_done t first) (forgets versions) = deeds_append t first (forgets versions) in
     settled_bounded u sound to.owner to.quota to.charge (held_without t to.owner tops)
     (subst (λ (v : Tables). charge_of v to.owner ≤ to.charge) (sym only) charge)
-    (ap (λ (v : Tables). quota_of v to.owner) only ∙ quota) (λ row is its.
+    (ap (λ (v : Tables). quota_of v to.owner) only ∙ quota) (λ row is own_is.
     let was = All-contains (Contains t.versions) u.versions row (deeds_fewer t (settled_by t to first)) is in
-    let owner = owner_was t u row before sound keeps was is ∙ its in
+    let owner = owner_was t u row before sound keeps was is ∙ own_is in
     let file = (All-contains (IsVersionSound u) u.versions row sound.others.versions is).file in
     let under = not_under t (deeds_done t first) tops row.node before gone
     (subst (λ (v : Tables). is_file v.nodes row.node ≡ true) only file) in
@@ -280,14 +300,162 @@ other_settled t now user to first before sound keeps settled charge quota =
     (subst (λ (v : Tables). charge_of v user ≤ charge_of t user) (sym only) charge)
     (omega (arith, quota, ap (λ (v : Tables). quota_of v user) only))
 
+-- another quota of one user, and the others' as they were
+quota_put : (users : List UserRow) (row : UserRow) → option_map_or (λ (row : UserRow). row.quota) (user_row (put user_key row users) row.id) 0 ≡ row.quota
+quota_put users row = ap (λ (o : Option UserRow). option_map_or (λ (row : UserRow). row.quota) o 0) (number_found (λ (r : UserRow). r.id) row users)
+
+-- by what is done, whose versions go
+module _ (t : Tables) (now : ℕ) (before : AreSound t) (later : t.meta.last ≤ now) (settled : AreSettled t) where
+  -- of whom is charged, and of another
+  charged_or : (user : ℕ) (to : Charged) (first : List Deed) → KnownSettled t now (settled_by t to first)
+      → ((user ≡ to.owner) → (charge_of (deeds_done t first) to.owner ≤ to.charge) × (quota_of (deeds_done t first) to.owner ≡ to.quota))
+      → ((user ≢ to.owner) → (charge_of (deeds_done t first) user ≤ charge_of t user) × (quota_of t user ≤ quota_of (deeds_done t first) user))
+      → All (IsGoneWith t.nodes (deeds_done t first).nodes) (flat_map purged_by first)
+      → IsSettled (stamp (deeds_done t (settled_by t to first)) now) user
+  charged_or user to first known own other gone =
+      let fine = step_sound t now (settled_by t to first) before later known in
+      let keeps = altered_owners t now (allowed.Deeds (settled_by t to first) report.Plain) before later known in
+      elim (cases_Bool (user == to.owner)) [
+        | inl is ↦
+            (let same = eqb-true user to.owner is in
+            let fits = own same in
+            subst (IsSettled (stamp (deeds_done t (settled_by t to first)) now)) (sym same)
+            (settled_behind t now to first before fine keeps fits.0 fits.1 gone))
+        | inr not ↦
+            (let fits = other (λ same. both_ways (user == to.owner) not (eq-eqb user to.owner same)) in
+            other_settled t now user to first before fine keeps (settled user) fits.0 fits.1)
+      ]
+
+  requoted_settled : (row : UserRow) (quota user : ℕ) → user_row t.users row.id ≡ Some row
+      → KnownSettled t now (settled_by t (charged_to t quota row) (requoting t now quota row))
+      → IsSettled (stamp (deeds_done t (settled_by t (charged_to t quota row) (requoting t now quota row))) now) user
+  requoted_settled row quota user there known =
+      let gone = gone_of t now quota (items_of t row.id) in
+      let new : UserRow = record row { quota = quota } in
+      let made = deed_done t (deed.Requote new) in
+      let lower = λ (user : ℕ). purges_lower gone made user in
+      let less = λ (user : ℕ). requoted_charge t new row user there refl in
+      let is : IsRequoted t new = record { old = row; there = there; same = refl } in
+      let goes = quota_goes t before now quota row in
+      charged_or user (charged_to t quota row) (requoting t now quota row) known
+      (λ same. (omega (arith, (lower row.id).0, less row.id), (lower row.id).1 ∙ quota_put t.users new))
+      (λ other. (
+        omega (arith, (lower user).0, less user),
+        omega (
+          arith,
+          (lower user).1,
+          ap (λ (o : Option UserRow). option_map_or (λ (row : UserRow). row.quota) o 0) (other_number (λ (r : UserRow). r.id) new t.users user other),
+        ),
+      ))
+      (requote_gone t new gone before (people_sound t (Put (rows.User new)) before is) goes)
+
+  returned_settled : (item : ItemRow) (user : ℕ) → item_row t.items item.node ≡ Some item
+      → KnownSettled t now (settled_by t (charged t item.owner 0 (item_size t item)) (restoring t now item))
+      → IsSettled (stamp (deeds_done t (settled_by t (charged t item.owner 0 (item_size t item)) (restoring t now item))) now) user
+  returned_settled item user there known = ?
+
+  copied_settled : (transfer : Transfer) (name : List ℕ) (user : ℕ) → KnownCopies t transfer name
+      → KnownSettled t now (settled_by t (charged_for t transfer) (copies t now name transfer))
+      → IsSettled (stamp (deeds_done t (settled_by t (charged_for t transfer) (copies t now name transfer))) now) user
+  copied_settled transfer name user copied known =
+      charged_or user (charged_for t transfer) (copies t now name transfer) known
+      (λ same. coming transfer name (owner_of t.nodes transfer.folder) (deeds_done t (copies t now name transfer)) refl
+      (copies_less t now (owner_of t.nodes transfer.folder) transfer name before later copied))
+      (λ other. beside transfer name user (deeds_done t (copies t now name transfer)) other
+      (copies_less t now user transfer name before later copied))
+      ?
+    where
+      coming : (transfer : Transfer) (name : List ℕ) (user : ℕ) (made : Tables) → owner_of t.nodes transfer.folder ≡ user
+          → IsComing t now user transfer name before later made
+          → (charge_of made user ≤ (charged_for t transfer).charge) × (quota_of made user ≡ (charged_for t transfer).quota)
+      coming transfer name user made owner is = ?
+
+      beside : (transfer : Transfer) (name : List ℕ) (user : ℕ) (made : Tables) → user ≢ owner_of t.nodes transfer.folder
+          → IsComing t now user transfer name before later made
+          → (charge_of made user ≤ charge_of t user) × (quota_of t user ≤ quota_of made user)
+      beside transfer name user made other is = ?
+
+  crossed_settled : (transfer : Transfer) (name : List ℕ) (user : ℕ) → KnownCross t transfer name
+      → KnownSettled t now (settled_by t (charged_for t transfer) (crossing t now name transfer))
+      → IsSettled (stamp (deeds_done t (settled_by t (charged_for t transfer) (crossing t now name transfer))) now) user
+  crossed_settled transfer name user cross known = ?
+
+  deeds_settled : (deeds : List Deed) (user : ℕ) → AreSettledSo t now deeds → KnownSettled t now deeds
+      → IsSettled (stamp (deeds_done t deeds) now) user
+  deeds_settled _ user (by_none deeds lower) known =
+      lower_settled t now user deeds before (step_sound t now deeds before later known)
+      (altered_owners t now (allowed.Deeds deeds report.Plain) before later known) (settled user) (lower user)
+  deeds_settled _ user (by_quota row quota there) known = requoted_settled row quota user there known
+  deeds_settled _ user (by_return item there) known = returned_settled item user there known
+  deeds_settled _ user (by_copies transfer name copied) known = copied_settled transfer name user copied known
+  deeds_settled _ user (by_cross transfer name cross) known = crossed_settled transfer name user cross known
+
+  -- rows by which no version is another
+  turnless_settled : (changes : List Change) (blob : Option ℕ) (report : Report) (user : ℕ) → AreTurnless t changes → blob ≡ None
+      → KnownChange t now changes blob → IsSettled (stamp (altered t now (allowed.Change changes blob report)) now) user
+  unfolding charge_of
+  turnless_settled changes blob report user none empty known =
+      let act : Allowed = allowed.Change changes blob report in
+      let made = stamp (altered t now act) now in
+      let fine = altered_sound t now act before later known in
+      let keeps = altered_owners t now act before later known in
+      let trash = trash_same t made user before fine (act_kept t now act before later known tt) in
+      let versions : made.versions ≡ t.versions = all_turnless t t changes none in
+      settled_kept t made user before fine keeps (subst (All (Contains t.versions)) (sym versions) (All-contains_itself t.versions)) (settled user)
+      (omega (
+        arith,
+        rows_fewer t now user changes blob report before known empty (turnless_of t changes none),
+        charge_beside t user,
+        charge_beside made user,
+        trash,
+      ))
+      (elim (cases_Bool (user == t.meta.next_user)) [
+        | inl new ↦
+            (let none : user_row t.users user ≡ None = ? in
+            omega (arith, ap (λ (o : Option UserRow). option_map_or (λ (row : UserRow). row.quota) o 0) none))
+        | inr old ↦
+            omega (arith, ap (λ (o : Option UserRow). option_map_or (λ (row : UserRow). row.quota) o 0)
+            (users_turnless t t user changes (λ same. both_ways (user == t.meta.next_user) old (eq-eqb user t.meta.next_user same)) none))
+      ])
+
+  -- a version that is its file's content again
+  back_settled : (changes : List Change) (blob : Option ℕ) (report : Report) (user : ℕ) → IsBroughtBack t now changes
+      → KnownChange t now changes blob → IsSettled (stamp (altered t now (allowed.Change changes blob report)) now) user
+  back_settled changes blob report user is known = ?
+
+  -- a body that is stored
+  stored_settled : (key : LockKey) (digest : List ℕ) (size user : ℕ) → IsHeld t key → Known t now (stored_at t now key digest size)
+      → IsSettled (stamp (altered t now (stored_at t now key digest size)) now) user
+  stored_settled key digest size user held known = ?
+
+  -- all that a Begin asks for
+  begun_settled : (act : Allowed) (user : ℕ) → Known t now act → SettlesSo t now act → IsSettled (stamp (altered t now act) now) user
+  unfolding charge_of
+  begun_settled (allowed.Change changes blob report) user known (inl turnless) =
+      turnless_settled changes blob report user turnless.0 turnless.1 known
+  begun_settled (allowed.Change changes blob report) user known (inr back) = back_settled changes blob report user back known
+  begun_settled (allowed.Deeds deeds report) user known so = deeds_settled deeds user so known
+  begun_settled act user known so = settled user
+
 -- an act that may come leaves each user's versions within their bound
-act_settled : (s : State) (e : Entry) (user : ℕ) (act : Allowed) → AreSettled s.tables → IsSound s → s.tables.meta.last ≤ e.moment
-    → MayAsk s e.seat e.event → decision_of s e.seat e.moment e.event ≡ Ok act → IsSettled (stamp (altered s.tables e.moment act) e.moment) user
-act_settled s e user act settled sound later may is = ?
+act_settled : (s : State) (e : Entry) (event : Event) (user : ℕ) (act : Allowed) → AreSettled s.tables → IsSound s → s.tables.meta.last ≤ e.moment
+    → MayAsk s e.seat event → decision_of s e.seat e.moment event ≡ Ok act → IsSettled (stamp (altered s.tables e.moment act) e.moment) user
+act_settled s e (Begin words request) user act settled sound later may is =
+    begun_settled s.tables e.moment sound.rows later settled act user (known_change s e.seat e.moment (Begin words request) act sound may is)
+    (call_settles (call_of s e.seat e.moment words request) act sound later may.1 is)
+act_settled s e (End outcome) user act settled sound later may is = ?
+act_settled s e Sweep user act settled sound later may is =
+    let t = s.tables in
+    let gone = flat_map (gone_from t e.moment) (owners_of t.items) in
+    let same : swept t e.moment ≡ act = cc in
+    let known = known_change s e.seat e.moment Sweep act sound may is in
+    subst (λ (a : Allowed). IsSettled (stamp (altered t e.moment a) e.moment) user) same
+    (deeds_settled t e.moment sound.rows later settled (purges gone) user (by_none (purges gone) (purges_lower gone t))
+    (subst (Known t e.moment) (sym same) known))
 
 pub settled_after : (n : ℕ) (s : State) (e : Entry) → AreSettled s.tables → IsSound s → MayCome n s e → AreSettled (after s e).tables
 settled_after n s e settled sound may user =
     entry_has (λ t tickets blob. IsSettled t user) s e e.mark (settled user)
     (λ act is.
     stamped_has (λ (u : Tables). IsSettled u user) s.tables (altered s.tables e.moment act) e.moment (told s.tables act) (settled user)
-    (act_settled s e user act settled sound (omega (arith, sound.seen, may.not_before)) may.asked is))
+    (act_settled s e e.event user act settled sound (omega (arith, sound.seen, may.not_before)) may.asked is))
