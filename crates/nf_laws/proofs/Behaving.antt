@@ -12,13 +12,13 @@ use Rattle.nf_laws.proofs.Recharged.{besides_lower, copies_keep, crossing_keep, 
 use Rattle.nf_words.proofs.Begins.{only_at, places_at, wanted_passes, WantedPasses}
 use Rattle.nf_words.proofs.Fits.{within}
 use Rattle.nf_words.proofs.Found.{found_passes}
-use Rattle.nf_words.proofs.Known.{KnownCopies, KnownCross}
+use Rattle.nf_words.proofs.Known.{KnownCopies, KnownCross, KnownGoes, KnownRestore}
 use Rattle.nf_words.proofs.Passing.{call_passes, no_excess, place_passes}
 use Rattle.nf_words.proofs.Provided.{row_there}
 use Rattle.nf_words.proofs.Starts.{has_asker, IsAsking}
 use Rattle.nf_words.proofs.Transfers.{copies_known, transfer_known}
-use Rattle.nf_words.proofs.Trashing.{own_there}
-use Rattle.nf_words.specs.Prelude.{access_of, AreSound, asked_of, asked_of_trash, asker_of, besides, by_of, Call, call_decision, carry_excess, carry_limit, copied, copy_excess, copy_limit, crosses, crossing, deed_done, deeds_done, deepest_in, deleted, discards, exceeded, found, given, gone_beside, gone_of, home_of, IsSound, item_dropped, item_if_of, item_restored, items_of, last_name, limited, listing_of, made_folder, MayWant, mount_left, mount_renamed, moved, move_limit, moves, name_back, node_at, nothing_done, offered, own_item, people_done, perms_after, purges, quota_rule, requoted, restored, restore_excess, root_of, row_named, served, shared, share_ended, share_made, share_set, share_shown, share_steered, share_told, stored, transfer_of, trash_done, unfit_between, unreached, until_after, way_of, brought_back, charge_of, charged, charged_for, charged_to, item_size, purged_by, requoting, restoring, settled_by, unsettled, version_done, version_row, done, copies, put_mounts, mounts_for, with_mount_row, left_row, named_row, own_mount, same_end, set_row, membership, joined_by, left_by, is_member, mounts_joined, refills}
+use Rattle.nf_words.proofs.Trashing.{own_there, back_known}
+use Rattle.nf_words.specs.Prelude.{access_of, AreSound, asked_of, asked_of_trash, asker_of, besides, by_of, Call, call_decision, carry_excess, carry_limit, copied, copy_excess, copy_limit, crosses, crossing, deed_done, deeds_done, deepest_in, deleted, discards, exceeded, found, given, gone_beside, gone_of, home_of, IsSound, item_dropped, item_if_of, item_restored, items_of, last_name, limited, listing_of, made_folder, MayWant, mount_left, mount_renamed, moved, move_limit, moves, name_back, node_at, nothing_done, offered, own_item, people_done, perms_after, purges, quota_rule, requoted, restored, restore_excess, root_of, row_named, served, shared, share_ended, share_made, share_set, share_shown, share_steered, share_told, stored, transfer_of, trash_done, unfit_between, unreached, until_after, way_of, brought_back, charge_of, charged, charged_for, charged_to, item_size, purged_by, requoting, restoring, settled_by, unsettled, version_done, version_row, done, copies, put_mounts, mounts_for, with_mount_row, left_row, named_row, own_mount, same_end, set_row, membership, joined_by, left_by, is_member, mounts_joined, refills, restore_limit}
 use Rattle.nf_words.specs.declared.answer.Allowed.{Allowed}
 use Rattle.nf_words.specs.declared.answer.Allowed.TheVariants as allowed
 use Rattle.nf_words.specs.declared.answer.By.{By}
@@ -52,6 +52,7 @@ use Rattle.nf_base.specs.declared.rows.MemberRow.{MemberRow}
 use Rattle.nf_base.specs.declared.rows.NodeRow.{NodeRow}
 use Rattle.nf_laws.proofs.Blobs.{AreOf, IsOf}
 use Rattle.nf_laws.proofs.Puts.{other_number}
+use Rattle.std.specs.List.{All}
 
 -- ---- what touches no version
 
@@ -133,9 +134,10 @@ users_turnless first t user (change ∷ changes) other all =
 -- those of one owner go that are beyond their bound then
 pub data AreSettledSo (t : Tables) (now : ℕ) : List Deed → Type 0 where
   by_none : (deeds : List Deed) → ((user : ℕ) → IsLower deeds t user) → AreSettledSo t now deeds
-  by_quota : (row : UserRow) (quota : ℕ) → user_row t.users row.id ≡ Some row
+  by_quota : (row : UserRow) (quota : ℕ) → user_row t.users row.id ≡ Some row → (row.quota == quota) ≡ false
       → AreSettledSo t now (settled_by t (charged_to t quota row) (requoting t now quota row))
-  by_return : (item : ItemRow) → item_row t.items item.node ≡ Some item
+  by_return : (item : ItemRow) → item_row t.items item.node ≡ Some item → KnownRestore t item.node (home_of t item) (name_back t item)
+      → KnownGoes t (gone_beside t now item) → All (λ (node : ℕ). item.node ≢ node) (gone_beside t now item)
       → AreSettledSo t now (settled_by t (charged t item.owner 0 (item_size t item)) (restoring t now item))
   by_copies : (transfer : Transfer) (name : List ℕ) → KnownCopies t transfer name
       → AreSettledSo t now (settled_by t (charged_for t transfer) (copies t now name transfer))
@@ -285,7 +287,7 @@ module _ (call : Call) (sound : AreSound call.state.tables) (later : call.state.
   requoted_settles : (quota : ℕ) (row : UserRow) → user_row all.users row.id ≡ Some row → DoesSo (requoted all call.now quota row)
   requoted_settles quota row there =
       cond_both (row.quota == quota) nothing_done (done (settled_by all (charged_to all quota row) (requoting all call.now quota row)) report.Plain)
-      DoesSo (λ same. none) (λ differs. by_quota row quota there)
+      DoesSo (λ same. none) (λ differs. by_quota row quota there differs)
 
   people_settle : (asked : PeopleAsk) → DoesSo (people_done all call.now asked)
   people_settle (people.SetQuota name quota) = here (row_named all name) refl
@@ -316,13 +318,15 @@ module _ (call : Call) (sound : AreSound call.state.tables) (later : call.state.
 
   -- an item that comes back passes no quota
   restored_settles : (user item : ℕ) (o : Option ItemRow) → option_and_then (item_if_of user) (item_row all.items item) ≡ o
-      → option_and_then (restore_excess all) (item_row all.items item) ≡ None → DoesSo (option_map_or (item_restored all call.now) o nothing_done)
-  restored_settles user item None is fits = none
-  restored_settles user item (Some row) is fits =
+      → option_and_then (restore_limit all) (item_row all.items item) ≡ None → DoesSo (option_map_or (item_restored all call.now) o nothing_done)
+  restored_settles user item None is few = none
+  restored_settles user item (Some row) is few =
       let found = own_there all sound user item row is in
+      let back = back_known all sound call.now user item row is few in
       by_return row (ap (item_row all.items) (eqb-true row.node item (found_passes (λ (row : ItemRow). row.node == item) all.items row found)) ∙ found)
+      back.restore back.goes back.others
 
-  trash_settles : (places : Places) (asked : TrashAsk) → exceeded all places (asked_of_trash asked).makes ≡ None → DoesSo (trash_done call asked)
+  trash_settles : (places : Places) (asked : TrashAsk) → limited all places (asked_of_trash asked).makes ≡ None → DoesSo (trash_done call asked)
   trash_settles places (trash.List user) fits = none
   trash_settles places (trash.Drop user item) fits =
       where_there (item_dropped all call.now) nothing_done (own_item call item) none (λ row. purged_settles (row.node ∷ gone_beside all call.now row) report.Done)
@@ -370,7 +374,7 @@ module _ (call : Call) (sound : AreSound call.state.tables) (later : call.state.
       copied_settles call source to sound later is (p.place.source refl) p.place.target p.fits p.few fits
   wanted_settles (wanted.Share asked) p fits = shared_settles (places_at call (wanted.Share asked)) asked
   wanted_settles (wanted.People asked) p fits = people_settle asked
-  wanted_settles (wanted.Trash asked) p fits = trash_settles (places_at call (wanted.Trash asked)) asked fits
+  wanted_settles (wanted.Trash asked) p fits = trash_settles (places_at call (wanted.Trash asked)) asked p.few
   wanted_settles (wanted.Version asked) p fits = version_settles asked
 
 pub call_settles : (call : Call) (act : Allowed) → IsSound call.state → call.state.tables.meta.last ≤ call.now → MayWant call.request

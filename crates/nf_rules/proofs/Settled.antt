@@ -1,8 +1,8 @@
 -- The versions of each user's files stay within their bound by every step.
-use Rattle.std.proofs.Common.{◌≡◌, ◌≤◌, ◌<◌, ◌==◌, ◌⊎◌, ℕ, inl, inr, not, Bool, true, false, List, [], ◌∷◌, ◌++◌, ◌∙◌, filter, get_or, length, map, sum_by, Option, None, Some, if◌then◌else◌, refl, sym, ap, subst, arith, flat_map, bytes_eq, ◌≢◌, Ok}
+use Rattle.std.proofs.Common.{◌≡◌, ◌≤◌, ◌<◌, ◌==◌, ◌⊎◌, ℕ, inl, inr, not, Bool, true, false, List, [], ◌∷◌, ◌++◌, ◌∙◌, filter, get_or, length, map, sum_by, Option, None, Some, if◌then◌else◌, refl, sym, ap, subst, arith, flat_map, bytes_eq, ◌≢◌, Ok, Result, ◌-◌, ◌+◌}
 use Rattle.std.specs.List.{All, AllPairs, Contains, list_any}
-use Rattle.std.specs.Option.{option_map_or}
-use Rattle.std.proofs.lemmas.Bool.{eq-eqb, eqb-true, not-true, and_parts, both_ways, cases_Bool, or_from}
+use Rattle.std.specs.Option.{option_map_or, IfSome}
+use Rattle.std.proofs.lemmas.Bool.{eq-eqb, eqb-true, not-true, and_parts, both_ways, cases_Bool, or_from, ne_eqb}
 use Rattle.std.proofs.lemmas.Cmp.{tied_itself}
 use Rattle.std.proofs.lemmas.List.Elements.{All-contains, All-contains_itself, All-filter, filter_passes}
 use Rattle.std.proofs.lemmas.List.Kept.{AllPairs-filter}
@@ -11,15 +11,15 @@ use Rattle.nf_base.specs.declared.rows.NodeRow.{NodeRow}
 use Rattle.nf_base.specs.declared.rows.VersionRow.{VersionRow}
 use Rattle.nf_defs.proofs.ByName.{Contains-filter, Contains-map}
 use Rattle.nf_defs.proofs.Puts.{key_total}
-use Rattle.nf_defs.specs.Prelude.{is_file, key_cmp, node_row, owner_of, Tables, version_key, is_under, item_row, user_row, user_key, put}
+use Rattle.nf_defs.specs.Prelude.{is_file, key_cmp, node_row, owner_of, Tables, version_key, is_under, item_row, user_row, user_key, put, Access}
 use Rattle.nf_laws.proofs.Files.{file_row}
 use Rattle.nf_laws.proofs.Owned.{KeepsOwners, altered_owners}
-use Rattle.nf_laws.proofs.Rows.{row_is, stamp, stamped_has}
+use Rattle.nf_laws.proofs.Rows.{row_is, stamp, stamped_has, finds_none}
 use Rattle.nf_laws.proofs.Turning.{deeds_fewer}
 use Rattle.nf_retention.specs.Budget.{versions_bound}
 use Rattle.nf_retention.specs.declared.versions.Version.{Version}
 use Rattle.nf_words.specs.Others.{IsVersionSound}
-use Rattle.nf_words.specs.Prelude.{after, AreSound, charge_of, deeds_done, IsSound, MayCome, quota_of, State, forgets, forgotten, settled_by, unsettled, purged_by, held_without, altered, told, decision_of, MayAsk, purges, deed_done, restored, home_of, name_back, charged_to, requoting, charged, item_size, restoring, charged_for, copies, crossing, gone_of, items_of, IsRequoted, stored_at, IsHeld, call_of, gone_from, owners_of, swept}
+use Rattle.nf_words.specs.Prelude.{after, AreSound, charge_of, deeds_done, IsSound, MayCome, quota_of, State, forgets, forgotten, settled_by, unsettled, purged_by, held_without, altered, told, decision_of, MayAsk, purges, deed_done, restored, home_of, name_back, charged_to, requoting, charged, item_size, restoring, charged_for, copies, crossing, gone_of, items_of, IsRequoted, stored_at, IsHeld, call_of, gone_from, owners_of, swept, gone_beside, ends_goal, ends_at, end_refusal, access_of, goal_at, IsStorable}
 use Rattle.nf_words.specs.Versions.{beyond_bound, content_size, held, is_version, is_held_by, is_under_any}
 use Rattle.nf_words.specs.declared.answer.Deed.{Deed}
 use Rattle.nf_words.specs.declared.answer.Deed.TheVariants as deed
@@ -56,7 +56,7 @@ use Rattle.nf_laws.proofs.Charging.{charge_beside}
 use Rattle.nf_laws.proofs.Puts.{number_found, other_number}
 use Rattle.nf_laws.proofs.Peopled.{people_sound}
 use Rattle.nf_words.proofs.Fits.{KnownChange}
-use Rattle.nf_words.proofs.Ends.{known_change}
+use Rattle.nf_words.proofs.Ends.{known_change, goal_held}
 use Rattle.nf_base.specs.declared.changes.Change.{Change}
 use Rattle.nf_base.specs.declared.changes.Change.TheVariants.{Put}
 use Rattle.nf_words.specs.declared.request.Transfer.{Transfer}
@@ -64,6 +64,14 @@ use Rattle.nf_words.specs.declared.answer.LockKey.{LockKey}
 use Rattle.nf_words.specs.declared.answer.Report.{Report}
 use Rattle.nf_words.specs.declared.history.Event.{Event}
 use Rattle.nf_words.specs.declared.history.Event.TheVariants.{Begin, End, Sweep}
+use Rattle.nf_words.proofs.Trashing.{quota_goes}
+use Rattle.nf_words.proofs.Passing.{not_refused}
+use Rattle.nf_words.specs.declared.answer.Denial.{Denial}
+use Rattle.nf_words.specs.declared.answer.Goal.{Goal}
+use Rattle.nf_words.specs.declared.answer.Goal.TheVariants.{Serve, Store}
+use Rattle.nf_words.specs.declared.history.Outcome.{Outcome}
+use Rattle.nf_words.specs.declared.history.Outcome.TheVariants.{Body}
+use Rattle.nf_words.specs.Listing.{size_of}
 
 -- a user's versions are within their bound
 abbrev IsSettled : Tables → ℕ → Type 0
@@ -326,17 +334,22 @@ module _ (t : Tables) (now : ℕ) (before : AreSound t) (later : t.meta.last ≤
             other_settled t now user to first before fine keeps (settled user) fits.0 fits.1)
       ]
 
-  requoted_settled : (row : UserRow) (quota user : ℕ) → user_row t.users row.id ≡ Some row
+  requoted_settled : (row : UserRow) (quota user : ℕ) → user_row t.users row.id ≡ Some row → (row.quota == quota) ≡ false
       → KnownSettled t now (settled_by t (charged_to t quota row) (requoting t now quota row))
       → IsSettled (stamp (deeds_done t (settled_by t (charged_to t quota row) (requoting t now quota row))) now) user
-  requoted_settled row quota user there known =
+  requoted_settled row quota user there differs known =
       let gone = gone_of t now quota (items_of t row.id) in
       let new : UserRow = record row { quota = quota } in
       let made = deed_done t (deed.Requote new) in
       let lower = λ (user : ℕ). purges_lower gone made user in
       let less = λ (user : ℕ). requoted_charge t new row user there refl in
-      let is : IsRequoted t new = record { old = row; there = there; same = refl } in
-      let goes = quota_goes t before now quota row in
+      let is : IsRequoted t new = record {
+        old = row;
+        there = there;
+        same = refl;
+        other = λ same. both_ways (row.quota == quota) differs (eq-eqb row.quota quota (sym (ap (λ (r : UserRow). r.quota) same)));
+      } in
+      let goes = quota_goes t before now quota row.id in
       charged_or user (charged_to t quota row) (requoting t now quota row) known
       (λ same. (omega (arith, (lower row.id).0, less row.id), (lower row.id).1 ∙ quota_put t.users new))
       (λ other. (
@@ -350,43 +363,97 @@ module _ (t : Tables) (now : ℕ) (before : AreSound t) (later : t.meta.last ≤
       (requote_gone t new gone before (people_sound t (Put (rows.User new)) before is) goes)
 
   returned_settled : (item : ItemRow) (user : ℕ) → item_row t.items item.node ≡ Some item
+      → KnownRestore t item.node (home_of t item) (name_back t item) → KnownGoes t (gone_beside t now item)
+      → All (λ (node : ℕ). item.node ≢ node) (gone_beside t now item)
       → KnownSettled t now (settled_by t (charged t item.owner 0 (item_size t item)) (restoring t now item))
       → IsSettled (stamp (deeds_done t (settled_by t (charged t item.owner 0 (item_size t item)) (restoring t now item))) now) user
-  returned_settled item user there known = ?
+  returned_settled item user there restore goes others known =
+      let gone = gone_beside t now item in
+      let made = restored t item.node (home_of t item) (name_back t item) in
+      let lower = λ (user : ℕ). purges_lower gone made user in
+      let less = λ (user : ℕ). restored_less t item.node (home_of t item) user (name_back t item) item before there in
+      charged_or user (charged t item.owner 0 (item_size t item)) (restoring t now item) known
+      (λ same. (
+        omega (
+          arith,
+          (lower item.owner).0,
+          less item.owner,
+          ap (λ (b : Bool). if b then size_of t.nodes item.node else 0) (eq-eqb item.owner item.owner refl),
+        ),
+        (lower item.owner).1,
+      ))
+      (λ other. (
+        omega (
+          arith,
+          (lower user).0,
+          less user,
+          ap (λ (b : Bool). if b then size_of t.nodes item.node else 0) (ne_eqb item.owner user (λ same. other (sym same))),
+        ),
+        omega (arith, (lower user).1),
+      ))
+      (restore_gone t item gone before restore goes others)
+
+  -- the folder's owner is charged for copies, and no other is
+  own_coming : (transfer : Transfer) (name : List ℕ) (user : ℕ) (made : Tables) → owner_of t.nodes transfer.folder ≡ user
+      → IsComing t now user transfer name before later made
+      → (charge_of made user ≤ charge_of t user - option_map_or (size_of t.nodes) transfer.replaced 0 + size_of t.nodes transfer.node)
+      × (quota_of made user ≡ quota_of t user)
+  own_coming transfer name user made owner is =
+      let own : (owner_of t.nodes transfer.folder == user) ≡ true = eq-eqb (owner_of t.nodes transfer.folder) user owner in
+      let sum = is.0 in
+      (
+        omega (
+          arith,
+          sum,
+          ap (λ (b : Bool). if b then option_map_or (size_of t.nodes) transfer.replaced 0 else 0) own,
+          ap (λ (b : Bool). if b then size_of t.nodes transfer.node else 0) own,
+        ),
+        is.1,
+      )
+
+  other_coming : (transfer : Transfer) (name : List ℕ) (user : ℕ) (made : Tables) → user ≢ owner_of t.nodes transfer.folder
+      → IsComing t now user transfer name before later made
+      → (charge_of made user ≤ charge_of t user) × (quota_of t user ≤ quota_of made user)
+  other_coming transfer name user made other is =
+      let off : (owner_of t.nodes transfer.folder == user) ≡ false = ne_eqb (owner_of t.nodes transfer.folder) user (λ same. other (sym same)) in
+      (
+        omega (
+          arith,
+          is.0,
+          ap (λ (b : Bool). if b then option_map_or (size_of t.nodes) transfer.replaced 0 else 0) off,
+          ap (λ (b : Bool). if b then size_of t.nodes transfer.node else 0) off,
+        ),
+        omega (arith, is.1),
+      )
 
   copied_settled : (transfer : Transfer) (name : List ℕ) (user : ℕ) → KnownCopies t transfer name
       → KnownSettled t now (settled_by t (charged_for t transfer) (copies t now name transfer))
       → IsSettled (stamp (deeds_done t (settled_by t (charged_for t transfer) (copies t now name transfer))) now) user
   copied_settled transfer name user copied known =
       charged_or user (charged_for t transfer) (copies t now name transfer) known
-      (λ same. coming transfer name (owner_of t.nodes transfer.folder) (deeds_done t (copies t now name transfer)) refl
+      (λ same. own_coming transfer name (owner_of t.nodes transfer.folder) (deeds_done t (copies t now name transfer)) refl
       (copies_less t now (owner_of t.nodes transfer.folder) transfer name before later copied))
-      (λ other. beside transfer name user (deeds_done t (copies t now name transfer)) other
+      (λ other. other_coming transfer name user (deeds_done t (copies t now name transfer)) other
       (copies_less t now user transfer name before later copied))
       ?
-    where
-      coming : (transfer : Transfer) (name : List ℕ) (user : ℕ) (made : Tables) → owner_of t.nodes transfer.folder ≡ user
-          → IsComing t now user transfer name before later made
-          → (charge_of made user ≤ (charged_for t transfer).charge) × (quota_of made user ≡ (charged_for t transfer).quota)
-      coming transfer name user made owner is = ?
-
-      beside : (transfer : Transfer) (name : List ℕ) (user : ℕ) (made : Tables) → user ≢ owner_of t.nodes transfer.folder
-          → IsComing t now user transfer name before later made
-          → (charge_of made user ≤ charge_of t user) × (quota_of t user ≤ quota_of made user)
-      beside transfer name user made other is = ?
-
   crossed_settled : (transfer : Transfer) (name : List ℕ) (user : ℕ) → KnownCross t transfer name
       → KnownSettled t now (settled_by t (charged_for t transfer) (crossing t now name transfer))
       → IsSettled (stamp (deeds_done t (settled_by t (charged_for t transfer) (crossing t now name transfer))) now) user
-  crossed_settled transfer name user cross known = ?
+  crossed_settled transfer name user cross known =
+      charged_or user (charged_for t transfer) (crossing t now name transfer) known
+      (λ same. own_coming transfer name (owner_of t.nodes transfer.folder) (deeds_done t (crossing t now name transfer)) refl
+      (crossing_less t now (owner_of t.nodes transfer.folder) transfer name before later cross))
+      (λ other. other_coming transfer name user (deeds_done t (crossing t now name transfer)) other
+      (crossing_less t now user transfer name before later cross))
+      ?
 
   deeds_settled : (deeds : List Deed) (user : ℕ) → AreSettledSo t now deeds → KnownSettled t now deeds
       → IsSettled (stamp (deeds_done t deeds) now) user
   deeds_settled _ user (by_none deeds lower) known =
       lower_settled t now user deeds before (step_sound t now deeds before later known)
       (altered_owners t now (allowed.Deeds deeds report.Plain) before later known) (settled user) (lower user)
-  deeds_settled _ user (by_quota row quota there) known = requoted_settled row quota user there known
-  deeds_settled _ user (by_return item there) known = returned_settled item user there known
+  deeds_settled _ user (by_quota row quota there differs) known = requoted_settled row quota user there differs known
+  deeds_settled _ user (by_return item there restore goes others) known = returned_settled item user there restore goes others known
   deeds_settled _ user (by_copies transfer name copied) known = copied_settled transfer name user copied known
   deeds_settled _ user (by_cross transfer name cross) known = crossed_settled transfer name user cross known
 
@@ -411,7 +478,9 @@ module _ (t : Tables) (now : ℕ) (before : AreSound t) (later : t.meta.last ≤
       ))
       (elim (cases_Bool (user == t.meta.next_user)) [
         | inl new ↦
-            (let none : user_row t.users user ≡ None = ? in
+            (let none : user_row t.users user ≡ None = finds_none (λ (row : UserRow). row.id == user) t.users (λ k d within.
+            let given = before.users_given k d within in
+            ne_eqb (get_or t.users k d).id user (λ same. omega (arith, given, same, eqb-true user t.meta.next_user new))) in
             omega (arith, ap (λ (o : Option UserRow). option_map_or (λ (row : UserRow). row.quota) o 0) none))
         | inr old ↦
             omega (arith, ap (λ (o : Option UserRow). option_map_or (λ (row : UserRow). row.quota) o 0)
@@ -428,6 +497,28 @@ module _ (t : Tables) (now : ℕ) (before : AreSound t) (later : t.meta.last ≤
       → IsSettled (stamp (altered t now (stored_at t now key digest size)) now) user
   stored_settled key digest size user held known = ?
 
+  closed_settled : (user : ℕ) (act : Allowed) → ◌≡◌ {A = Result Allowed Denial} (Ok allowed.Close) (Ok act)
+      → IsSettled (stamp (altered t now act) now) user
+  unfolding charge_of
+  closed_settled user act is =
+      let same : allowed.Close ≡ act = cc in
+      subst (λ (a : Allowed). IsSettled (stamp (altered t now a) now) user) same (settled user)
+
+  goal_settled : (access : Access) (user : ℕ) (outcome : Outcome) (goal : Goal) (act : Allowed) → IsStorable t goal
+      → ends_goal access t now outcome goal ≡ Ok act → Known t now act → IsSettled (stamp (altered t now act) now) user
+  goal_settled access user (Body digest size) (Serve content) act held is known = closed_settled user act is
+  goal_settled access user (Body digest size) (Store by key wanted) act held is known =
+      let h = not_refused (end_refusal access t now by key size) (stored_at t now key digest size) act is in
+      subst (λ (a : Allowed). IsSettled (stamp (altered t now a) now) user) h.1
+      (stored_settled key digest size user held.0 (subst (Known t now) (sym h.1) known))
+  goal_settled access user outcome goal act held is known = closed_settled user act is
+
+  -- an End
+  end_settled : (access : Access) (user : ℕ) (outcome : Outcome) (goal : Option Goal) (act : Allowed) → IfSome goal (IsStorable t)
+      → ends_at access t now outcome goal ≡ Ok act → Known t now act → IsSettled (stamp (altered t now act) now) user
+  end_settled access user outcome None act held is known = closed_settled user act is
+  end_settled access user outcome (Some goal) act held is known = goal_settled access user outcome goal act held is known
+
   -- all that a Begin asks for
   begun_settled : (act : Allowed) (user : ℕ) → Known t now act → SettlesSo t now act → IsSettled (stamp (altered t now act) now) user
   unfolding charge_of
@@ -443,7 +534,9 @@ act_settled : (s : State) (e : Entry) (event : Event) (user : ℕ) (act : Allowe
 act_settled s e (Begin words request) user act settled sound later may is =
     begun_settled s.tables e.moment sound.rows later settled act user (known_change s e.seat e.moment (Begin words request) act sound may is)
     (call_settles (call_of s e.seat e.moment words request) act sound later may.1 is)
-act_settled s e (End outcome) user act settled sound later may is = ?
+act_settled s e (End outcome) user act settled sound later may is =
+    end_settled s.tables e.moment sound.rows later settled (access_of s) user outcome (goal_at s e.seat) act (goal_held s e.seat sound) is
+    (known_change s e.seat e.moment (End outcome) act sound may is)
 act_settled s e Sweep user act settled sound later may is =
     let t = s.tables in
     let gone = flat_map (gone_from t e.moment) (owners_of t.items) in
