@@ -11,15 +11,15 @@ use Rattle.nf_base.specs.declared.rows.NodeRow.{NodeRow}
 use Rattle.nf_base.specs.declared.rows.VersionRow.{VersionRow}
 use Rattle.nf_defs.proofs.ByName.{Contains-filter, Contains-map}
 use Rattle.nf_defs.proofs.Puts.{key_total}
-use Rattle.nf_defs.specs.Prelude.{is_file, key_cmp, node_row, owner_of, Tables, version_key, is_under, item_row, user_row, user_key, put, Access}
+use Rattle.nf_defs.specs.Prelude.{is_file, key_cmp, node_row, owner_of, Tables, version_key, is_under, item_row, user_row, user_key, put, Access, made, put_all}
 use Rattle.nf_laws.proofs.Files.{file_row}
 use Rattle.nf_laws.proofs.Owned.{KeepsOwners, altered_owners}
 use Rattle.nf_laws.proofs.Rows.{row_is, stamp, stamped_has, finds_none}
-use Rattle.nf_laws.proofs.Turning.{deeds_fewer}
+use Rattle.nf_laws.proofs.Turning.{deeds_fewer, added_fewer, drops_fewer}
 use Rattle.nf_retention.specs.Budget.{versions_bound}
 use Rattle.nf_retention.specs.declared.versions.Version.{Version}
 use Rattle.nf_words.specs.Others.{IsVersionSound}
-use Rattle.nf_words.specs.Prelude.{after, AreSound, charge_of, deeds_done, IsSound, MayCome, quota_of, State, forgets, forgotten, settled_by, unsettled, purged_by, held_without, altered, told, decision_of, MayAsk, purges, deed_done, restored, home_of, name_back, charged_to, requoting, charged, item_size, restoring, charged_for, copies, crossing, gone_of, items_of, IsRequoted, stored_at, IsHeld, call_of, gone_from, owners_of, swept, gone_beside, ends_goal, ends_at, end_refusal, access_of, goal_at, IsStorable}
+use Rattle.nf_words.specs.Prelude.{after, AreSound, charge_of, deeds_done, IsSound, MayCome, quota_of, State, forgets, forgotten, settled_by, unsettled, purged_by, held_without, altered, told, decision_of, MayAsk, purges, deed_done, restored, home_of, name_back, charged_to, requoting, charged, item_size, restoring, charged_for, copies, crossing, gone_of, items_of, IsRequoted, stored_at, IsHeld, call_of, gone_from, owners_of, swept, gone_beside, ends_goal, ends_at, end_refusal, access_of, goal_at, IsStorable, content_in, blob_for, new_node, drop_version}
 use Rattle.nf_words.specs.Versions.{beyond_bound, content_size, held, is_version, is_held_by, is_under_any}
 use Rattle.nf_words.specs.declared.answer.Deed.{Deed}
 use Rattle.nf_words.specs.declared.answer.Deed.TheVariants as deed
@@ -72,6 +72,10 @@ use Rattle.nf_words.specs.declared.answer.Goal.TheVariants.{Serve, Store}
 use Rattle.nf_words.specs.declared.history.Outcome.{Outcome}
 use Rattle.nf_words.specs.declared.history.Outcome.TheVariants.{Body}
 use Rattle.nf_words.specs.Listing.{size_of}
+use Rattle.nf_laws.proofs.Stored.{stored_comes, body_weighs}
+use Rattle.nf_laws.proofs.Refilled.{added_made}
+use Rattle.nf_base.specs.declared.rows.NodeKind.TheVariants.{File}
+use Rattle.nf_words.specs.declared.answer.LockKey.TheVariants.{Node, Slot}
 
 -- a user's versions are within their bound
 abbrev IsSettled : Tables → ℕ → Type 0
@@ -216,6 +220,20 @@ forgets_left u (version ∷ gone) k d within =
     (dropped_not version row (All-contains NotIt left.versions row
     (filter_passes (λ (row : VersionRow). not (bytes_eq (version.node ∷ version.at ∷ []) (version_key row))) u.versions) among))
     (forgets_left left gone k d within)
+
+-- nor where they are told as changes
+drops_left : (u : Tables) (gone : List Version)
+    → All (λ (row : VersionRow). list_any (is_version row.node row.at) gone ≡ false) (put_all u (map drop_version gone)).versions
+drops_left u [] k d within = refl
+drops_left u (version ∷ gone) k d within =
+    let left = made u (drop_version version) in
+    let row = get_or (put_all left (map drop_version gone)).versions k d in
+    let among : Contains left.versions row = drops_fewer left left gone (All-contains_itself left.versions) k d within in
+    let NotIt : VersionRow → Type 0 = λ row. not (bytes_eq (version.node ∷ version.at ∷ []) (version_key row)) ≡ true in
+    or_from (is_version row.node row.at version) (list_any (is_version row.node row.at) gone)
+    (dropped_not version row (All-contains NotIt left.versions row
+    (filter_passes (λ (row : VersionRow). not (bytes_eq (version.node ∷ version.at ∷ []) (version_key row))) u.versions) among))
+    (drops_left left gone k d within)
 
 -- what is under none of the nodes that are gone
 not_under : (t u : Tables) (tops : List ℕ) (node : ℕ) → AreSound t → All (IsGoneWith t.nodes u.nodes) tops → is_file u.nodes node ≡ true
@@ -495,7 +513,56 @@ module _ (t : Tables) (now : ℕ) (before : AreSound t) (later : t.meta.last ≤
   -- a body that is stored
   stored_settled : (key : LockKey) (digest : List ℕ) (size user : ℕ) → IsHeld t key → Known t now (stored_at t now key digest size)
       → IsSettled (stamp (altered t now (stored_at t now key digest size)) now) user
-  stored_settled key digest size user held known = ?
+  stored_settled (Node node) digest size user held known = ?
+  stored_settled (Slot folder name) digest size user free known =
+      let key = Slot folder name in
+      let act = stored_at t now key digest size in
+      let made = stamp (altered t now act) now in
+      let content = content_in (blob_for t.meta.next_blob size) digest size in
+      let row = new_node t now folder name File content in
+      let to = charged t row.owner 0 (content_size content) in
+      let gone = unsettled t to [] in
+      let fine = altered_sound t now act before later known in
+      let keeps = altered_owners t now act before later known in
+      let trash = λ (user : ℕ). trash_same t made user before fine (act_kept t now act before later known tt) in
+      let comes = stored_comes t now key digest size before free in
+      let quota = λ (user : ℕ). ap (λ (u : Tables). quota_of u user) (added_made t row gone) in
+      let fewer = added_fewer t row gone in
+      elim (cases_Bool (row.owner == user)) [
+        | inl is ↦
+            subst (IsSettled made) (eqb-true row.owner user is)
+            (settled_bounded made fine row.owner to.quota to.charge (held_without t row.owner [])
+            (omega (
+              arith,
+              charge_beside t row.owner,
+              charge_beside made row.owner,
+              trash row.owner,
+              comes row.owner,
+              ap (λ (b : Bool). if b then size else 0) (eq-eqb row.owner row.owner refl),
+              body_weighs t.meta.next_blob size digest,
+            ))
+            (quota row.owner) (λ version own_is.
+            let was = All-contains (Contains t.versions) made.versions version fewer own_is in
+            λ its.
+            let owner = owner_was t made version before fine keeps was own_is ∙ its in (
+              Contains-map held _ version
+                  (Contains-filter (λ (row : VersionRow). not (is_under_any t.nodes [] row.node)) (filter (is_held_by t.nodes row.owner) t.versions) version
+                  (Contains-filter (is_held_by t.nodes row.owner) t.versions version was (eq-eqb (owner_of t.nodes version.node) row.owner owner)) refl),
+              All-contains (λ (version : VersionRow). list_any (is_version version.node version.at) gone ≡ false) made.versions version
+                  (drops_left (put_all t (Put (rows.Node row) ∷ [])) gone) own_is,
+            )))
+        | inr not ↦
+            settled_kept t made user before fine keeps fewer (settled user)
+            (omega (
+              arith,
+              charge_beside t user,
+              charge_beside made user,
+              trash user,
+              comes user,
+              ap (λ (b : Bool). if b then size else 0) not,
+            ))
+            (omega (arith, quota user))
+      ]
 
   closed_settled : (user : ℕ) (act : Allowed) → ◌≡◌ {A = Result Allowed Denial} (Ok allowed.Close) (Ok act)
       → IsSettled (stamp (altered t now act) now) user
