@@ -19,3 +19,5 @@ pub mod Stays
 pub mod Unbroken
 pub mod Settled
 pub mod Held
+pub mod Dropped
+pub mod TurnedOver

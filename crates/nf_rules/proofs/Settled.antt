@@ -76,6 +76,8 @@ use Rattle.nf_laws.proofs.Stored.{stored_comes, body_weighs}
 use Rattle.nf_laws.proofs.Refilled.{added_made}
 use Rattle.nf_base.specs.declared.rows.NodeKind.TheVariants.{File}
 use Rattle.nf_words.specs.declared.answer.LockKey.TheVariants.{Node, Slot}
+use Rattle.nf_rules.proofs.Dropped.{dropped_not, drops_left}
+use Rattle.nf_rules.proofs.TurnedOver.{none_gone, only_replaced}
 
 -- a user's versions are within their bound
 abbrev IsSettled : Tables → ℕ → Type 0
@@ -191,22 +193,6 @@ settled_kept t u user before sound keeps versions settled charge quota =
 
 -- ---- versions that go behind deeds
 
--- a version that is dropped isn't there
-dropped_not : (version : Version) (row : VersionRow) → not (bytes_eq (version.node ∷ version.at ∷ []) (version_key row)) ≡ true
-    → is_version row.node row.at version ≡ false
-dropped_not version row other =
-    elim (cases_Bool (is_version row.node row.at version)) [
-      | inl is ↦
-          (let both = and_parts (version.node == row.node) (version.at == row.at) is in
-          let key : version.node ∷ version.at ∷ [] ≡ version_key row =
-          ap (λ (n : ℕ). n ∷ version.at ∷ []) (eqb-true version.node row.node both.0)
-          ∙ ap (λ (n : ℕ). row.node ∷ n ∷ []) (eqb-true version.at row.at both.1) in
-          absurd (both_ways (bytes_eq (version.node ∷ version.at ∷ []) (version_key row))
-          (not-true (bytes_eq (version.node ∷ version.at ∷ []) (version_key row)) other)
-          ((bytes_eq-Decides (version.node ∷ version.at ∷ []) (version_key row)).1 key)))
-      | inr not ↦ not
-    ]
-
 -- none of those is left
 forgets_left : (u : Tables) (gone : List Version)
     → All (λ (row : VersionRow). list_any (is_version row.node row.at) gone ≡ false) (deeds_done u (forgets gone)).versions
@@ -220,20 +206,6 @@ forgets_left u (version ∷ gone) k d within =
     (dropped_not version row (All-contains NotIt left.versions row
     (filter_passes (λ (row : VersionRow). not (bytes_eq (version.node ∷ version.at ∷ []) (version_key row))) u.versions) among))
     (forgets_left left gone k d within)
-
--- nor where they are told as changes
-drops_left : (u : Tables) (gone : List Version)
-    → All (λ (row : VersionRow). list_any (is_version row.node row.at) gone ≡ false) (put_all u (map drop_version gone)).versions
-drops_left u [] k d within = refl
-drops_left u (version ∷ gone) k d within =
-    let left = made u (drop_version version) in
-    let row = get_or (put_all left (map drop_version gone)).versions k d in
-    let among : Contains left.versions row = drops_fewer left left gone (All-contains_itself left.versions) k d within in
-    let NotIt : VersionRow → Type 0 = λ row. not (bytes_eq (version.node ∷ version.at ∷ []) (version_key row)) ≡ true in
-    or_from (is_version row.node row.at version) (list_any (is_version row.node row.at) gone)
-    (dropped_not version row (All-contains NotIt left.versions row
-    (filter_passes (λ (row : VersionRow). not (bytes_eq (version.node ∷ version.at ∷ []) (version_key row))) u.versions) among))
-    (drops_left left gone k d within)
 
 -- what is under none of the nodes that are gone
 not_under : (t u : Tables) (tops : List ℕ) (node : ℕ) → AreSound t → All (IsGoneWith t.nodes u.nodes) tops → is_file u.nodes node ≡ true
