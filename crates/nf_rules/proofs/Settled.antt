@@ -2,7 +2,7 @@
 use Rattle.std.proofs.Common.{◌≡◌, ◌≤◌, ◌<◌, ◌==◌, ◌⊎◌, ℕ, inl, inr, not, Bool, true, false, List, [], ◌∷◌, ◌++◌, ◌∙◌, filter, get_or, length, map, sum_by, Option, None, Some, if◌then◌else◌, refl, sym, ap, subst, arith, flat_map, bytes_eq, ◌≢◌, Ok, Result, ◌-◌, ◌+◌}
 use Rattle.std.specs.List.{All, AllPairs, Contains, list_any}
 use Rattle.std.specs.Option.{option_map_or, IfSome}
-use Rattle.std.proofs.lemmas.Bool.{eq-eqb, eqb-true, not-true, and_parts, both_ways, cases_Bool, or_from, ne_eqb}
+use Rattle.std.proofs.lemmas.Bool.{eq-eqb, eqb-true, not-true, and_parts, both_ways, cases_Bool, or_from, ne_eqb, cond_both}
 use Rattle.std.proofs.lemmas.Cmp.{tied_itself}
 use Rattle.std.proofs.lemmas.List.Elements.{All-contains, All-contains_itself, All-filter, filter_passes}
 use Rattle.std.proofs.lemmas.List.Kept.{AllPairs-filter}
@@ -11,7 +11,7 @@ use Rattle.nf_base.specs.declared.rows.NodeRow.{NodeRow}
 use Rattle.nf_base.specs.declared.rows.VersionRow.{VersionRow}
 use Rattle.nf_defs.proofs.ByName.{Contains-filter, Contains-map}
 use Rattle.nf_defs.proofs.Puts.{key_total}
-use Rattle.nf_defs.specs.Prelude.{is_file, key_cmp, node_row, owner_of, Tables, version_key, is_under, item_row, user_row, user_key, put, Access, made, put_all}
+use Rattle.nf_defs.specs.Prelude.{is_file, key_cmp, node_row, owner_of, Tables, version_key, is_under, item_row, user_row, user_key, put, Access, made, put_all, filled}
 use Rattle.nf_laws.proofs.Files.{file_row}
 use Rattle.nf_laws.proofs.Owned.{KeepsOwners, altered_owners}
 use Rattle.nf_laws.proofs.Rows.{row_is, stamp, stamped_has, finds_none}
@@ -19,7 +19,7 @@ use Rattle.nf_laws.proofs.Turning.{deeds_fewer, added_fewer, drops_fewer}
 use Rattle.nf_retention.specs.Budget.{versions_bound}
 use Rattle.nf_retention.specs.declared.versions.Version.{Version}
 use Rattle.nf_words.specs.Others.{IsVersionSound}
-use Rattle.nf_words.specs.Prelude.{after, AreSound, charge_of, deeds_done, IsSound, MayCome, quota_of, State, forgets, forgotten, settled_by, unsettled, purged_by, held_without, altered, told, decision_of, MayAsk, purges, deed_done, restored, home_of, name_back, charged_to, requoting, charged, item_size, restoring, charged_for, copies, crossing, gone_of, items_of, IsRequoted, stored_at, IsHeld, call_of, gone_from, owners_of, swept, gone_beside, ends_goal, ends_at, end_refusal, access_of, goal_at, IsStorable, content_in, blob_for, new_node, drop_version}
+use Rattle.nf_words.specs.Prelude.{after, AreSound, charge_of, deeds_done, IsSound, MayCome, quota_of, State, forgets, forgotten, settled_by, unsettled, purged_by, held_without, altered, told, decision_of, MayAsk, purges, deed_done, restored, home_of, name_back, charged_to, requoting, charged, item_size, restoring, charged_for, copies, crossing, gone_of, items_of, IsRequoted, stored_at, IsHeld, call_of, gone_from, owners_of, swept, gone_beside, ends_goal, ends_at, end_refusal, access_of, goal_at, IsStorable, content_in, blob_for, new_node, drop_version, refills, refilled, gone_after, is_same, turned_over}
 use Rattle.nf_words.specs.Versions.{beyond_bound, content_size, held, is_version, is_held_by, is_under_any}
 use Rattle.nf_words.specs.declared.answer.Deed.{Deed}
 use Rattle.nf_words.specs.declared.answer.Deed.TheVariants as deed
@@ -29,7 +29,7 @@ use Rattle.nf_rules.specs.Rules.{held_bytes}
 use Rattle.nf_rules.proofs.Held.{AreHeldApart, beyond_leaves, bound_falls, bound_rises, left_size, sum_among}
 use Rattle.std.proofs.lemmas.Slice.Eq.{bytes_eq-Decides}
 use Rattle.std.proofs.lemmas.List.Folds.{list_any_none}
-use Rattle.std.proofs.lemmas.Option.{none-some}
+use Rattle.std.proofs.lemmas.Option.{none-some, same_Some}
 use Rattle.nf_words.specs.Changes.{Charged}
 use Rattle.nf_laws.specs.Acts.{IsGoneWith}
 use Rattle.nf_laws.proofs.Behind.{behind_only}
@@ -72,12 +72,14 @@ use Rattle.nf_words.specs.declared.answer.Goal.TheVariants.{Serve, Store}
 use Rattle.nf_words.specs.declared.history.Outcome.{Outcome}
 use Rattle.nf_words.specs.declared.history.Outcome.TheVariants.{Body}
 use Rattle.nf_words.specs.Listing.{size_of}
-use Rattle.nf_laws.proofs.Stored.{stored_comes, body_weighs}
-use Rattle.nf_laws.proofs.Refilled.{added_made}
+use Rattle.nf_laws.proofs.Stored.{stored_comes, body_weighs, refills_comes}
+use Rattle.nf_laws.proofs.Refilled.{added_made, refills_made}
 use Rattle.nf_base.specs.declared.rows.NodeKind.TheVariants.{File}
 use Rattle.nf_words.specs.declared.answer.LockKey.TheVariants.{Node, Slot}
 use Rattle.nf_rules.proofs.Dropped.{dropped_not, drops_left}
-use Rattle.nf_rules.proofs.TurnedOver.{none_gone, only_replaced}
+use Rattle.nf_rules.proofs.TurnedOver.{in_turn, last, puts_append, seen, in_seen, none_beyond, IsFrom, last_from}
+use Rattle.nf_laws.proofs.Sizes.{weight}
+use Rattle.nf_base.specs.declared.content.Piece.{Piece}
 
 -- a user's versions are within their bound
 abbrev IsSettled : Tables → ℕ → Type 0
@@ -477,15 +479,112 @@ module _ (t : Tables) (now : ℕ) (before : AreSound t) (later : t.meta.last ≤
             (users_turnless t t user changes (λ same. both_ways (user == t.meta.next_user) old (eq-eqb user t.meta.next_user same)) none))
       ])
 
+  -- another content of a file
+  refills_settled : (node : ℕ) (row : NodeRow) (back : Option ℕ) (content : List Piece) (blob : Option ℕ) (report : Report) (user : ℕ)
+      → node_row t.nodes node ≡ Some row → KnownChange t now (refills t now back content row) blob
+      → IsSettled (stamp (altered t now (allowed.Change (refills t now back content row) blob report)) now) user
+  refills_settled node row back content blob report user there known =
+      let changes = refills t now back content row in
+      let act : Allowed = allowed.Change changes blob report in
+      let made = stamp (altered t now act) now in
+      let to = charged t row.owner (content_size row.content) (content_size content) in
+      let gone = gone_after t now back row to.quota to.charge in
+      let v = put_all t (if is_same now content row then [] else Put (rows.Node (filled content now row)) ∷ []) in
+      let same : v.versions ≡ t.versions = cond_both (is_same now content row) [] (Put (rows.Node (filled content now row)) ∷ [])
+      (λ changes. (put_all t changes).versions ≡ t.versions) (λ is. refl) (λ not. refl) in
+      let rising = before.others.versions_rise in
+      let last_is : made.versions ≡ (last t v same rising back row gone).versions = ap (λ (u : Tables). u.versions)
+      (puts_append t (if is_same now content row then [] else Put (rows.Node (filled content now row)) ∷ []) (turned_over t back row gone)
+      ∙ in_turn t v same rising back row gone) in
+      let fine = altered_sound t now act before later known in
+      let keeps = altered_owners t now act before later known in
+      let trash = λ (user : ℕ). trash_same t made user before fine (act_kept t now act before later known tt) in
+      let is = refills_made t now back content row in
+      let comes = refills_comes t now node (content_size content) content row made.nodes before there refl (ap (λ (u : Tables). u.nodes) is) in
+      let quota = λ (user : ℕ). ap (λ (u : Tables). quota_of u user) is in
+      let given = row_is t node row before there in
+      let in_last = λ (version : VersionRow) (its : Contains made.versions version). subst (λ (rows : List VersionRow). Contains rows version) last_is its in
+      let own_of = λ (version : VersionRow) (its : Contains made.versions version) (it : version.node ≡ row.id).
+      file_owner made row fine keeps version its it (ap (node_row t.nodes) given.0 ∙ there) in
+      elim (cases_Bool (row.owner == user)) [
+        | inl own ↦
+            subst (IsSettled made) (eqb-true row.owner user own)
+            (settled_bounded made fine row.owner to.quota to.charge (seen t v same rising now back row to.quota to.charge)
+            (omega (
+              arith,
+              charge_beside t row.owner,
+              charge_beside made row.owner,
+              trash row.owner,
+              comes row.owner,
+              ap (λ (b : Bool). if b then content_size content else 0) (eq-eqb row.owner row.owner refl),
+              ap (λ (b : Bool). if b then weight row else 0) (eq-eqb row.owner row.owner refl),
+            ))
+            (quota row.owner) (λ version own_is its.
+            let among = in_last version own_is in
+            let owner : owner_of t.nodes version.node ≡ row.owner = ? in (
+              in_seen t v same rising now back row to.quota to.charge version among owner,
+              none_beyond t v same rising now back row to.quota to.charge version among,
+            )))
+        | inr not ↦
+            settled_fewer made fine user t (settled user)
+            (omega (
+              arith,
+              charge_beside t user,
+              charge_beside made user,
+              trash user,
+              comes user,
+              ap (λ (b : Bool). if b then content_size content else 0) not,
+              ap (λ (b : Bool). if b then weight row else 0) not,
+            ))
+            (omega (arith, quota user)) (λ version own_is its.
+            elim (All-contains (IsFrom t v same rising back row gone) (last t v same rising back row gone).versions version
+            (last_from t v same rising back row gone) (in_last version own_is)) [
+              | inl was ↦ (was, owner_was t made version before fine keeps was own_is ∙ its)
+              | inr it ↦
+                  absurd (both_ways (row.owner == user) not (eq-eqb row.owner user
+                  (sym (own_of version own_is (ap (λ (version : VersionRow). version.node) it.0)) ∙ its)))
+            ])
+      ]
+    where
+      -- the owner of a file that was there
+      file_owner : (made : Tables) (row : NodeRow) → AreSound made → KeepsOwners t made → (version : VersionRow) → Contains made.versions version
+          → version.node ≡ row.id → node_row t.nodes row.id ≡ Some row → owner_of made.nodes version.node ≡ row.owner
+      file_owner made row fine keeps version its it there =
+          let file = file_row made.nodes version.node (All-contains (IsVersionSound made) made.versions version fine.others.versions its).file in
+          let given = row_is t row.id row before there in
+          let was = keeps version.node file.0 (omega (arith, it, given.1.given)) file.1 in
+          let old : was.0 ≡ row = same_Some was.0 row (sym was.1 ∙ ap (node_row t.nodes) it ∙ there) in
+          ap (λ (o : Option NodeRow). option_map_or (λ (row : NodeRow). row.owner) o 0) file.1 ∙ was.2 ∙ ap (λ (row : NodeRow). row.owner) old
+
   -- a version that is its file's content again
   back_settled : (changes : List Change) (blob : Option ℕ) (report : Report) (user : ℕ) → IsBroughtBack t now changes
       → KnownChange t now changes blob → IsSettled (stamp (altered t now (allowed.Change changes blob report)) now) user
-  back_settled changes blob report user is known = ?
+  back_settled changes blob report user is known =
+      subst (λ (changes : List Change). IsSettled (stamp (altered t now (allowed.Change changes blob report)) now) user) (sym is.are)
+      (refills_settled is.node is.row (Some is.version.at) is.version.content blob report user is.there
+      (subst (λ (changes : List Change). KnownChange t now changes blob) is.are known))
 
   -- a body that is stored
   stored_settled : (key : LockKey) (digest : List ℕ) (size user : ℕ) → IsHeld t key → Known t now (stored_at t now key digest size)
       → IsSettled (stamp (altered t now (stored_at t now key digest size)) now) user
-  stored_settled (Node node) digest size user held known = ?
+  stored_settled (Node node) digest size user held known = here (node_row t.nodes node) refl known
+    where
+      blob : Option ℕ
+      blob = blob_for t.meta.next_blob size
+
+      content : List Piece
+      content = content_in blob digest size
+
+      one : (row : NodeRow) → node_row t.nodes node ≡ Some row → (b : Bool) → is_same now content row ≡ b
+          → KnownChange t now (if b then [] else refills t now None content row) blob
+          → IsSettled (stamp (altered t now (allowed.Change (if b then [] else refills t now None content row) blob report.Done)) now) user
+      one row there true is known = turnless_settled [] blob report.Done user tt (known.stored refl) known
+      one row there false is known = refills_settled node row None content blob report.Done user there known
+
+      here : (o : Option NodeRow) → node_row t.nodes node ≡ o → KnownChange t now (option_map_or (refilled t now content) o []) blob
+          → IsSettled (stamp (altered t now (allowed.Change (option_map_or (refilled t now content) o []) blob report.Done)) now) user
+      here None there known = turnless_settled [] blob report.Done user tt (known.stored refl) known
+      here (Some row) there known = one row there (is_same now content row) refl known
   stored_settled (Slot folder name) digest size user free known =
       let key = Slot folder name in
       let act = stored_at t now key digest size in

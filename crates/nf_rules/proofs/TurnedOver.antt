@@ -2,11 +2,11 @@
 use Rattle.std.proofs.Common.{◌≡◌, ◌≢◌, ◌<◌, ◌⊎◌, ◌==◌, ◌&&◌, ◌||◌, ℕ, inl, inr, not, Bool, true, false, List, [], ◌∷◌, ◌++◌, ◌∙◌, filter, get_or, length, map, reverse, find, Option, None, Some, if◌then◌else◌, refl, sym, ap, subst, arith, bytes_eq}
 use Rattle.std.specs.List.{All, Contains, list_any}
 use Rattle.std.specs.Prelude.{is_none, is_some}
-use Rattle.std.proofs.lemmas.Bool.{and_from, and_parts, both_ways, cases_Bool, cases_order, cond_both, eq-eqb, eqb-true, not-true, false≢true}
+use Rattle.std.proofs.lemmas.Bool.{and_from, and_parts, both_ways, cases_Bool, cases_order, cond_both, eq-eqb, eqb-true, not-true, false≢true, or_parts}
 use Rattle.std.proofs.lemmas.Cmp.{tied_itself}
-use Rattle.std.proofs.lemmas.List.{get_or_default}
-use Rattle.std.proofs.lemmas.List.Elements.{All-contains, All-contains_itself, All-filter, filter_passes}
-use Rattle.std.proofs.lemmas.List.Folds.{Any-from_list_any, list_any_at}
+use Rattle.std.proofs.lemmas.List.{get_or_default, reverse-reverse}
+use Rattle.std.proofs.lemmas.List.Elements.{All-contains, All-contains_itself, All-filter, filter_passes, Contains-append_left, Contains-append_right}
+use Rattle.std.proofs.lemmas.List.Folds.{Any-from_list_any, list_any_at, list_any-append}
 use Rattle.std.proofs.lemmas.Slice.Eq.{bytes_eq-Decides}
 use Rattle.nf_access.proofs.LookUps.{find_among}
 use Rattle.nf_base.specs.declared.changes.Change.{Change}
@@ -15,22 +15,24 @@ use Rattle.nf_base.specs.declared.changes.RowKey.TheVariants as keys
 use Rattle.nf_base.specs.declared.rows.NodeRow.{NodeRow}
 use Rattle.nf_base.specs.declared.rows.Row.TheVariants as rows
 use Rattle.nf_base.specs.declared.rows.VersionRow.{VersionRow}
-use Rattle.nf_defs.proofs.ByName.{Contains-filter}
+use Rattle.nf_defs.proofs.ByName.{Contains-filter, Contains-map}
 use Rattle.nf_defs.proofs.Puts.{all_put, key_total, put_rising}
-use Rattle.nf_defs.specs.Prelude.{dropped, IsRising, key_cmp, made, put, put_all, Tables, version_key}
+use Rattle.nf_defs.specs.Prelude.{dropped, IsRising, key_cmp, made, put, put_all, Tables, version_key, owner_of}
 use Rattle.nf_laws.proofs.Turning.{drops_fewer}
 use Rattle.nf_laws.specs.Acts.{AreVersionsFewer}
 use Rattle.nf_retention.specs.declared.versions.Version.{Version}
 use Rattle.nf_words.proofs.Forgetting.{rows_there}
-use Rattle.nf_words.specs.Versions.{becomes_version, drop_back, drop_gone, drop_version, has_already, is_at, is_empty, is_version, put_replaced, stays_version, turned_over, version_for, version_row}
+use Rattle.nf_words.specs.Versions.{becomes_version, drop_back, drop_gone, drop_version, has_already, is_at, is_empty, is_version, put_replaced, stays_version, turned_over, version_for, version_row, with_replaced, thinned_out, held_beside, those_but, those_at, gone_after, beyond_bound, staying, versions_of, held, is_held_by, is_among}
 use Rattle.nf_rules.proofs.Dropped.{dropped_not, drops_left}
 use Rattle.nf_defs.proofs.Climbs.{holds_some}
 use Rattle.nf_words.proofs.Found.{put_is_found}
 use Rattle.nf_words.proofs.Bodies.{content_decides}
 use Rattle.nf_base.specs.Content.{content_eq}
+use Rattle.nf_laws.proofs.Given.{put_contains}
+use Rattle.std.proofs.lemmas.List.Sorted.{All-permutation, IsPermutation-reverse}
 
 -- one list of changes behind another
-puts_append : (t : Tables) (xs ys : List Change) → put_all t (xs ++ ys) ≡ put_all (put_all t xs) ys
+pub puts_append : (t : Tables) (xs ys : List Change) → put_all t (xs ++ ys) ≡ put_all (put_all t xs) ys
 puts_append t [] ys = refl
 puts_append t (x ∷ xs) ys = puts_append (made t x) xs ys
 
@@ -58,19 +60,19 @@ module _ (t v : Tables) (same : v.versions ≡ t.versions) (rising : IsRising ve
   stays = stays_version t back row gone
 
   -- what is replaced is put, what comes back is dropped, and then what goes
-  abbrev first : Tables
+  abbrev pub first : Tables
   first = put_all v (put_replaced t row stays)
 
-  abbrev second : Tables
+  abbrev pub second : Tables
   second = put_all first (drop_back back row stays)
 
   abbrev goes : Version → Bool
   goes version = not (becomes && is_version row.id row.changed version)
 
-  abbrev last : Tables
+  abbrev pub last : Tables
   last = put_all second (drop_gone becomes row gone)
 
-  in_turn : put_all v (turned_over t back row gone) ≡ last
+  pub in_turn : put_all v (turned_over t back row gone) ≡ last
   in_turn =
       puts_append v (put_replaced t row stays) (drop_back back row stays ++ drop_gone becomes row gone)
       ∙ puts_append first (drop_back back row stays) (drop_gone becomes row gone)
@@ -130,7 +132,7 @@ module _ (t v : Tables) (same : v.versions ≡ t.versions) (rising : IsRising ve
       (and_from _ _ (eq-eqb row.id one.node (sym node)) (eq-eqb at one.at (sym moment)))
 
   -- where a version has the moment of what is replaced, that becomes one only as that one comes back
-  comes_back : (one : VersionRow) → Contains t.versions one → one.node ≡ row.id → one.at ≡ row.changed → becomes ≡ true → is_at back row.changed ≡ true
+  pub comes_back : (one : VersionRow) → Contains t.versions one → one.node ≡ row.id → one.at ≡ row.changed → becomes ≡ true → is_at back row.changed ≡ true
   comes_back one among node moment is = here (is_at back row.changed) (and_parts (not (is_empty row.content)) _ is).1
     where
       there : is_some (version_row t.versions row.id row.changed) ≡ true
@@ -255,3 +257,114 @@ module _ (t v : Tables) (same : v.versions ≡ t.versions) (rising : IsRising ve
                   | inl was ↦ (replaced parts.0 (sym moment ∙ eqb-true b row.changed parts.1) was, parts.0)
                 ])
           ]
+
+-- ---- those that the bound sees
+
+contains_reverse : {X : Type 0} (xs : List X) (x : X) → Contains xs x → Contains (reverse xs) x
+contains_reverse xs x among =
+    All-contains (Contains (reverse xs)) xs x
+    (subst (All (Contains (reverse xs))) (reverse-reverse xs)
+    (All-permutation (Contains (reverse xs)) (reverse xs) (reverse (reverse xs)) (IsPermutation-reverse (reverse xs)) (All-contains_itself (reverse xs)))) among
+
+module _ (t v : Tables) (same : v.versions ≡ t.versions) (rising : IsRising version_key t.versions) (now : ℕ) (back : Option ℕ) (row : NodeRow)
+    (quota charge : ℕ) where
+  abbrev pub with_it : List VersionRow
+  with_it = with_replaced t.versions back row
+
+  abbrev pub thin : List ℕ
+  thin = thinned_out now row with_it
+
+  -- the owner's, but for those that thin out
+  abbrev pub seen : List Version
+  seen = held_beside t row.owner row.id ++ those_but thin with_it
+
+  abbrev gone : List Version
+  gone = gone_after t now back row quota charge
+
+  module _ (one : VersionRow) (among : Contains (last t v same rising back row gone).versions one) where
+    -- none is left that thins out or is beyond the bound
+    none_of : (list_any (is_version one.node one.at) (those_at thin with_it) ≡ false)
+        × (list_any (is_version one.node one.at) (beyond_bound quota charge seen) ≡ false)
+    none_of =
+        or_parts _ _
+        (sym (list_any-append (is_version one.node one.at) (those_at thin with_it) (beyond_bound quota charge seen))
+        ∙ none_gone t v same rising back row gone one among)
+
+    pub none_beyond : list_any (is_version one.node one.at) (beyond_bound quota charge seen) ≡ false
+    none_beyond = none_of.1
+
+    -- what is replaced is among those of its file
+    replaced_in : stays_version t back row gone ≡ true → Contains with_it (version_for row)
+    replaced_in is =
+        let becomes_is = (and_parts (becomes_version t.versions back row) _ is).0 in
+        let others = staying t.versions back row.id in
+        let test : VersionRow → Bool = λ version. version.node == row.id && version.at == row.changed in
+        let found = find_among test (put version_key (version_for row) others) (version_for row)
+        (put_is_found version_key test (version_for row) others (and_from _ _ (eq-eqb row.id row.id refl) (eq-eqb row.changed row.changed refl))
+        (λ x passes.
+        let key = and_parts (x.node == row.id) (x.at == row.changed) passes in
+        ap (λ (n : ℕ). n ∷ x.at ∷ []) (eqb-true x.node row.id key.0) ∙ ap (λ (n : ℕ). row.id ∷ n ∷ []) (eqb-true x.at row.changed key.1))) in
+        subst (λ (b : Bool). Contains (if b then put version_key (version_for row) others else others) (version_for row)) (sym becomes_is) found.0
+
+    -- and so is each of its file's
+    own_in : one.node ≡ row.id → Contains with_it one
+    own_in node =
+        elim (cases_Bool (is_at back one.at)) [
+          | inl at ↦
+              (let it = only_replaced t v same rising back row gone one among node at in
+              subst (Contains with_it) (sym it.0) (replaced_in it.1))
+          | inr off ↦
+              elim last_at [
+                | inr it ↦ subst (Contains with_it) (sym it.0) (replaced_in it.1)
+                | inl was ↦ old_in node off was
+              ]
+        ]
+      where
+        last_at : IsFrom t v same rising back row gone one
+        last_at = All-contains (IsFrom t v same rising back row gone) (last t v same rising back row gone).versions one
+            (last_from t v same rising back row gone) among
+
+        old_in : one.node ≡ row.id → is_at back one.at ≡ false → Contains t.versions one → Contains with_it one
+        old_in node off was =
+            let others = staying t.versions back row.id in
+            let stays_in : Contains others one = Contains-filter (λ (row : VersionRow). not (is_at back row.at)) (versions_of t.versions row.id) one
+            (Contains-filter (λ (other : VersionRow). other.node == row.id) t.versions one was (eq-eqb one.node row.id node)) (ap not off) in
+            cond_both (becomes_version t.versions back row) (put version_key (version_for row) others) others
+            (λ (rows : List VersionRow). Contains rows one)
+            (λ is. put_contains version_key (version_for row) one others (λ key.
+            let moment : row.changed ≡ one.at = moment_of key in
+            both_ways (is_at back one.at) off
+            (sym (ap (is_at back) moment) ∙ comes_back t v same rising back row gone one was node (sym moment) is)) stays_in)
+            (λ not. stays_in)
+          where
+            moment_of : version_key (version_for row) ≡ version_key one → row.changed ≡ one.at
+            moment_of key = cc
+
+    pub in_seen : owner_of t.nodes one.node ≡ row.owner → Contains seen (held one)
+    in_seen owner =
+        elim (cases_Bool (one.node == row.id)) [
+          | inl own ↦
+              (let its = contains_reverse (map held with_it) (held one) (Contains-map held with_it one (own_in (eqb-true one.node row.id own))) in
+              let thick : is_among thin one.at ≡ false =
+              elim (cases_Bool (is_among thin one.at)) [
+                | inr not ↦ not
+                | inl thins ↦
+                    (let at = Contains-filter (λ (version : Version). is_among thin version.at) (reverse (map held with_it)) (held one) its thins in
+                    absurd (both_ways (list_any (is_version one.node one.at) (those_at thin with_it)) none_of.0
+                    (list_any_at (is_version one.node one.at) (those_at thin with_it) at.0 (held one) at.1
+                    (ap (is_version one.node one.at) at.2 ∙ and_from _ _ (eq-eqb one.node one.node refl) (eq-eqb one.at one.at refl)))))
+              ] in
+              Contains-append_right (held_beside t row.owner row.id) (those_but thin with_it) (held one)
+              (Contains-filter (λ (version : Version). not (is_among thin version.at)) (reverse (map held with_it)) (held one) its (ap not thick)))
+          | inr other ↦
+              elim (All-contains (IsFrom t v same rising back row gone) (last t v same rising back row gone).versions one
+              (last_from t v same rising back row gone) among) [
+                | inr it ↦ absurd (both_ways (one.node == row.id) other (eq-eqb one.node row.id (ap (λ (one : VersionRow). one.node) it.0)))
+                | inl was ↦
+                    Contains-append_left (held_beside t row.owner row.id) (those_but thin with_it) (held one)
+                    (Contains-map held _ one
+                    (Contains-filter (is_held_by t.nodes row.owner) (filter (λ (row_of : VersionRow). not (row_of.node == row.id)) t.versions) one
+                    (Contains-filter (λ (row_of : VersionRow). not (row_of.node == row.id)) t.versions one was (ap not other))
+                    (eq-eqb (owner_of t.nodes one.node) row.owner owner)))
+              ]
+        ]
