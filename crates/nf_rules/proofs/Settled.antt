@@ -521,7 +521,14 @@ module _ (t : Tables) (now : ℕ) (before : AreSound t) (later : t.meta.last ≤
             ))
             (quota row.owner) (λ version own_is its.
             let among = in_last version own_is in
-            let owner : owner_of t.nodes version.node ≡ row.owner = ? in (
+            let owner : owner_of t.nodes version.node ≡ row.owner =
+            elim (All-contains (IsFrom t v same rising back row gone) (last t v same rising back row gone).versions version
+            (last_from t v same rising back row gone) among) [
+              | inl was ↦ owner_was t made version before fine keeps was own_is ∙ its
+              | inr it ↦
+                  ap (λ (o : Option NodeRow). option_map_or (λ (row : NodeRow). row.owner) o 0)
+                  (ap (node_row t.nodes) (ap (λ (version : VersionRow). version.node) it.0 ∙ given.0) ∙ there)
+            ] in (
               in_seen t v same rising now back row to.quota to.charge version among owner,
               none_beyond t v same rising now back row to.quota to.charge version among,
             )))
