@@ -1,5 +1,5 @@
 -- Of a Begin that no rule refuses: which versions go behind its deeds, and that what it changes else touches none.
-use Rattle.std.proofs.Common.{ℕ, ◌==◌, ◌≡◌, ◌≤◌, Bool, true, false, List, [], ◌∷◌, ◌++◌, map, Option, None, Some, Ok, if◌then◌else◌, inl, refl, sym, ap, subst, ◌∙◌, flat_map, ◌&&◌, ◌⊎◌, inr, option_map, ◌≢◌}
+use Rattle.std.proofs.Common.{ℕ, ◌==◌, ◌≡◌, ◌≤◌, Bool, true, false, List, [], ◌∷◌, ◌++◌, map, Option, None, Some, Ok, if◌then◌else◌, inl, refl, sym, ap, subst, ◌∙◌, ◌&&◌, ◌⊎◌, inr, option_map, ◌≢◌}
 use Rattle.std.specs.Option.{option_and_then, option_map_or}
 use Rattle.std.proofs.lemmas.Bool.{cond_both, eqb-true, and_parts}
 use Rattle.nf_base.specs.declared.rows.ItemRow.{ItemRow}
@@ -8,7 +8,7 @@ use Rattle.nf_base.specs.declared.rows.UserRow.{UserRow}
 use Rattle.nf_defs.specs.Prelude.{content_of, is_folder, item_row, Tables, user_row, made, put_all, node_row, user_named}
 use Rattle.nf_defs.specs.declared.Found.{Found}
 use Rattle.nf_defs.specs.declared.Found.TheVariants.{At, Free, Missing}
-use Rattle.nf_laws.proofs.Recharged.{besides_lower, copies_keep, crossing_keep, discards_lower, KeepsCharge, lower_append, lower_keeps, moves_keep, purges_lower, requoted_charge, restored_keeps, then_keeps, IsLower, moves_less}
+use Rattle.nf_laws.proofs.Recharged.{besides_lower, discards_lower, lower_append, purges_lower, IsLower, moves_less}
 use Rattle.nf_words.proofs.Begins.{only_at, places_at, wanted_passes, WantedPasses}
 use Rattle.nf_words.proofs.Fits.{within}
 use Rattle.nf_words.proofs.Found.{found_passes}
@@ -18,11 +18,10 @@ use Rattle.nf_words.proofs.Provided.{row_there}
 use Rattle.nf_words.proofs.Starts.{has_asker, IsAsking}
 use Rattle.nf_words.proofs.Transfers.{copies_known, transfer_known}
 use Rattle.nf_words.proofs.Trashing.{own_there, back_known}
-use Rattle.nf_words.specs.Prelude.{access_of, AreSound, asked_of, asked_of_trash, asker_of, besides, by_of, Call, call_decision, carry_excess, carry_limit, copied, copy_excess, copy_limit, crosses, crossing, deed_done, deeds_done, deepest_in, deleted, discards, exceeded, found, given, gone_beside, gone_of, home_of, IsSound, item_dropped, item_if_of, item_restored, items_of, last_name, limited, listing_of, made_folder, MayWant, mount_left, mount_renamed, moved, move_limit, moves, name_back, node_at, nothing_done, offered, own_item, people_done, perms_after, purges, quota_rule, requoted, restored, restore_excess, root_of, row_named, served, shared, share_ended, share_made, share_set, share_shown, share_steered, share_told, stored, transfer_of, trash_done, unfit_between, unreached, until_after, way_of, brought_back, charge_of, charged, charged_for, charged_to, item_size, purged_by, requoting, restoring, settled_by, unsettled, version_done, version_row, done, copies, put_mounts, mounts_for, with_mount_row, left_row, named_row, own_mount, same_end, set_row, membership, joined_by, left_by, is_member, mounts_joined, refills, restore_limit}
+use Rattle.nf_words.specs.Prelude.{access_of, AreSound, asked_of, asked_of_trash, asker_of, besides, by_of, Call, call_decision, carry_excess, carry_limit, copied, copy_excess, copy_limit, crosses, crossing, deepest_in, deleted, discards, exceeded, found, given, gone_beside, home_of, IsSound, item_dropped, item_if_of, item_restored, items_of, last_name, limited, listing_of, made_folder, MayWant, mount_left, mount_renamed, moved, move_limit, moves, name_back, node_at, nothing_done, offered, own_item, people_done, perms_after, purges, quota_rule, requoted, root_of, row_named, served, shared, share_ended, share_made, share_set, share_shown, share_steered, share_told, stored, transfer_of, trash_done, unfit_between, unreached, until_after, way_of, brought_back, charged, charged_for, charged_to, item_size, requoting, restoring, settled_by, version_done, version_row, done, copies, put_mounts, mounts_for, with_mount_row, left_row, named_row, own_mount, same_end, set_row, membership, joined_by, left_by, is_member, mounts_joined, refills, restore_limit}
 use Rattle.nf_words.specs.declared.answer.Allowed.{Allowed}
 use Rattle.nf_words.specs.declared.answer.Allowed.TheVariants as allowed
 use Rattle.nf_words.specs.declared.answer.By.{By}
-use Rattle.nf_words.specs.declared.answer.Deed.TheVariants as deed
 use Rattle.nf_words.specs.declared.answer.Report.{Report}
 use Rattle.nf_words.specs.declared.answer.Report.TheVariants as report
 use Rattle.nf_words.specs.declared.request.Making.TheVariants as making
@@ -37,8 +36,6 @@ use Rattle.nf_words.specs.declared.request.TrashAsk.{TrashAsk}
 use Rattle.nf_words.specs.declared.request.TrashAsk.TheVariants as trash
 use Rattle.nf_words.specs.declared.request.Wanted.{Wanted}
 use Rattle.nf_words.specs.declared.request.Wanted.TheVariants as wanted
-use Rattle.nf_laws.proofs.Behind.{behind_only}
-use Rattle.nf_words.specs.Changes.{Charged}
 use Rattle.nf_base.specs.declared.rows.VersionRow.{VersionRow}
 use Rattle.nf_words.specs.declared.request.VersionAsk.{VersionAsk}
 use Rattle.nf_words.specs.declared.request.VersionAsk.TheVariants as version

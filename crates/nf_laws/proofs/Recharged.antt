@@ -600,14 +600,16 @@ module _ (t : Tables) (now user : ℕ) (transfer : Transfer) (name : List ℕ) (
       let fine = first_sound t now first (one ∷ rest) sound later deeds in
       let after = lower (joined left rows) user in
       let less = discards_lower t now transfer.replaced t user in
-      subst IsComing (sym (deeds_append t first (one ∷ rest)))
-      (omega (
-        arith,
-        joined_charge (stamp left now) rows user fine,
-        copies_owned t now user transfer name sound known.source,
-        replaced_charge known,
-        after.0,
-      ), after.1 ∙ less.1)
+      subst IsComing (sym (deeds_append t first (one ∷ rest))) (
+        omega (
+          arith,
+          joined_charge (stamp left now) rows user fine,
+          copies_owned t now user transfer name sound known.source,
+          replaced_charge known,
+          after.0,
+        ),
+        after.1 ∙ less.1,
+      )
 
   pub copies_less : KnownCopies t transfer name → IsComing (deeds_done t (copies t now name transfer))
   copies_less known = joined_less (besides t now transfer.replaced) (by_copying transfer name known) known.known (besides_lower t now transfer.replaced)
