@@ -48,7 +48,7 @@ use Rattle.nf_base.specs.declared.rows.Row.TheVariants as rows
 use Rattle.nf_base.specs.declared.rows.UserRow.{UserRow}
 use Rattle.nf_base.specs.declared.rows.ItemRow.{ItemRow}
 use Rattle.nf_laws.proofs.Behaving.{AreSettledSo, AreTurnless, IsBroughtBack, SettlesSo, all_turnless, by_copies, by_cross, by_none, by_quota, by_return, call_settles, turnless_of, users_turnless}
-use Rattle.nf_laws.proofs.Parts.{step_sound}
+use Rattle.nf_laws.proofs.Parts.{step_sound, copies_stamped, deeds_stamped}
 use Rattle.nf_laws.proofs.Stays.{altered_sound}
 use Rattle.nf_laws.proofs.Trashing.{trash_same, act_kept}
 use Rattle.nf_laws.proofs.Quotas.{rows_fewer}
@@ -80,6 +80,11 @@ use Rattle.nf_rules.proofs.Dropped.{dropped_not, drops_left}
 use Rattle.nf_rules.proofs.TurnedOver.{in_turn, last, puts_append, seen, in_seen, none_beyond, IsFrom, last_from}
 use Rattle.nf_laws.proofs.Sizes.{weight}
 use Rattle.nf_base.specs.declared.content.Piece.{Piece}
+use Rattle.nf_laws.proofs.Carried.{Kind, copying_kind, crossing_kind}
+use Rattle.nf_laws.proofs.Departed.{all_gone}
+use Rattle.nf_laws.proofs.Others.{stamp_sound}
+use Rattle.std.proofs.lemmas.Grind.{flat_map-append}
+use Rattle.nf_base.specs.declared.rows.MetaRow.{MetaRow}
 
 -- a user's versions are within their bound
 abbrev IsSettled : Tables → ℕ → Type 0
@@ -277,6 +282,22 @@ restore_gone t item gone sound known goes others =
     subst (All (IsGoneWith t.nodes (deeds_done made (purges gone)).nodes)) (sym (purged_purges gone))
     (back_beside t item sound known gone goes.items others goes.once).gone
 
+-- what is moved or copied: all that goes for good is gone
+kind_gone : (t : Tables) (now : ℕ) (deeds : List Deed) (leave : List ℕ) (IsPut : ℕ → Type 0) (Held : Tables → Type 0) (meta : MetaRow)
+    → AreSound (stamp t now) → Kind (stamp t now) now deeds leave IsPut Held meta
+    → All (IsGoneWith t.nodes (deeds_done t deeds).nodes) (flat_map purged_by deeds)
+kind_gone t now deeds leave IsPut Held meta sound kind =
+    let dated = stamp t now in
+    let first = kind.one ∷ kind.more in
+    let tops : flat_map purged_by deeds ≡ flat_map purged_by first ++ kind.gone =
+    ap (flat_map purged_by) kind.are ∙ flat_map-append purged_by first (purges kind.gone)
+    ∙ ap (λ (gone : List ℕ). flat_map purged_by first ++ gone) (purged_purges kind.gone) in
+    let made : deeds_done (deeds_done dated first) (purges kind.gone) ≡ stamp (deeds_done t deeds) now =
+    sym (ap (deeds_done dated) kind.are ∙ deeds_append dated first (purges kind.gone)) ∙ deeds_stamped t now deeds in
+    subst (All (IsGoneWith t.nodes (deeds_done t deeds).nodes)) (sym tops)
+    (subst (λ (u : Tables). All (IsGoneWith t.nodes u.nodes) (flat_map purged_by first ++ kind.gone)) made
+    (all_gone dated now deeds leave IsPut Held meta sound kind))
+
 -- ---- each act
 
 -- deeds that lower charges, and versions that go behind them
@@ -427,7 +448,10 @@ module _ (t : Tables) (now : ℕ) (before : AreSound t) (later : t.meta.last ≤
       (copies_less t now (owner_of t.nodes transfer.folder) transfer name before later copied))
       (λ other. other_coming transfer name user (deeds_done t (copies t now name transfer)) other
       (copies_less t now user transfer name before later copied))
-      ?
+      (let dated = stamp t now in
+      let fine = stamp_sound t now before later in
+      let kind = copying_kind dated now fine refl transfer name (copies_stamped t now transfer name copied) in
+      kind_gone t now (copies t now name transfer) _ _ _ _ fine kind)
   crossed_settled : (transfer : Transfer) (name : List ℕ) (user : ℕ) → KnownCross t transfer name
       → KnownSettled t now (settled_by t (charged_for t transfer) (crossing t now name transfer))
       → IsSettled (stamp (deeds_done t (settled_by t (charged_for t transfer) (crossing t now name transfer))) now) user
@@ -437,7 +461,11 @@ module _ (t : Tables) (now : ℕ) (before : AreSound t) (later : t.meta.last ≤
       (crossing_less t now (owner_of t.nodes transfer.folder) transfer name before later cross))
       (λ other. other_coming transfer name user (deeds_done t (crossing t now name transfer)) other
       (crossing_less t now user transfer name before later cross))
-      ?
+      (let dated = stamp t now in
+      let fine = stamp_sound t now before later in
+      let kind = crossing_kind dated now fine refl transfer name
+      (record { copies = copies_stamped t now transfer name cross.copies; crosses = cross.crosses }) in
+      kind_gone t now (crossing t now name transfer) _ _ _ _ fine kind)
 
   deeds_settled : (deeds : List Deed) (user : ℕ) → AreSettledSo t now deeds → KnownSettled t now deeds
       → IsSettled (stamp (deeds_done t deeds) now) user
