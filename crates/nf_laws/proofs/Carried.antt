@@ -270,10 +270,10 @@ module _ (t : Tables) (now : ℕ) (sound : AreSound t) (at : t.meta.last ≡ now
           let folder = left.row transfer.folder (folder_out t u row.id sound left transfer name move.known is) in
           let acts =
           relink_acted t u now (row.id ∷ []) transfer.node transfer.folder name own.0 sound (left_acted row leaves)
-                (move_fits u (into transfer) name own.0 left.sound (known_into t u row.id sound left transfer name move.known is) refl (source ∙ own.1)
-                (ap (λ (o : Option NodeRow). option_map_or (λ row. row.owner) o 0) folder ∙ same_owner t.nodes transfer own.0 move.within own.1))
-                (left.leads transfer.node out move.known.present)
-                (λ one. both_ways (is_under t.nodes transfer.node row.id) out (under_is t row.id transfer.node sound (under_alone t.nodes row.id transfer.node one))) in
+          (move_fits u (into transfer) name own.0 left.sound (known_into t u row.id sound left transfer name move.known is) refl (source ∙ own.1)
+          (ap (λ (o : Option NodeRow). option_map_or (λ row. row.owner) o 0) folder ∙ same_owner t.nodes transfer own.0 move.within own.1))
+          (left.leads transfer.node out move.known.present)
+          (λ one. both_ways (is_under t.nodes transfer.node row.id) out (under_is t row.id transfer.node sound (under_alone t.nodes row.id transfer.node one))) in
           subst (λ (leave : List ℕ). Kind t now (discard t now row ∷ relinks ∷ beside t now row) leave (λ node. node ≡ transfer.node) (IsRelinked t transfer name) t.meta)
           (sym (replaced_alone transfer name move.known row e)) (record {
             one = discard t now row;
@@ -326,7 +326,7 @@ module _ (t : Tables) (now : ℕ) (sound : AreSound t) (at : t.meta.last ≡ now
           let left = discard_left t now row sound (omega (arith, at)) leaves in
           let is = replaced_is t transfer.replaced row e in
           let acts = join_acted t u now (row.id ∷ []) rows sound left.meta (ap (λ (meta : MetaRow). meta.last) left.meta ∙ at) (left_acted row leaves)
-                (joins_into t now transfer name u row.id sound left is known) in
+          (joins_into t now transfer name u row.id sound left is known) in
           subst (λ (leave : List ℕ). Kind t now (discard t now row ∷ deed.Join rows ∷ beside t now row) leave (IsNew t) (AreJoined t rows) (meta_with rows))
           (sym (replaced_alone transfer name known.known row e)) (record {
             one = discard t now row;

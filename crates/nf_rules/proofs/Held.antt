@@ -1,11 +1,11 @@
 -- The bytes of a user's versions: they are no more than those of a list that has them all, and what is beyond a bound leaves no more.
-use Rattle.std.proofs.Common.{◌≡◌, ◌≢◌, ◌≤◌, ◌<◌, ◌⊎◌, ◌+◌, ◌-◌, ◌*◌, ◌/◌, ◌==◌, ◌&&◌, ℕ, zero, suc, inl, inr, not, Bool, true, false, List, [], ◌∷◌, ◌++◌, ◌∙◌, drop, filter, get_or, length, map, take, sum_by, sum, if◌then◌else◌, refl, sym, ap, subst, arith}
+use Rattle.std.proofs.Common.{◌≡◌, ◌≢◌, ◌≤◌, ◌-◌, ◌/◌, ◌==◌, ◌&&◌, ℕ, zero, suc, not, Bool, true, false, List, [], ◌∷◌, ◌++◌, ◌∙◌, filter, get_or, map, take, sum_by, sum, if◌then◌else◌, refl, sym, ap, arith}
 use Rattle.std.specs.List.{All, AllPairs, Contains, list_any}
 use Rattle.std.proofs.Math.Nat.{div-mul-le_self}
 use Rattle.std.proofs.lemmas.Nat.{le-div}
-use Rattle.std.proofs.lemmas.Bool.{and_from, and_parts, both_ways, cases_Bool, eq-eqb, eqb-true}
+use Rattle.std.proofs.lemmas.Bool.{and_from, and_parts, both_ways, eq-eqb, eqb-true}
 use Rattle.std.proofs.lemmas.List.{take-append-drop, take-map}
-use Rattle.std.proofs.lemmas.List.Elements.{All-contains_itself, All-contains, All-filter, All-head, All-tail, All-weaker, Contains-append_right, filter_passes}
+use Rattle.std.proofs.lemmas.List.Elements.{All-contains_itself, All-filter, All-head, All-tail, filter_passes}
 use Rattle.std.proofs.lemmas.List.Folds.{list_any_at}
 use Rattle.std.proofs.lemmas.List.Kept.{AllPairs-filter}
 use Rattle.std.proofs.lemmas.List.Filters.{sum_by-filter_both}
@@ -17,7 +17,7 @@ use Rattle.nf_retention.proofs.Latest.{latest_right}
 use Rattle.nf_retention.specs.Budget.{versions_bound}
 use Rattle.nf_retention.specs.Versions.{beyond, latest_first, within}
 use Rattle.nf_retention.specs.declared.versions.Version.{Version}
-use Rattle.nf_words.specs.Versions.{beyond_bound, content_size, held, is_version}
+use Rattle.nf_words.specs.Versions.{content_size, held, is_version}
 
 -- ---- the bound
 

@@ -1,8 +1,8 @@
 -- The versions of each user's files stay within their bound by every step.
-use Rattle.std.proofs.Common.{◌≡◌, ◌≤◌, ◌<◌, ◌==◌, ◌⊎◌, ℕ, inl, inr, not, Bool, true, false, List, [], ◌∷◌, ◌++◌, ◌∙◌, filter, get_or, length, map, sum_by, Option, None, Some, if◌then◌else◌, refl, sym, ap, subst, arith, flat_map, bytes_eq, ◌≢◌, Ok, Result, ◌-◌, ◌+◌}
+use Rattle.std.proofs.Common.{◌≡◌, ◌≤◌, ◌==◌, ℕ, inl, inr, not, Bool, true, false, List, [], ◌∷◌, ◌++◌, ◌∙◌, filter, get_or, map, sum_by, Option, None, Some, if◌then◌else◌, refl, sym, ap, subst, arith, flat_map, bytes_eq, ◌≢◌, Ok, Result, ◌-◌, ◌+◌}
 use Rattle.std.specs.List.{All, AllPairs, Contains, list_any}
 use Rattle.std.specs.Option.{option_map_or, IfSome}
-use Rattle.std.proofs.lemmas.Bool.{eq-eqb, eqb-true, not-true, and_parts, both_ways, cases_Bool, or_from, ne_eqb, cond_both}
+use Rattle.std.proofs.lemmas.Bool.{eq-eqb, eqb-true, both_ways, cases_Bool, or_from, ne_eqb, cond_both}
 use Rattle.std.proofs.lemmas.Cmp.{tied_itself}
 use Rattle.std.proofs.lemmas.List.Elements.{All-contains, All-contains_itself, All-filter, filter_passes}
 use Rattle.std.proofs.lemmas.List.Kept.{AllPairs-filter}
@@ -15,11 +15,11 @@ use Rattle.nf_defs.specs.Prelude.{is_file, key_cmp, node_row, owner_of, Tables, 
 use Rattle.nf_laws.proofs.Files.{file_row}
 use Rattle.nf_laws.proofs.Owned.{KeepsOwners, altered_owners}
 use Rattle.nf_laws.proofs.Rows.{row_is, stamp, stamped_has, finds_none}
-use Rattle.nf_laws.proofs.Turning.{deeds_fewer, added_fewer, drops_fewer}
+use Rattle.nf_laws.proofs.Turning.{deeds_fewer, added_fewer}
 use Rattle.nf_retention.specs.Budget.{versions_bound}
 use Rattle.nf_retention.specs.declared.versions.Version.{Version}
 use Rattle.nf_words.specs.Others.{IsVersionSound}
-use Rattle.nf_words.specs.Prelude.{after, AreSound, charge_of, deeds_done, IsSound, MayCome, quota_of, State, forgets, forgotten, settled_by, unsettled, purged_by, held_without, altered, told, decision_of, MayAsk, purges, deed_done, restored, home_of, name_back, charged_to, requoting, charged, item_size, restoring, charged_for, copies, crossing, gone_of, items_of, IsRequoted, stored_at, IsHeld, call_of, gone_from, owners_of, swept, gone_beside, ends_goal, ends_at, end_refusal, access_of, goal_at, IsStorable, content_in, blob_for, new_node, drop_version, refills, refilled, gone_after, is_same, turned_over}
+use Rattle.nf_words.specs.Prelude.{after, AreSound, charge_of, deeds_done, IsSound, MayCome, quota_of, State, forgets, forgotten, settled_by, unsettled, purged_by, held_without, altered, told, decision_of, MayAsk, purges, deed_done, restored, home_of, name_back, charged_to, requoting, charged, item_size, restoring, charged_for, copies, crossing, gone_of, items_of, IsRequoted, stored_at, IsHeld, call_of, gone_from, owners_of, swept, gone_beside, ends_goal, ends_at, end_refusal, access_of, goal_at, IsStorable, content_in, blob_for, new_node, refills, refilled, gone_after, is_same, turned_over}
 use Rattle.nf_words.specs.Versions.{beyond_bound, content_size, held, is_version, is_held_by, is_under_any}
 use Rattle.nf_words.specs.declared.answer.Deed.{Deed}
 use Rattle.nf_words.specs.declared.answer.Deed.TheVariants as deed
@@ -27,7 +27,6 @@ use Rattle.nf_words.specs.declared.history.Entry.{Entry}
 use Rattle.nf_rules.specs.Ruled.{AreSettled}
 use Rattle.nf_rules.specs.Rules.{held_bytes}
 use Rattle.nf_rules.proofs.Held.{AreHeldApart, beyond_leaves, bound_falls, bound_rises, left_size, sum_among}
-use Rattle.std.proofs.lemmas.Slice.Eq.{bytes_eq-Decides}
 use Rattle.std.proofs.lemmas.List.Folds.{list_any_none}
 use Rattle.std.proofs.lemmas.Option.{none-some, same_Some}
 use Rattle.nf_words.specs.Changes.{Charged}
@@ -141,8 +140,8 @@ module _ (u : Tables) (sound : AreSound u) (user : ℕ) where
       omega (
         arith,
         among (map held before) (λ (v : Version). v.size) (λ row is own_is.
-        let h = each row is own_is in
-        (Contains-map held before row (Contains-filter was t.versions row h.0 (eq-eqb (owner_of t.nodes row.node) user h.1)), omega arith)),
+            let h = each row is own_is in
+            (Contains-map held before row (Contains-filter was t.versions row h.0 (eq-eqb (owner_of t.nodes row.node) user h.1)), omega arith)),
         sum_held before,
       )
 
@@ -170,8 +169,8 @@ module _ (u : Tables) (sound : AreSound u) (user : ℕ) where
       omega (
         arith,
         among versions (left_size gone) (λ row is own_is.
-        let h = each row is own_is in
-        (h.0, subst (λ (b : Bool). content_size row.content ≤ (if b then 0 else content_size row.content)) (sym h.1) (omega arith))),
+            let h = each row is own_is in
+            (h.0, subst (λ (b : Bool). content_size row.content ≤ (if b then 0 else content_size row.content)) (sym h.1) (omega arith))),
         beyond_leaves (versions_bound quota charge) versions,
         bound_falls quota (charge_of u user) charge less,
         ap (λ (q : ℕ). versions_bound q (charge_of u user)) same,
@@ -251,8 +250,7 @@ settled_behind t now to first before sound keeps charge quota gone =
     (subst (λ (v : Tables). is_file v.nodes row.node ≡ true) only file) in
     let left = All-contains (λ (row : VersionRow). list_any (is_version row.node row.at) versions ≡ false) u.versions row
     (subst (λ (v : Tables). All (λ (row : VersionRow). list_any (is_version row.node row.at) versions ≡ false) v.versions) (sym same)
-    (forgets_left (deeds_done t first) versions)) is in
-    (
+    (forgets_left (deeds_done t first) versions)) is in (
       Contains-map held _ row
           (Contains-filter (λ (row : VersionRow). not (is_under_any t.nodes tops row.node)) (filter (is_held_by t.nodes to.owner) t.versions) row
           (Contains-filter (is_held_by t.nodes to.owner) t.versions row was (eq-eqb (owner_of t.nodes row.node) to.owner owner)) (ap not under)),
@@ -413,8 +411,7 @@ module _ (t : Tables) (now : ℕ) (before : AreSound t) (later : t.meta.last ≤
       × (quota_of made user ≡ quota_of t user)
   own_coming transfer name user made owner is =
       let own : (owner_of t.nodes transfer.folder == user) ≡ true = eq-eqb (owner_of t.nodes transfer.folder) user owner in
-      let sum = is.0 in
-      (
+      let sum = is.0 in (
         omega (
           arith,
           sum,
@@ -428,8 +425,7 @@ module _ (t : Tables) (now : ℕ) (before : AreSound t) (later : t.meta.last ≤
       → IsComing t now user transfer name before later made
       → (charge_of made user ≤ charge_of t user) × (quota_of t user ≤ quota_of made user)
   other_coming transfer name user made other is =
-      let off : (owner_of t.nodes transfer.folder == user) ≡ false = ne_eqb (owner_of t.nodes transfer.folder) user (λ same. other (sym same)) in
-      (
+      let off : (owner_of t.nodes transfer.folder == user) ≡ false = ne_eqb (owner_of t.nodes transfer.folder) user (λ same. other (sym same)) in (
         omega (
           arith,
           is.0,
@@ -452,6 +448,7 @@ module _ (t : Tables) (now : ℕ) (before : AreSound t) (later : t.meta.last ≤
       let fine = stamp_sound t now before later in
       let kind = copying_kind dated now fine refl transfer name (copies_stamped t now transfer name copied) in
       kind_gone t now (copies t now name transfer) _ _ _ _ fine kind)
+
   crossed_settled : (transfer : Transfer) (name : List ℕ) (user : ℕ) → KnownCross t transfer name
       → KnownSettled t now (settled_by t (charged_for t transfer) (crossing t now name transfer))
       → IsSettled (stamp (deeds_done t (settled_by t (charged_for t transfer) (crossing t now name transfer))) now) user
@@ -503,8 +500,11 @@ module _ (t : Tables) (now : ℕ) (before : AreSound t) (later : t.meta.last ≤
             ne_eqb (get_or t.users k d).id user (λ same. omega (arith, given, same, eqb-true user t.meta.next_user new))) in
             omega (arith, ap (λ (o : Option UserRow). option_map_or (λ (row : UserRow). row.quota) o 0) none))
         | inr old ↦
-            omega (arith, ap (λ (o : Option UserRow). option_map_or (λ (row : UserRow). row.quota) o 0)
-            (users_turnless t t user changes (λ same. both_ways (user == t.meta.next_user) old (eq-eqb user t.meta.next_user same)) none))
+            omega (
+              arith,
+              ap (λ (o : Option UserRow). option_map_or (λ (row : UserRow). row.quota) o 0)
+                  (users_turnless t t user changes (λ same. both_ways (user == t.meta.next_user) old (eq-eqb user t.meta.next_user same)) none),
+            )
       ])
 
   -- another content of a file

@@ -1,13 +1,12 @@
 -- Which versions there are where a file's content becomes another.
-use Rattle.std.proofs.Common.{◌≡◌, ◌≢◌, ◌<◌, ◌⊎◌, ◌==◌, ◌&&◌, ◌||◌, ℕ, inl, inr, not, Bool, true, false, List, [], ◌∷◌, ◌++◌, ◌∙◌, filter, get_or, length, map, reverse, find, Option, None, Some, if◌then◌else◌, refl, sym, ap, subst, arith, bytes_eq}
+use Rattle.std.proofs.Common.{◌≡◌, ◌<◌, ◌⊎◌, ◌==◌, ◌&&◌, ◌||◌, ℕ, inl, inr, not, Bool, true, false, List, [], ◌∷◌, ◌++◌, ◌∙◌, filter, get_or, length, map, reverse, Option, None, Some, if◌then◌else◌, refl, sym, ap, subst, bytes_eq}
 use Rattle.std.specs.List.{All, Contains, list_any}
 use Rattle.std.specs.Prelude.{is_none, is_some}
-use Rattle.std.proofs.lemmas.Bool.{and_from, and_parts, both_ways, cases_Bool, cases_order, cond_both, eq-eqb, eqb-true, not-true, false≢true, or_parts}
+use Rattle.std.proofs.lemmas.Bool.{and_from, and_parts, both_ways, cases_Bool, cases_order, cond_both, eq-eqb, eqb-true, false≢true, or_parts}
 use Rattle.std.proofs.lemmas.Cmp.{tied_itself}
 use Rattle.std.proofs.lemmas.List.{get_or_default, reverse-reverse}
 use Rattle.std.proofs.lemmas.List.Elements.{All-contains, All-contains_itself, All-filter, filter_passes, Contains-append_left, Contains-append_right}
 use Rattle.std.proofs.lemmas.List.Folds.{Any-from_list_any, list_any_at, list_any-append}
-use Rattle.std.proofs.lemmas.Slice.Eq.{bytes_eq-Decides}
 use Rattle.nf_access.proofs.LookUps.{find_among}
 use Rattle.nf_base.specs.declared.changes.Change.{Change}
 use Rattle.nf_base.specs.declared.changes.Change.TheVariants.{Put, Drop}
@@ -17,12 +16,12 @@ use Rattle.nf_base.specs.declared.rows.Row.TheVariants as rows
 use Rattle.nf_base.specs.declared.rows.VersionRow.{VersionRow}
 use Rattle.nf_defs.proofs.ByName.{Contains-filter, Contains-map}
 use Rattle.nf_defs.proofs.Puts.{all_put, key_total, put_rising}
-use Rattle.nf_defs.specs.Prelude.{dropped, IsRising, key_cmp, made, put, put_all, Tables, version_key, owner_of}
+use Rattle.nf_defs.specs.Prelude.{IsRising, key_cmp, made, put, put_all, Tables, version_key, owner_of}
 use Rattle.nf_laws.proofs.Turning.{drops_fewer}
 use Rattle.nf_laws.specs.Acts.{AreVersionsFewer}
 use Rattle.nf_retention.specs.declared.versions.Version.{Version}
 use Rattle.nf_words.proofs.Forgetting.{rows_there}
-use Rattle.nf_words.specs.Versions.{becomes_version, drop_back, drop_gone, drop_version, has_already, is_at, is_empty, is_version, put_replaced, stays_version, turned_over, version_for, version_row, with_replaced, thinned_out, held_beside, those_but, those_at, gone_after, beyond_bound, staying, versions_of, held, is_held_by, is_among}
+use Rattle.nf_words.specs.Versions.{becomes_version, drop_back, drop_gone, has_already, is_at, is_empty, is_version, put_replaced, stays_version, turned_over, version_for, version_row, with_replaced, thinned_out, held_beside, those_but, those_at, gone_after, beyond_bound, staying, versions_of, held, is_held_by, is_among}
 use Rattle.nf_rules.proofs.Dropped.{dropped_not, drops_left}
 use Rattle.nf_defs.proofs.Climbs.{holds_some}
 use Rattle.nf_words.proofs.Found.{put_is_found}
