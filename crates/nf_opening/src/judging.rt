@@ -3,6 +3,7 @@
 ghost use Rattle.std.specs.Prelude.{◌≡◌, IfOk};
 ghost use Rattle.std.specs.Option.{option_map_or};
 ghost use Rattle.nf_defs.specs.Prelude.{AreRising, tables_of};
+ghost use Rattle.nf_rules.specs.Rules.{first_index, is_over};
 ghost use Rattle.nf_opening.specs.Judged.{AreJudged, IsFaultAt};
 
 use crate::alone::{first_later, first_ungiven, is_lavish};
