@@ -1,6 +1,6 @@
 //! The limits.
 
-ghost use Rattle.std.specs.Prelude.{◌≡◌, sum_by};
+ghost use Rattle.std.specs.Prelude.{◌≡◌, length, sum_by};
 ghost use Rattle.nf_defs.specs.Prelude.{piece_count, tables_of};
 ghost use Rattle.nf_rules.specs.Rules.{first_index, is_beyond};
 
