@@ -1,21 +1,17 @@
 -- One row more in the totals of owners.
-use Rattle.std.proofs.Common.{◌≡◌, ◌<◌, ◌≤◌, ℕ, ◌+◌, ◌*◌, ◌==◌, ◌&&◌, Bool, true, false, List, [], ◌∷◌, ◌++◌, filter, get_or, length, take, sum_by, if◌then◌else◌, refl, sym, ap, ◌∙◌, arith}
+use Rattle.std.proofs.Common.{◌≡◌, ◌<◌, ◌≤◌, ℕ, ◌+◌, ◌*◌, ◌==◌, Bool, true, false, List, [], ◌∷◌, ◌++◌, filter, get_or, length, take, if◌then◌else◌, refl, sym, ap, ◌∙◌, arith}
+use Rattle.std.specs.Prelude.{sum_by}
 use Rattle.std.proofs.lemmas.Bool.{eqb-true}
 use Rattle.std.proofs.lemmas.List.{take_more}
 use Rattle.std.proofs.lemmas.List.Elements.{filter-append}
-use Rattle.std.proofs.lemmas.List.Sums.{sum_by-append, sum_by-cons, sum_by_more}
-use Rattle.nf_base.specs.declared.rows.NodeRow.{NodeRow}
-use Rattle.nf_defs.specs.Prelude.{Tables, is_present}
-use Rattle.nf_words.specs.Charges.{counted_for}
-use Rattle.nf_words.specs.Versions.{content_size}
-
--- ---- totals
+use Rattle.std.proofs.lemmas.List.Sums.{sum_by-append, sum_by-cons}
 
 -- an owner has so many bytes more
 abbrev pub IsMore : ℕ → ℕ → (ℕ → ℕ) → (ℕ → ℕ) → Type 0
 IsMore owner bytes old new = (other : ℕ) → new other ≡ (if owner == other then old owner + bytes else old other)
 
-added : (owner bytes : ℕ) (old new : ℕ → ℕ) → IsMore owner bytes old new → (other : ℕ) → new other ≡ old other + (if owner == other then bytes else 0)
+added : (owner bytes : ℕ) (old new : ℕ → ℕ) → IsMore owner bytes old new → (other : ℕ)
+    → new other ≡ old other + (if owner == other then bytes else 0)
 added owner bytes old new adds other = adds other ∙ here (owner == other) refl
   where
     here : (a : Bool) → (owner == other) ≡ a → (if a then old owner + bytes else old other) ≡ old other + (if a then bytes else 0)
@@ -33,8 +29,7 @@ few_more most owner bytes i old new adds few so_far other =
     here true = omega arith
     here false = omega arith
 
--- ---- the sum of those that pass
-
+-- the sum of those that pass
 passing_more : {X : Type 0} (f : X → ℕ) (p : X → Bool) (xs : List X) (i : ℕ) (x : X) → i < length xs → x ≡ get_or xs i x
     → sum_by f (filter p (take (i + 1) xs)) ≡ sum_by f (filter p (take i xs)) + (if p x then f x else 0)
 passing_more f p xs i x less is =
@@ -48,52 +43,14 @@ passing_more f p xs i x less is =
     here true = omega (arith, sum_by-cons f x [])
     here false = refl
 
--- the totals of owners, by one row more
-pub owned_more : {X : Type 0} (f owner_at : X → ℕ) (xs : List X) (i : ℕ) (x : X) (old new : ℕ → ℕ) → i < length xs → x ≡ get_or xs i x
-    → IsMore (owner_at x) (f x) old new → ((owner : ℕ) → old owner ≡ sum_by f (filter (λ y. owner_at y == owner) (take i xs)))
-    → (owner : ℕ) → new owner ≡ sum_by f (filter (λ y. owner_at y == owner) (take (i + 1) xs))
-owned_more f owner_at xs i x old new less is adds so_far owner =
-    added (owner_at x) (f x) old new adds owner
-    ∙ ap (λ (n : ℕ). n + (if owner_at x == owner then f x else 0)) (so_far owner)
-    ∙ sym (passing_more f (λ y. owner_at y == owner) xs i x less is)
-
--- ---- charges
-
-module _ (t : Tables) (i : ℕ) (row : NodeRow) (less : i < length t.nodes) (is : row ≡ get_or t.nodes i row) where
-  counted_more : (owner : ℕ)
-      → sum_by (counted_for t owner) (take (i + 1) t.nodes) ≡ sum_by (counted_for t owner) (take i t.nodes) + counted_for t owner row
-  counted_more owner =
-      sum_by_more (counted_for t owner) t.nodes i row less
-      ∙ ap (λ (r : NodeRow). sum_by (counted_for t owner) (take i t.nodes) + counted_for t owner r) (sym is)
-
-  -- a row that is present counts for its owner
-  pub charged_more : (held old new : ℕ → ℕ) → is_present t.users t.nodes row.id ≡ true → IsMore row.owner (content_size row.content) old new
-      → ((owner : ℕ) → 0 < held owner → old owner ≡ sum_by (counted_for t owner) (take i t.nodes))
-      → (owner : ℕ) → 0 < held owner → new owner ≡ sum_by (counted_for t owner) (take (i + 1) t.nodes)
-  charged_more held old new present adds so_far owner some =
-      added row.owner (content_size row.content) old new adds owner
-      ∙ ap (λ (n : ℕ). n + (if row.owner == owner then content_size row.content else 0)) (so_far owner some)
-      ∙ ap (λ (n : ℕ). sum_by (counted_for t owner) (take i t.nodes) + n) (sym (here (row.owner == owner) (is_present t.users t.nodes row.id) present))
-      ∙ sym (counted_more owner)
-    where
-      here : (a b : Bool) → b ≡ true → (if a && b then content_size row.content else 0) ≡ (if a then content_size row.content else 0)
-      here true true e = refl
-      here false true e = refl
-      here true false e = absurd cc
-      here false false e = absurd cc
-
-  -- one of an owner who isn't looked for, or that isn't present, counts for none who is
-  pub charged_same : (held old : ℕ → ℕ) → (0 < held row.owner → is_present t.users t.nodes row.id ≡ false)
-      → ((owner : ℕ) → 0 < held owner → old owner ≡ sum_by (counted_for t owner) (take i t.nodes))
-      → (owner : ℕ) → 0 < held owner → old owner ≡ sum_by (counted_for t owner) (take (i + 1) t.nodes)
-  charged_same held old absent so_far owner some =
-      so_far owner some
-      ∙ omega (arith, here (row.owner == owner) refl (is_present t.users t.nodes row.id) refl, counted_more owner)
-    where
-      here : (a : Bool) → (row.owner == owner) ≡ a → (b : Bool) → is_present t.users t.nodes row.id ≡ b → counted_for t owner row ≡ 0
-      here false e b f = rw e refl
-      here true e false f = rw (e, f) refl
-      here true e true f =
-          let own : row.owner ≡ owner = eqb-true row.owner owner e in
-          let looked : 0 < held row.owner = omega (arith, some, ap held own) in
-          absurd (cc (f, absent looked))
+-- the totals are those of one row more
+pub owned_more : {X : Type 0} (f owner_at : X → ℕ) (xs : List X) (i : ℕ) (x : X) (owner bytes : ℕ) (old new : ℕ → ℕ) → i < length xs
+    → x ≡ get_or xs i x → owner ≡ owner_at x → bytes ≡ f x → IsMore owner bytes old new
+    → ((user : ℕ) → old user ≡ sum_by f (filter (λ y. owner_at y == user) (take i xs)))
+    → (user : ℕ) → new user ≡ sum_by f (filter (λ y. owner_at y == user) (take (i + 1) xs))
+owned_more f owner_at xs i x owner bytes old new less is its sized adds so_far user =
+    added owner bytes old new adds user
+    ∙ ap (λ (n : ℕ). n + (if owner == user then bytes else 0)) (so_far user)
+    ∙ ap (λ (n : ℕ). sum_by f (filter (λ y. owner_at y == user) (take i xs)) + (if n == user then bytes else 0)) its
+    ∙ ap (λ (n : ℕ). sum_by f (filter (λ y. owner_at y == user) (take i xs)) + (if owner_at x == user then n else 0)) sized
+    ∙ sym (passing_more f (λ y. owner_at y == user) xs i x less is)

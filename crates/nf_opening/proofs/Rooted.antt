@@ -1,6 +1,7 @@
 -- The way up from a node to any of the users' roots, step by step.
-use Rattle.std.proofs.Common.{◌≡◌, ℕ, ◌+◌, ◌==◌, ◌||◌, Bool, true, false, List, [], ◌∷◌, None, Some, refl, ap, ◌∙◌}
+use Rattle.std.proofs.Common.{◌≡◌, ℕ, ◌+◌, ◌==◌, ◌||◌, Bool, true, false, List, [], ◌∷◌, None, Some, refl}
 use Rattle.std.specs.List.{list_any}
+use Rattle.std.proofs.lemmas.Bool.{or_parts}
 use Rattle.nf_base.specs.declared.rows.NodeRow.{NodeRow}
 use Rattle.nf_base.specs.declared.rows.UserRow.{UserRow}
 use Rattle.nf_defs.specs.Prelude.{is_under_within, parent_of}
@@ -20,31 +21,27 @@ present_zero k (user ∷ users) rows at none = rw (under_zero k rows at user.roo
 
 pub present_top : (k : ℕ) (users : List UserRow) (rows : List NodeRow) (at : ℕ) → is_a_root users at ≡ true → is_present_within k users rows at ≡ true
 present_top k [] rows at is = absurd cc
-present_top k (user ∷ users) rows at is = here (at == user.root) refl is
+present_top k (user ∷ users) rows at is = here (at == user.root) refl is (λ is. present_top k users rows at is)
   where
     last : (b : Bool) → (b || true) ≡ true
     last true = refl
     last false = refl
 
-    here : (a : Bool) → (at == user.root) ≡ a → (a || is_a_root users at) ≡ true → is_present_within k (user ∷ users) rows at ≡ true
-    here true e is = rw (under_top k rows at user.root e) refl
-    here false e is = rw (present_top k users rows at is) (last (is_under_within k rows at user.root))
+    here : (a : Bool) → (at == user.root) ≡ a → (a || is_a_root users at) ≡ true
+        → (is_a_root users at ≡ true → is_present_within k users rows at ≡ true) → is_present_within k (user ∷ users) rows at ≡ true
+    here true e is rest = rw (under_top k rows at user.root e) refl
+    here false e is rest = rw (rest is) (last (is_under_within k rows at user.root))
 
 pub present_none : (k : ℕ) (users : List UserRow) (rows : List NodeRow) (at : ℕ) → is_a_root users at ≡ false → parent_of rows at ≡ None
     → is_present_within k users rows at ≡ false
 present_none k [] rows at not none = refl
-present_none k (user ∷ users) rows at not none = here (at == user.root) refl not
-  where
-    here : (a : Bool) → (at == user.root) ≡ a → (a || is_a_root users at) ≡ false → is_present_within k (user ∷ users) rows at ≡ false
-    here true e not = absurd cc
-    here false e not = rw (under_none k rows at user.root e none, present_none k users rows at not none) refl
+present_none k (user ∷ users) rows at not none =
+    let both = or_parts (at == user.root) (is_a_root users at) not in
+    rw (under_none k rows at user.root both.0 none, present_none k users rows at both.1 none) refl
 
 pub present_up : (k j : ℕ) (users : List UserRow) (rows : List NodeRow) (at parent : ℕ) → j ≡ k + 1 → is_a_root users at ≡ false
     → parent_of rows at ≡ Some parent → is_present_within j users rows at ≡ is_present_within k users rows parent
 present_up k j [] rows at parent more not up = refl
-present_up k j (user ∷ users) rows at parent more not up = here (at == user.root) refl not
-  where
-    here : (a : Bool) → (at == user.root) ≡ a → (a || is_a_root users at) ≡ false
-        → is_present_within j (user ∷ users) rows at ≡ is_present_within k (user ∷ users) rows parent
-    here true e not = absurd cc
-    here false e not = rw (under_up k j rows at parent user.root more e up, present_up k j users rows at parent more not up) refl
+present_up k j (user ∷ users) rows at parent more not up =
+    let both = or_parts (at == user.root) (is_a_root users at) not in
+    rw (under_up k j rows at parent user.root more both.0 up, present_up k j users rows at parent more both.1 up) refl
