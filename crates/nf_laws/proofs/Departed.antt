@@ -1,7 +1,7 @@
 -- What left its place in a step, and what goes for good beside it, row by row.
-use Rattle.std.proofs.Common.{◌≡◌, ◌≤◌, ℕ, length, length-append, List, ◌∷◌, ◌++◌, get_or, inl, inr, sym, ap, subst, ◌∙◌, arith}
+use Rattle.std.proofs.Common.{◌≡◌, ◌≤◌, ℕ, length, length-append, List, ◌∷◌, ◌++◌, get_or, inl, inr, sym, ap, subst, ◌∙◌, arith, flat_map}
 use Rattle.std.specs.List.{All, Contains}
-use Rattle.std.proofs.lemmas.List.Elements.{All-contains, All-contains_itself, All-weaker}
+use Rattle.std.proofs.lemmas.List.Elements.{All-contains, All-contains_itself, All-weaker, All-append}
 use Rattle.nf_base.specs.declared.rows.MetaRow.{MetaRow}
 use Rattle.nf_base.specs.declared.rows.ShareRow.{ShareRow}
 use Rattle.nf_defs.specs.Prelude.{node_row, Tables}
@@ -17,10 +17,10 @@ use Rattle.nf_laws.proofs.Rows.{stamp, stamped_some}
 use Rattle.nf_laws.proofs.Sources.{under_given}
 use Rattle.nf_laws.proofs.Trashed.{item_top}
 use Rattle.nf_laws.proofs.Upwards.{climbed}
-use Rattle.nf_laws.specs.Acts.{AreEnded, HaveLeft, IsUnderOne}
+use Rattle.nf_laws.specs.Acts.{AreEnded, HaveLeft, IsUnderOne, IsGoneWith}
 use Rattle.nf_laws.specs.Tree.{Under}
 use Rattle.nf_words.proofs.Known.{IsItem}
-use Rattle.nf_words.specs.Prelude.{AreSound, changed, deed_done, deeds_done, LeadsToRoot, purges, told_deed, told_deeds}
+use Rattle.nf_words.specs.Prelude.{AreSound, changed, deed_done, deeds_done, LeadsToRoot, purges, told_deed, told_deeds, purged_by}
 use Rattle.nf_words.specs.declared.answer.Allowed.TheVariants as allowed
 use Rattle.nf_words.specs.declared.answer.Deed.{Deed}
 use Rattle.nf_words.specs.declared.answer.Deed.TheVariants as deed
@@ -82,6 +82,12 @@ module _ (t : Tables) (now : ℕ) (deeds : List Deed) (leave : List ℕ) (IsPut 
     shares = subst (λ (shares : List ShareRow). AreEnded t.shares shares (IsUnderOne t.nodes leave)) (sym (shares_after ∙ acted.ended))
         (are_ended acted.goes (IsUnderOne t.nodes leave) t.shares acted.passes acted.fails);
   }
+
+  -- all that goes for good is gone
+  pub all_gone : All (IsGoneWith t.nodes after.nodes) (flat_map purged_by (kind.one ∷ kind.more) ++ kind.gone)
+  all_gone =
+      All-append (IsGoneWith t.nodes after.nodes) (flat_map purged_by (kind.one ∷ kind.more)) kind.gone
+      (λ k d within node under. purge.no_nodes node (kind.purged k d within node under)) have_left.gone
 
   pub others_after : (node : ℕ) → (IsPut node → ⊥) → (IsUnderOne t.nodes leave node → ⊥) → (IsUnderOne t.nodes kind.gone node → ⊥)
       → node_row after.nodes node ≡ node_row t.nodes node

@@ -81,3 +81,4 @@ pub mod Trashing
 pub mod Upwards
 pub mod Walked
 pub mod Weighing
+pub mod Behaving

@@ -123,17 +123,18 @@ no_body : (meta : MetaRow) (blob : Option ℕ) (content : List Piece) → blob �
 no_body meta blob content none of = subst (λ (o : Option ℕ). IsOfBody meta o content) none of
 
 -- where no row has a content, nobody has more
-rows_keep : (t : Tables) (now user : ℕ) (changes : List Change) (blob : Option ℕ) (report : Report) → AreSound t → KnownChange t now changes blob
-    → blob ≡ None → AreOf [] changes → Keeps t user (altered t now (allowed.Change changes blob report))
-rows_keep t now user changes blob report sound known none of =
-    inl (nodes_have Fewer (IsOf []) t now changes blob report sound.rising known (each_of changes of)
+pub rows_fewer : (t : Tables) (now user : ℕ) (changes : List Change) (blob : Option ℕ) (report : Report) → AreSound t → KnownChange t now changes blob
+    → blob ≡ None → AreOf [] changes
+    → bytes_owned (altered t now (allowed.Change changes blob report)).nodes user ≤ bytes_owned t.nodes user
+rows_fewer t now user changes blob report sound known none of =
+    nodes_have Fewer (IsOf []) t now changes blob report sound.rising known (each_of changes of)
     (λ u row fewer it any. pushed u.nodes row fewer (no_body t.meta blob row.content none it.body))
     (λ u row fewer it empty.
     let old = it.filled.old in
     let new = filled row.content row.changed old in
     let lighter : owned_bytes user new ≤ owned_bytes user old = omega (arith, empty_owned user new empty) in
     omega (arith, fewer, lighter, row_owned u.nodes row.id user (filled row.content row.changed) old it.filled.there))
-    (λ u row root fewer it. pushed u.nodes root fewer it.1.empty) (le_refl _))
+    (λ u row root fewer it. pushed u.nodes root fewer it.1.empty) (le_refl _)
   where
     each_of : (changes : List Change) → AreOf [] changes → All (IsOf []) changes
     each_of [] of = All-nil (IsOf [])
@@ -224,7 +225,7 @@ unfolding charge_of
 asked_keeps t now user (allowed.Change changes blob report) sound later known affords light =
     inl (
       elim light [
-        | inl of ↦ rows_keep t now user changes blob report sound known affords of
+        | inl of ↦ inl (rows_fewer t now user changes blob report sound known affords of)
         | inr keeps ↦ keeps
       ],
       act_kept t now (allowed.Change changes blob report) sound later known tt,

@@ -139,7 +139,7 @@ module _ (t : Tables) (item : ItemRow) (sound : AreSound t) (known : KnownRestor
     back_shares : left.shares ≡ t.shares
     back_shares = shares_purged back gone back_sound still once
 
-    back_beside : AreGoneBeside t back left item.node gone
+    pub back_beside : AreGoneBeside t back left item.node gone
     back_beside =
         goes_beside t back left item.node gone row_off
         (λ k d within. (

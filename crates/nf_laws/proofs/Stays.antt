@@ -40,7 +40,7 @@ use Rattle.nf_base.specs.declared.rows.VersionRow.{VersionRow}
 
 -- ---- the rows
 
-altered_sound : (t : Tables) (now : ℕ) (act : Allowed) → AreSound t → t.meta.last ≤ now → Known t now act
+pub altered_sound : (t : Tables) (now : ℕ) (act : Allowed) → AreSound t → t.meta.last ≤ now → Known t now act
     → AreSound (stamp (altered t now act) now)
 altered_sound t now (allowed.Change changes blob report) sound before known = changes_sound t now changes blob report sound before known
 altered_sound t now (allowed.Deeds deeds report) sound before known = step_sound t now deeds sound before known

@@ -48,7 +48,7 @@ Comes t owner old new made =
     (user : ℕ) → bytes_owned made.nodes user + (if owner == user then old else 0) ≡ bytes_owned t.nodes user + (if owner == user then new else 0)
 
 -- the content of a body has its bytes
-body_weighs : (next size : ℕ) (digest : List ℕ) → sum_by (λ piece. piece.size) (content_in (blob_for next size) digest size) ≡ size
+pub body_weighs : (next size : ℕ) (digest : List ℕ) → sum_by (λ piece. piece.size) (content_in (blob_for next size) digest size) ≡ size
 body_weighs next size digest = here (size == 0) refl
   where
     here : (empty : Bool) → (size == 0) ≡ empty

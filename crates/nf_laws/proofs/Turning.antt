@@ -86,7 +86,7 @@ pub deeds_fewer : (t : Tables) (deeds : List Deed) → AreVersionsFewer t (deeds
 deeds_fewer t deeds = deeds_keep (AreVersionsFewer t) (deed_fewer t) t deeds (λ k d within. All-contains_itself t.versions k d within)
 
 -- nor do changes that put none
-drops_fewer : (t u : Tables) (gone : List Version) → AreVersionsFewer t u → AreVersionsFewer t (put_all u (map drop_version gone))
+pub drops_fewer : (t u : Tables) (gone : List Version) → AreVersionsFewer t u → AreVersionsFewer t (put_all u (map drop_version gone))
 drops_fewer t u [] old = old
 drops_fewer t u (version ∷ gone) old =
     drops_fewer t (made u (drop_version version)) gone

@@ -4,7 +4,7 @@ ghost use Rattle.std.specs.Prelude.{◌≡◌, not, nat_lt, true};
 ghost use Rattle.std.specs.Option.{option_map_or};
 ghost use Rattle.nf_base.specs.declared.rows.Row.TheVariants as rows;
 ghost use Rattle.nf_defs.specs.Tables.{tables_of};
-ghost use Rattle.nf_rules.specs.Rules.{are_counters, are_item_numbers, are_numbers, are_share_numbers, first_index, has_ungiven_blob, is_given, is_lavish, is_place_given, is_recipient_given};
+ghost use Rattle.nf_rules.specs.Rules.{are_counters, are_item_numbers, are_numbers, are_share_numbers, are_version_numbers, first_index, has_ungiven_blob, is_given, is_lavish, is_place_given, is_recipient_given};
 ghost use Rattle.nf_words.specs.Prelude.{is_end_moment, is_later};
 
 use crate::first::first;

@@ -3,10 +3,12 @@
 ghost use Rattle.std.specs.Prelude.{◌≡◌, IfOk};
 ghost use Rattle.std.specs.Option.{option_map_or};
 ghost use Rattle.nf_defs.specs.Prelude.{AreRising, tables_of};
+ghost use Rattle.nf_rules.specs.Rules.{first_index, is_over};
+ghost use Rattle.nf_opening.specs.Bounds.{AreBounds};
 ghost use Rattle.nf_opening.specs.Judged.{AreJudged, IsFaultAt};
 
 use crate::alone::{first_later, first_ungiven, is_lavish};
-use crate::bounds::Unsettled;
+use crate::bounds::Bounds;
 use crate::first::first;
 use crate::keys::first_twice;
 use crate::limits::first_beyond;
@@ -51,15 +53,17 @@ fn first_over(alloc: Global, loaded: &Loaded, rows: &[Row]) -> Result<Option<usi
     requires rising { AreRising loaded.now }
     ensures { IfOk result (λ at. at ≡ first_index (is_over (tables_of rows.now)) rows.now) }
 {
-    let unsettled = Unsettled::of(alloc, loaded)?;
-    Ok(first(rows, |row| is_over(loaded, &unsettled, row)))
+    let bounds = Bounds::of(alloc, loaded)?;
+    Ok(first(rows, |row| is_over(loaded, &bounds, row)))
 }
 
-fn is_over(loaded: &Loaded, unsettled: &Unsettled, row: &Row) -> bool
+fn is_over(loaded: &Loaded, bounds: &Bounds, row: &Row) -> bool
+    requires rising { AreRising loaded.now }
+    requires bounds { AreBounds loaded.now bounds.now }
     ensures { result ≡ is_over loaded.now row.now }
 {
     match row {
-        Row::Version(row) => unsettled.has(loaded, row),
+        Row::Version(row) => bounds.are_passed(loaded, row),
         _ => is_lavish(row),
     }
 }

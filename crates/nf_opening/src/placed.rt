@@ -3,7 +3,7 @@
 ghost use Rattle.std.specs.Prelude.{◌≡◌, not, option_copied};
 ghost use Rattle.nf_base.specs.declared.rows.Row.TheVariants as rows;
 ghost use Rattle.nf_defs.specs.Prelude.{AreRising, tables_of};
-ghost use Rattle.nf_rules.specs.Rules.{first_index, is_folder_for, is_from_kept, is_item_kept, is_placed, is_root_of, is_trashed_as, leads};
+ghost use Rattle.nf_rules.specs.Rules.{first_index, is_folder_for, is_from_kept, is_item_kept, is_placed, is_root_of, is_trashed_as, is_version_kept, leads};
 ghost use Rattle.nf_opening.specs.Ways.{folder_above, is_own_top};
 
 use crate::Loaded;

@@ -129,7 +129,7 @@ fn is_under(loaded: &Loaded, node: NodeId, top: NodeId) -> bool
 }
 
 /// The folder that a node is in.
-fn parent_of(loaded: &Loaded, node: NodeId) -> Option<NodeId>
+pub(crate) fn parent_of(loaded: &Loaded, node: NodeId) -> Option<NodeId>
     requires { AreRising loaded.now }
     ensures { result ≡ parent_of loaded.now.nodes node }
 {

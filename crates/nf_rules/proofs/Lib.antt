@@ -18,3 +18,6 @@ pub mod Stacked
 pub mod Stays
 pub mod Unbroken
 pub mod Settled
+pub mod Held
+pub mod Dropped
+pub mod TurnedOver

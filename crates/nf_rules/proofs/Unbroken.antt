@@ -35,8 +35,8 @@ use Rattle.nf_words.specs.declared.answer.Limit.TheVariants as limit
 use Rattle.nf_rules.specs.Keys.{child_key, link_key, name_key}
 use Rattle.nf_rules.specs.Laws.{UnbrokenAreRuled}
 use Rattle.nf_rules.specs.Ruled.{IsGiven, IsMountRuled, IsShareRuled, AreSettled}
-use Rattle.nf_rules.specs.Rules.{AreUnbroken, are_counters, are_numbers, has_ungiven_blob, is_beyond, is_given, is_lavish, is_placed, is_root_of, is_shared_well, lacks_meta, leads, names_are_there, rules, is_over, held_bytes, are_unsettled}
-use Rattle.nf_rules.proofs.Among.{Have, all_have, meta_has}
+use Rattle.nf_rules.specs.Rules.{AreUnbroken, are_counters, are_numbers, has_ungiven_blob, is_beyond, is_given, is_placed, is_root_of, is_shared_well, lacks_meta, leads, names_are_there, rules, is_over, held_bytes, are_unsettled}
+use Rattle.nf_rules.proofs.Among.{all_have, meta_has}
 use Rattle.nf_rules.proofs.Firsts.{keep_each}
 use Rattle.nf_rules.proofs.Items.{item_ruled, item_sound}
 use Rattle.nf_rules.proofs.Later.{nobody, none_of}
@@ -256,10 +256,14 @@ none_kept test (x ∷ some) none =
 settled_from : (t : Tables) → All (λ (row : VersionRow). is_over t (rows.Version row) ≡ false) t.versions → AreSettled t
 settled_from t none user =
     ⊎_elim
-    (λ more. absurd (omega (arith, more, ap (λ (some : List VersionRow). sum_by (λ (row : VersionRow). content_size row.content) some)
-    (none_kept (λ (row : VersionRow). owner_of t.nodes row.node == user) t.versions
-    (All-weaker (λ (row : VersionRow). is_over t (rows.Version row) ≡ false) (λ (row : VersionRow). (owner_of t.nodes row.node == user) ≡ false)
-    (other more) t.versions none)))))
+    (λ more. absurd (omega (
+      arith,
+      more,
+      ap (λ (some : List VersionRow). sum_by (λ (row : VersionRow). content_size row.content) some)
+          (none_kept (λ (row : VersionRow). owner_of t.nodes row.node == user) t.versions
+          (All-weaker (λ (row : VersionRow). is_over t (rows.Version row) ≡ false) (λ (row : VersionRow). (owner_of t.nodes row.node == user) ≡ false)
+          (other more) t.versions none)),
+    )))
     (λ le. le)
     (cases_lt (versions_bound (quota_of t user) (charge_of t user)) (held_bytes t user))
   where
@@ -392,38 +396,38 @@ unbroken_are_ruled all kept none =
     record {
       settled = settled_from t modest.versions;
       ordered = record {
-      sound = sound all kept h;
-      rising = rising;
-      owners = λ k d less. (and_parts _ _ (there.nodes k d less)).0;
-      users = λ k d less.
-          let parts = and_parts _ _ (numbers.users k d less) in
-          record {
-            id = given t.meta.next_user _ parts.0;
-            root = given t.meta.next_node _ parts.1;
-            quota = ltb-false MAX_QUOTA _ (modest.users k d less);
-          };
-      tokens = λ k d less. record { given = given t.meta.next_user _ (numbers.tokens k d less); user = there.tokens k d less };
-      groups = λ k d less. record { id = given t.meta.next_group _ (numbers.groups k d less) };
-      members = λ k d less.
-          let parts = and_parts _ _ (numbers.members k d less) in
-          let names = and_parts _ _ (there.members k d less) in
-          record {
-            given_group = given t.meta.next_group _ parts.0;
-            given_user = given t.meta.next_user _ parts.1;
-            group = names.0;
-            user = names.1;
-          };
-      shares = shares_ruled all h;
-      mounts = mounts_ruled all h;
-      items = λ k d less. item_ruled t (get_or t.items k d) (numbers.items k d less) (placed.items k d less);
-      user_names = λ i j d before less same. users i j d before less (2 ∷ (get_or t.users i d).name) refl
-          (ap (λ (name : List ℕ). Some (2 ∷ name)) (sym same));
-      group_names = λ i j d before less same. groups i j d before less (4 ∷ (get_or t.groups i d).name) refl
-          (ap (λ (name : List ℕ). Some (4 ∷ name)) (sym same));
-      tokens_apart = λ i j d before less token first second. shares i j d before less (7 ∷ token) (ap link_key first) (ap link_key second);
-      few_users = few t.users MAX_USERS within.users;
-      few_groups = few t.groups MAX_GROUPS within.groups;
-      few_tokens = few t.tokens MAX_TOKENS within.tokens;
-      few_members = few t.members MAX_MEMBERS within.members;
+        sound = sound all kept h;
+        rising = rising;
+        owners = λ k d less. (and_parts _ _ (there.nodes k d less)).0;
+        users = λ k d less.
+            let parts = and_parts _ _ (numbers.users k d less) in
+            record {
+              id = given t.meta.next_user _ parts.0;
+              root = given t.meta.next_node _ parts.1;
+              quota = ltb-false MAX_QUOTA _ (modest.users k d less);
+            };
+        tokens = λ k d less. record { given = given t.meta.next_user _ (numbers.tokens k d less); user = there.tokens k d less };
+        groups = λ k d less. record { id = given t.meta.next_group _ (numbers.groups k d less) };
+        members = λ k d less.
+            let parts = and_parts _ _ (numbers.members k d less) in
+            let names = and_parts _ _ (there.members k d less) in
+            record {
+              given_group = given t.meta.next_group _ parts.0;
+              given_user = given t.meta.next_user _ parts.1;
+              group = names.0;
+              user = names.1;
+            };
+        shares = shares_ruled all h;
+        mounts = mounts_ruled all h;
+        items = λ k d less. item_ruled t (get_or t.items k d) (numbers.items k d less) (placed.items k d less);
+        user_names = λ i j d before less same. users i j d before less (2 ∷ (get_or t.users i d).name) refl
+            (ap (λ (name : List ℕ). Some (2 ∷ name)) (sym same));
+        group_names = λ i j d before less same. groups i j d before less (4 ∷ (get_or t.groups i d).name) refl
+            (ap (λ (name : List ℕ). Some (4 ∷ name)) (sym same));
+        tokens_apart = λ i j d before less token first second. shares i j d before less (7 ∷ token) (ap link_key first) (ap link_key second);
+        few_users = few t.users MAX_USERS within.users;
+        few_groups = few t.groups MAX_GROUPS within.groups;
+        few_tokens = few t.tokens MAX_TOKENS within.tokens;
+        few_members = few t.members MAX_MEMBERS within.members;
       };
     }

@@ -230,6 +230,9 @@ module _ (t : Tables) (sound : AreSound t) where
 
   -- ---- another quota
 
+  pub quota_goes : (now quota user : ℕ) → KnownGoes t (gone_of t now quota (items_of t user))
+  quota_goes now quota user = record { items = user_goes now quota user; once = user_once now quota user }
+
   pub requoted_known : (now quota : ℕ) (row : UserRow) → user_row t.users row.id ≡ Some row → IsKnown now (requoted t now quota row)
   requoted_known now quota row there = here (row.quota == quota) refl
     where
@@ -251,7 +254,7 @@ module _ (t : Tables) (sound : AreSound t) where
             same = refl;
             other = λ same. both_ways (row.quota == quota) e (eq-eqb row.quota quota (sym (ap (λ (r : UserRow). r.quota) same)));
           })
-          (record { items = user_goes now quota row.id; once = user_once now quota row.id }))
+          (quota_goes now quota row.id))
 
   -- ---- what leaves its place
 
