@@ -15,7 +15,6 @@ use Rattle.nf_base.specs.declared.rows.MountRow.{MountRow}
 use Rattle.nf_base.specs.declared.rows.NodeRow.{NodeRow}
 use Rattle.nf_base.specs.declared.rows.Row.{Row}
 use Rattle.nf_base.specs.declared.rows.ShareRow.{ShareRow}
-use Rattle.nf_base.specs.Content.{content_eq}
 use Rattle.nf_base.specs.declared.changes.Change.TheVariants.{Drop, Put}
 use Rattle.nf_base.specs.declared.changes.RowKey.TheVariants as keys
 use Rattle.nf_base.specs.declared.rows.Row.TheVariants as rows
@@ -33,7 +32,7 @@ use Rattle.nf_laws.proofs.Lists.{AreBuilt, IsBuilt}
 use Rattle.nf_laws.proofs.OneRow.{with_all}
 use Rattle.nf_laws.proofs.Rows.{content_has, found_is, stamped_has}
 use Rattle.nf_laws.specs.Wholes.{BlobsAreNew, Brings, IsGoalHeld, IsHeld, IsThere, StaysWhole, blob_in, blob_under}
-use Rattle.nf_words.specs.Prelude.{access_of, after_mark, allowed_of, altered, AreSound, blob_after, blob_for, blob_of, by_of, Call, call_of, carries, changed, content_in, contents_of, copies, decision_of, deed_done, deleted, done, end_refusal, ends_at, ends_goal, given, gone_of, goal_at, goal_of, hold_of, IsGoalSound, IsPieceSound, IsSound, IsTicketSound, item_dropped, item_restored, items_of, last_name, left_row, listing_of, made_folder, made_or_done, MayAsk, mount_left, mount_renamed, moved, named_row, node_at, own_item, own_mount, people_done, places_of, purges, raised, refilled, refusal_of, served, stamped, State, stored, stored_at, told, transfer_of, trash_done, unless_refused, way_of, with_goal, with_mount_row, without, is_member, joined_by, left_by, membership, mounts_for, mounts_joined, nothing_done, share_told, shared, share_made, offered, share_shown, share_set, perms_after, people_changed, put_mounts, requoted, row_named, same_end, set_row, share_steered, share_ended, until_after, becomes_version, brought_back, charged, charged_to, content_size, copies_settled, drop_version, gone_after, is_same, refills, requoting, settled_by, turned_over, turns_over, version_done, version_row}
+use Rattle.nf_words.specs.Prelude.{access_of, after_mark, allowed_of, altered, AreSound, blob_after, blob_for, blob_of, by_of, Call, call_of, carries, changed, content_in, contents_of, copies, decision_of, deed_done, deleted, done, end_refusal, ends_at, ends_goal, given, goal_at, goal_of, hold_of, IsGoalSound, IsPieceSound, IsSound, IsTicketSound, item_dropped, item_restored, last_name, left_row, listing_of, made_folder, made_or_done, MayAsk, mount_left, mount_renamed, moved, named_row, node_at, own_item, own_mount, people_done, places_of, refilled, refusal_of, served, stamped, State, stored, stored_at, told, transfer_of, trash_done, unless_refused, way_of, with_goal, with_mount_row, without, is_member, joined_by, left_by, membership, mounts_for, mounts_joined, nothing_done, share_told, shared, share_made, offered, share_shown, share_set, perms_after, people_changed, put_mounts, requoted, row_named, same_end, set_row, share_steered, share_ended, until_after, becomes_version, brought_back, charged, charged_to, content_size, copies_settled, drop_version, gone_after, is_same, refills, requoting, settled_by, turned_over, turns_over, version_done, version_row}
 use Rattle.nf_words.specs.declared.answer.Allowed.{Allowed}
 use Rattle.nf_words.specs.declared.answer.Allowed.TheVariants as allowed
 use Rattle.nf_words.specs.declared.answer.Goal.{Goal}
@@ -41,9 +40,9 @@ use Rattle.nf_words.specs.declared.answer.Goal.TheVariants.{Serve, Store}
 use Rattle.nf_words.specs.declared.history.Entry.{Entry}
 use Rattle.nf_words.specs.declared.history.Mark.{Mark}
 use Rattle.nf_words.specs.declared.history.Ticket.{Ticket}
-use Rattle.nf_words.proofs.Bodies.{IsOfBody, IsNext}
+use Rattle.nf_words.proofs.Bodies.{IsNext}
 use Rattle.nf_words.proofs.Ends.{known_change}
-use Rattle.nf_words.proofs.Fits.{KnownRow, KnownRows, no_more, one_more, user_more, IsOfVersion}
+use Rattle.nf_words.proofs.Fits.{IsOfVersion}
 use Rattle.nf_words.proofs.Known.{Known}
 use Rattle.nf_words.specs.declared.answer.By.{By}
 use Rattle.nf_words.specs.declared.answer.Deed.{Deed}
@@ -67,12 +66,13 @@ use Rattle.nf_words.specs.declared.request.TrashAsk.{TrashAsk}
 use Rattle.nf_words.specs.declared.request.TrashAsk.TheVariants as trash
 use Rattle.nf_words.specs.declared.request.Wanted.{Wanted}
 use Rattle.nf_words.specs.declared.request.Wanted.TheVariants as wanted
-use Rattle.nf_laws.proofs.Turning.{IsOldVersion, altered_old}
+use Rattle.nf_laws.proofs.Turning.{altered_old}
 use Rattle.nf_base.specs.declared.rows.VersionRow.{VersionRow}
 use Rattle.nf_retention.specs.declared.versions.Version.{Version}
 use Rattle.nf_words.specs.declared.request.VersionAsk.{VersionAsk}
 use Rattle.nf_words.specs.declared.request.VersionAsk.TheVariants as version
 use Rattle.nf_words.specs.Versions.{drop_back, drop_gone, has_already, is_version, put_replaced, stays_version, version_for}
+use Rattle.nf_laws.specs.Acts.{IsOldVersion}
 
 -- ---- a blob that is stored has the next number
 
@@ -169,11 +169,11 @@ abbrev pub StoresBody : Tables → List ℕ → Allowed → Type 0
 StoresBody t body (allowed.Change changes blob report) = StoreBody t body changes blob
 StoresBody t body act = Unit {0}
 
--- what a request that isn't a GET of a path may do: nothing that stores or shows a content but that of a version
+-- what a request that is neither a GET nor about versions may do: nothing that stores or shows a content, or gives a file one
 abbrev pub Alters : Tables → Allowed → Type 0
-Alters t (allowed.Get node content) = IsOfVersion t node content
+Alters t (allowed.Get node content) = ⊥
 Alters t (allowed.List listing) = ⊥
-Alters t (allowed.Change changes blob report) = (blob ≡ None) × AreOld t changes
+Alters t (allowed.Change changes blob report) = (blob ≡ None) × AreOf [] changes
 Alters t act = Unit {0}
 
 put_alters : (t : Tables) (by : By) (name : List ℕ) (size : ℕ) (o : Option Found) → Alters t (stored by name size o)
@@ -183,7 +183,7 @@ put_alters t by name size (Some place) = tt
 
 folder_alters : (t : Tables) (now : ℕ) (name : List ℕ) (o : Option Found) → Alters t (made_folder t now name o)
 folder_alters t now name None = tt
-folder_alters t now name (Some (Free folder)) = (refl, inl (refl, tt))
+folder_alters t now name (Some (Free folder)) = (refl, (refl, tt))
 folder_alters t now name (Some place) = tt
 
 -- what is done where something is there
@@ -196,12 +196,12 @@ if_alters t true act other one another = one
 if_alters t false act other one another = another
 
 mount_alters : (t : Tables) (row : Option MountRow) (told : Report) → Alters t (with_mount_row row told)
-mount_alters t None told = (refl, inl tt)
-mount_alters t (Some row) told = (refl, inl (tt, tt))
+mount_alters t None told = (refl, tt)
+mount_alters t (Some row) told = (refl, (tt, tt))
 
 -- what is asked about shares puts rows of shares and mounts alone
 found_alters : {X : Type 0} (t : Tables) (act : X → Allowed) (o : Option X) → ((x : X) → Alters t (act x)) → Alters t (option_map_or act o nothing_done)
-found_alters t act None all = (refl, inl tt)
+found_alters t act None all = (refl, tt)
 found_alters t act (Some x) all = all x
 
 mounts_of : (content : List Piece) (mounts : List MountRow) → AreOf content (put_mounts mounts)
@@ -209,24 +209,24 @@ mounts_of content [] = tt
 mounts_of content (mount ∷ mounts) = (tt, mounts_of content mounts)
 
 set_alters : (t : Tables) (share row : ShareRow) (same : Bool) → Alters t (share_told t (if same then [] else Put (rows.Share share) ∷ []) row)
-set_alters t share row true = (refl, inl tt)
-set_alters t share row false = (refl, inl (tt, tt))
+set_alters t share row true = (refl, tt)
+set_alters t share row false = (refl, (tt, tt))
 
 shared_alters : (call : Call) (places : Places) (asked : ShareAsk) → Alters call.state.tables (shared (access_of call.state) call places asked)
 shared_alters call places (ask.New spot to perms until) =
     let t = call.state.tables in
     found_alters t (share_made (access_of call.state) call) (offered call spot to perms until) (λ offer.
-    (refl, inl (tt, mounts_of [] (mounts_for t offer))))
-shared_alters call places (ask.List spot with_me) = (refl, inl tt)
+    (refl, (tt, mounts_of [] (mounts_for t offer))))
+shared_alters call places (ask.List spot with_me) = (refl, tt)
 shared_alters call places (ask.Show share) =
-    found_alters call.state.tables (share_told call.state.tables []) (share_shown call share) (λ row. (refl, inl tt))
+    found_alters call.state.tables (share_told call.state.tables []) (share_shown call share) (λ row. (refl, tt))
 shared_alters call places (ask.Set share perms until) =
     let t = call.state.tables in
     found_alters t (λ row. share_set t (perms_after t perms row) (until_after until row.until) row) (share_steered call share) (λ row.
     let wanted = perms_after t perms row in
     let end = until_after until row.until in
     let other = set_row wanted end row in set_alters t other other (wanted == row.perms && same_end end row.until))
-shared_alters call places (ask.End share) = found_alters call.state.tables share_ended (share_steered call share) (λ row. (refl, inl (tt, tt)))
+shared_alters call places (ask.End share) = found_alters call.state.tables share_ended (share_steered call share) (λ row. (refl, (tt, tt)))
 
 -- and what is asked about users and groups puts rows without content
 joined_of : (t : Tables) (row : MemberRow) (b : Bool) → AreOf [] (if b then [] else Put (rows.Member row) ∷ put_mounts (mounts_joined t row))
@@ -256,73 +256,55 @@ people_alters call (people.SetQuota user quota) =
     let t = call.state.tables in
     found_alters t (requoted t call.now quota) (row_named t user) (λ row.
     if_alters t (row.quota == quota) nothing_done
-    (done (settled_by t (charged_to t quota row) (requoting t call.now quota row)) report.Plain) (refl, inl tt) tt)
+    (done (settled_by t (charged_to t quota row) (requoting t call.now quota row)) report.Plain) (refl, tt) tt)
 people_alters call (people.NewUser name token quota) =
-    (refl, inl (people_of call.state.tables call.now (people.NewUser name token quota)))
-people_alters call (people.NewGroup name) = (refl, inl (people_of call.state.tables call.now (people.NewGroup name)))
-people_alters call (people.AddMember user group) = (refl, inl (people_of call.state.tables call.now (people.AddMember user group)))
-people_alters call (people.DropMember user group) = (refl, inl (people_of call.state.tables call.now (people.DropMember user group)))
-people_alters call (people.AddToken user token) = (refl, inl (people_of call.state.tables call.now (people.AddToken user token)))
+    (refl, (people_of call.state.tables call.now (people.NewUser name token quota)))
+people_alters call (people.NewGroup name) = (refl, (people_of call.state.tables call.now (people.NewGroup name)))
+people_alters call (people.AddMember user group) = (refl, (people_of call.state.tables call.now (people.AddMember user group)))
+people_alters call (people.DropMember user group) = (refl, (people_of call.state.tables call.now (people.DropMember user group)))
+people_alters call (people.AddToken user token) = (refl, (people_of call.state.tables call.now (people.AddToken user token)))
 
 -- what is put in the trash, goes or comes back has its content
 trash_alters : (call : Call) (asked : TrashAsk) → Alters call.state.tables (trash_done call asked)
-trash_alters call (trash.List user) = (refl, inl tt)
+trash_alters call (trash.List user) = (refl, tt)
 trash_alters call (trash.Drop user item) =
     found_alters call.state.tables (item_dropped call.state.tables call.now) (own_item call item) (λ item. tt)
 trash_alters call (trash.Empty user) = tt
 trash_alters call (trash.Restore user item) =
     found_alters call.state.tables (item_restored call.state.tables call.now) (own_item call item) (λ item. tt)
 
--- a version is sent, or is its file's content again
-version_alters : (t : Tables) (now : ℕ) (asked : VersionAsk) → Alters t (version_done t now asked)
-version_alters t now (version.List user node) = (refl, inl tt)
-version_alters t now (version.Get user node at) = here (version_row t.versions node at) refl
-  where
-    here : (o : Option VersionRow) → version_row t.versions node at ≡ o
-        → Alters t (option_map_or (λ (row : VersionRow). allowed.Get node row.content) o nothing_done)
-    here None e = (refl, inl tt)
-    here (Some row) e = (row, at, e, refl)
-version_alters t now (version.Restore user node at) = here (version_row t.versions node at) refl
-  where
-    of_row : (one : VersionRow) (o : Option NodeRow) → AreOf one.content (option_map_or (refills t now (Some one.at) one.content) o [])
-    of_row one None = tt
-    of_row one (Some row) = refills_of t now (Some one.at) one.content row
-
-    here : (o : Option VersionRow) → version_row t.versions node at ≡ o → Alters t (option_map_or (brought_back t now node) o nothing_done)
-    here None e = (refl, inl tt)
-    here (Some one) e = (refl, inr (node, one.content, (one, at, e, refl), of_row one (node_row t.nodes node)))
-
 pub given_alters : (call : Call) (places : Places) (asked : Wanted)
-    → ((spot : Spot) × (asked ≡ wanted.Get spot)) ⊎ Alters call.state.tables (given (access_of call.state) call places asked)
+    → ((spot : Spot) × (asked ≡ wanted.Get spot))
+    ⊎ (((ask : VersionAsk) × (asked ≡ wanted.Version ask)) ⊎ Alters call.state.tables (given (access_of call.state) call places asked))
 given_alters call places (wanted.Get spot) = inl (spot, refl)
-given_alters call places (wanted.Put spot size) = inr (put_alters call.state.tables (by_of call spot) (last_name spot) size places.target)
-given_alters call places (wanted.Mkcol spot) = inr (folder_alters call.state.tables call.now (last_name spot) places.target)
+given_alters call places (wanted.Put spot size) = inr (inr (put_alters call.state.tables (by_of call spot) (last_name spot) size places.target))
+given_alters call places (wanted.Mkcol spot) = inr (inr (folder_alters call.state.tables call.now (last_name spot) places.target))
 given_alters call places (wanted.Delete spot) =
     let t = call.state.tables in
     let way = way_of call spot in
-    inr (if_alters t way.itself (mount_left call way) (deleted t call.now (node_at places.source))
-    (mount_alters t (option_map left_row (own_mount call way.mount)) report.Done) tt)
+    inr (inr (if_alters t way.itself (mount_left call way) (deleted t call.now (node_at places.source))
+    (mount_alters t (option_map left_row (own_mount call way.mount)) report.Done) tt))
 given_alters call places (wanted.Move source target overwrite) =
     let t = call.state.tables in
     let way = way_of call source in
     let name = last_name target in
-    inr (if_alters t way.itself (mount_renamed call way name) (moved t call.now name (transfer_of t.nodes places))
+    inr (inr (if_alters t way.itself (mount_renamed call way name) (moved t call.now name (transfer_of t.nodes places))
     (mount_alters t (option_map (named_row name) (own_mount call way.mount)) report.Made)
     (either_alters t (λ transfer. done (carries t call.now name transfer) (made_or_done transfer.replaced)) (transfer_of t.nodes places)
-    (λ transfer. tt)))
+    (λ transfer. tt))))
 given_alters call places (wanted.Copy source target overwrite) =
     let t = call.state.tables in
     let name = last_name target in
-    inr (either_alters t (λ transfer. done (copies_settled t call.now name transfer) (made_or_done transfer.replaced)) (transfer_of t.nodes places)
-    (λ transfer. tt))
-given_alters call places (wanted.Share asked) = inr (shared_alters call places asked)
-given_alters call places (wanted.People asked) = inr (people_alters call asked)
-given_alters call places (wanted.Trash asked) = inr (trash_alters call asked)
-given_alters call places (wanted.Version asked) = inr (version_alters call.state.tables call.now asked)
+    inr (inr (either_alters t (λ transfer. done (copies_settled t call.now name transfer) (made_or_done transfer.replaced)) (transfer_of t.nodes places)
+    (λ transfer. tt)))
+given_alters call places (wanted.Share asked) = inr (inr (shared_alters call places asked))
+given_alters call places (wanted.People asked) = inr (inr (people_alters call asked))
+given_alters call places (wanted.Trash asked) = inr (inr (trash_alters call asked))
+given_alters call places (wanted.Version asked) = inr (inl (asked, refl))
 
 -- so a Begin stores nothing
 alters_stores : (t : Tables) (body : List ℕ) (act : Allowed) → Alters t act → StoresBody t body act
-alters_stores t body (allowed.Change changes blob report) alters = inl alters
+alters_stores t body (allowed.Change changes blob report) alters = inl (alters.0, inl alters.1)
 alters_stores t body act alters = tt
 
 served_stores : (access : Access) (call : Call) (body : List ℕ) (mount o : Option ℕ) → StoresBody call.state.tables body (served access call mount o)
@@ -332,6 +314,24 @@ served_stores access call body mount (Some node) =
     (allowed.Get node (content_of call.state.tables.nodes node))
     (StoresBody call.state.tables body) (λ folder. tt) (λ file. tt)
 
+-- and a version that comes back is its file's content
+pub version_stores : (t : Tables) (now : ℕ) (body : List ℕ) (asked : VersionAsk) → StoresBody t body (version_done t now asked)
+version_stores t now body (version.List user node) = inl (refl, inl tt)
+version_stores t now body (version.Get user node at) = here (version_row t.versions node at)
+  where
+    here : (o : Option VersionRow) → StoresBody t body (option_map_or (λ (row : VersionRow). allowed.Get node row.content) o nothing_done)
+    here None = inl (refl, inl tt)
+    here (Some row) = tt
+version_stores t now body (version.Restore user node at) = here (version_row t.versions node at) refl
+  where
+    of_row : (one : VersionRow) (o : Option NodeRow) → AreOf one.content (option_map_or (refills t now (Some one.at) one.content) o [])
+    of_row one None = tt
+    of_row one (Some row) = refills_of t now (Some one.at) one.content row
+
+    here : (o : Option VersionRow) → version_row t.versions node at ≡ o → StoresBody t body (option_map_or (brought_back t now node) o nothing_done)
+    here None e = inl (refl, inl tt)
+    here (Some one) e = inl (refl, inr (node, one.content, (one, at, e, refl), of_row one (node_row t.nodes node)))
+
 given_stores : (call : Call) (body : List ℕ) (places : Places) (asked : Wanted)
     → StoresBody call.state.tables body (given (access_of call.state) call places asked)
 given_stores call body places asked =
@@ -340,7 +340,9 @@ given_stores call body places asked =
       | inl get ↦
           subst (λ (w : Wanted). StoresBody t body (given (access_of call.state) call places w)) (sym get.1)
           (served_stores (access_of call.state) call body (way_of call get.0).mount (node_at places.source))
-      | inr alters ↦ alters_stores t body (given (access_of call.state) call places asked) alters
+      | inr (inl version) ↦
+          subst (λ (w : Wanted). StoresBody t body (given (access_of call.state) call places w)) (sym version.1) (version_stores t call.now body version.0)
+      | inr (inr alters) ↦ alters_stores t body (given (access_of call.state) call places asked) alters
     ]
 
 -- the End of a PUT stores its body

@@ -394,6 +394,7 @@ module _ (t : Tables) (now : ℕ) (sound : AreSound t) (at : t.meta.last ≡ now
                   ∙ ap (λ (v : Tables). record (joined v rows) {
                     nodes = (deed_done (joined u rows) (discard t now from)).nodes;
                     shares = (deed_done (joined u rows) (discard t now from)).shares;
+                    versions = (deed_done (joined u rows) (discard t now from)).versions;
                     items = (deed_done (joined u rows) (discard t now from)).items;
                   }) (discard_rest t t now row);
             })

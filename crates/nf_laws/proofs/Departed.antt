@@ -129,14 +129,16 @@ unstamped t after moment now leave tops h = record {
     })
     away top (inr gone) = inr gone
 
--- the tables after a step with such deeds, whose moment is late enough
-pub kind_changed : (t : Tables) (now : ℕ) (deeds : List Deed) (leave : List ℕ) (IsPut : ℕ → Type 0) (Put : Tables → Type 0) (meta : MetaRow)
-    (report : Report) → AreSound t → t.meta.last ≤ now → (kind : Kind (stamp t now) now deeds leave IsPut Put meta)
-    → changed t now (allowed.Deeds deeds report)
-    ≡ deeds_done (deeds_done (stamp t now) (kind.one ∷ kind.more)) (purges kind.gone)
-kind_changed t now deeds leave IsPut Put meta report sound later kind =
-    stamped_some t (deeds_done t deeds) now (told_deeds t deeds) some ∙ sym (deeds_stamped t now deeds)
-    ∙ ap (deeds_done (stamp t now)) kind.are ∙ deeds_append (stamp t now) (kind.one ∷ kind.more) (purges kind.gone)
+-- something is told of such deeds
+pub kind_some : (t : Tables) (now : ℕ) (deeds : List Deed) (leave : List ℕ) (IsPut : ℕ → Type 0) (Put : Tables → Type 0) (meta : MetaRow)
+    → (kind : Kind (stamp t now) now deeds leave IsPut Put meta) → 1 ≤ length (told_deeds t deeds)
+kind_some t now deeds leave IsPut Put meta kind =
+    subst (λ (deeds : List Deed). 1 ≤ length (told_deeds t deeds)) (sym kind.are)
+    (omega (
+      arith,
+      length-append (told_deed t kind.one) (told_deeds (deed_done t kind.one) (kind.more ++ purges kind.gone)),
+      told_at kind.one (deed_told (stamp t now) now kind.one kind.fit),
+    ))
   where
     -- at whatever moment
     told_at : (one : Deed) → 1 ≤ length (told_deed (stamp t now) one) → 1 ≤ length (told_deed t one)
@@ -148,11 +150,11 @@ kind_changed t now deeds leave IsPut Put meta report sound later kind =
     told_at (deed.Requote row) some = some
     told_at (deed.Forget node at) some = some
 
-    some : 1 ≤ length (told_deeds t deeds)
-    some =
-        subst (λ (deeds : List Deed). 1 ≤ length (told_deeds t deeds)) (sym kind.are)
-        (omega (
-          arith,
-          length-append (told_deed t kind.one) (told_deeds (deed_done t kind.one) (kind.more ++ purges kind.gone)),
-          told_at kind.one (deed_told (stamp t now) now kind.one kind.fit),
-        ))
+-- the tables after a step with such deeds, whose moment is late enough
+pub kind_changed : (t : Tables) (now : ℕ) (deeds : List Deed) (leave : List ℕ) (IsPut : ℕ → Type 0) (Put : Tables → Type 0) (meta : MetaRow)
+    (report : Report) → AreSound t → t.meta.last ≤ now → (kind : Kind (stamp t now) now deeds leave IsPut Put meta)
+    → changed t now (allowed.Deeds deeds report)
+    ≡ deeds_done (deeds_done (stamp t now) (kind.one ∷ kind.more)) (purges kind.gone)
+kind_changed t now deeds leave IsPut Put meta report sound later kind =
+    stamped_some t (deeds_done t deeds) now (told_deeds t deeds) (kind_some t now deeds leave IsPut Put meta kind) ∙ sym (deeds_stamped t now deeds)
+    ∙ ap (deeds_done (stamp t now)) kind.are ∙ deeds_append (stamp t now) (kind.one ∷ kind.more) (purges kind.gone)

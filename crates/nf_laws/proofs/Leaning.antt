@@ -240,7 +240,7 @@ version_same row (x ∷ versions) rising there =
     here Less e b is found rest = absurd (never e)
     here Equal e true is found rest = ap (λ (y : VersionRow). y ∷ versions) (sym (same_Some x row found))
     here Equal e false is found rest =
-        let key : version_key row ≡ version_key x = equal_bytes (version_key row) (version_key x) Equal e in
+        let key : version_key row ≡ version_key x = (bytes_eq-Decides (version_key row) (version_key x)).0 (equal_bytes (version_key row) (version_key x) Equal e) in
         absurd (both_ways (is_version_of row.node row.at x) is
         (and_from (x.node == row.node) (x.at == row.at) (eq-eqb x.node row.node (sym (two_first key))) (eq-eqb x.at row.at (sym (two_second key)))))
     here Greater e true is found rest =

@@ -17,6 +17,8 @@ pub mod Departed
 pub mod Discarding
 pub mod Ended
 pub mod Turning
+pub mod Behind
+pub mod Refilled
 pub mod Entries
 pub mod Exceeding
 pub mod Fitting
@@ -79,3 +81,4 @@ pub mod Trashing
 pub mod Upwards
 pub mod Walked
 pub mod Weighing
+pub mod Behaving

@@ -323,10 +323,13 @@ changes_sound t now changes blob report sound later known =
     (changes_have (λ (u : Tables). AreSound u × (t.meta.last ≤ u.meta.last)) t now changes blob report sound.rising known
     (λ u row s it. (born_sound u row s.0 it.born, s.1)) (λ u row s it. (filled_sound u row s.0 it.filled, s.1))
     (λ u row s it. (mounted_sound u row s.0 it, s.1))
-    (λ u row s it. (elim it [
-      | inl new ↦ new_share_sound u row s.0 new.0 (omega (arith, sound.counters.shares, new.1))
-      | inr other ↦ other_share_sound u row s.0 other.0
-    ], s.1))
+    (λ u row s it. (
+      elim it [
+        | inl new ↦ new_share_sound u row s.0 new.0 (omega (arith, sound.counters.shares, new.1))
+        | inr other ↦ other_share_sound u row s.0 other.0
+      ],
+      s.1,
+    ))
     (λ u change s it. (people_sound u change s.0 it, subst (λ (meta : MetaRow). t.meta.last ≤ meta.last) (sym (people_last u change it)) s.1))
     (λ u change s it. (
       versions_sound t u change sound s.0 s.1 it,

@@ -97,7 +97,7 @@ deed_owners t u now (deed.Forget node at) fit has = has
 
 -- ---- every act
 
-altered_owners : (t : Tables) (now : ℕ) (act : Allowed) → AreSound t → t.meta.last ≤ now → Known t now act → KeepsOwners t (altered t now act)
+pub altered_owners : (t : Tables) (now : ℕ) (act : Allowed) → AreSound t → t.meta.last ≤ now → Known t now act → KeepsOwners t (altered t now act)
 altered_owners t now (allowed.Change changes blob report) sound later known =
     changes_have (KeepsOwners t) t now changes blob report sound.rising known (λ u row keeps it. new_owners t u row keeps it.fresh)
     (λ u row keeps it. filled_owners t u row keeps) (λ u row keeps it. keeps) (λ u row keeps it. keeps)

@@ -19,7 +19,7 @@ use Rattle.nf_base.specs.declared.rows.UserRow.{UserRow}
 use Rattle.nf_defs.proofs.Climbs.{climb_under}
 use Rattle.nf_defs.specs.Prelude.{Access, child_of, climb, content_of, dropped, folder_of, is_folder, is_root, is_under, IsDroppable, item_key, node_row, parent_of, put_all, relinked, Tables}
 use Rattle.nf_defs.specs.Tree.{trashed}
-use Rattle.nf_laws.proofs.Blobs.{Alters, given_alters, of_nodes, refilled_of}
+use Rattle.nf_laws.proofs.Blobs.{Alters, given_alters, of_nodes, refilled_of, StoresBody, version_stores}
 use Rattle.nf_laws.proofs.Climbs.{node_row_each, parent_at, row_there, some_there}
 use Rattle.nf_laws.proofs.Copied.{copy_at, walk_first}
 use Rattle.nf_laws.proofs.Entries.{step_has}
@@ -67,7 +67,7 @@ use Rattle.nf_words.specs.declared.history.Outcome.{Outcome}
 use Rattle.nf_words.specs.declared.history.Outcome.TheVariants.{Body}
 use Rattle.nf_words.specs.declared.request.Transfer.{Transfer}
 use Rattle.nf_words.specs.declared.request.Wanted.{Wanted}
-use Rattle.nf_words.specs.Prelude.{access_of, allowed_of, AreSound, beside, besides, Call, call_of, changed, changes_by, changes_of, changes_to, copies, copies_to, crossing, decision_of, deed_done, deeds_done, discard, discards, end_refusal, ends_at, ends_goal, given, goal_at, goes_itself, IsRequoted, IsSound, item_for, joined, LeadsToRoot, listing_of, MayAsk, meta_after, moves, node_at, places_of, purged, purges, raised, refilled, refusal_of, row_at, served, stamped, State, step, stored_at, told, told_deeds, unless_refused, way_of, with_meta, forgets, drop_version}
+use Rattle.nf_words.specs.Prelude.{access_of, allowed_of, AreSound, beside, besides, Call, call_of, changed, changes_by, changes_of, changes_to, copies, copies_to, crossing, decision_of, deed_done, deeds_done, discard, discards, end_refusal, ends_at, ends_goal, given, goal_at, goes_itself, IsRequoted, IsSound, item_for, joined, LeadsToRoot, listing_of, MayAsk, meta_after, moves, node_at, places_of, purged, purges, raised, refilled, refusal_of, row_at, served, stamped, State, step, stored_at, told, told_deeds, unless_refused, way_of, with_meta, forgets, drop_version, version_done}
 use Rattle.nf_words.proofs.Forgetting.{IsVersion, rows_there}
 use Rattle.nf_retention.specs.declared.versions.Version.{Version}
 
@@ -549,7 +549,10 @@ begin_nodes call asked =
       | inl get ↦
           subst (λ (w : Wanted). IsBuilt (given (access_of call.state) call (places_of call) w)) (sym get.1)
           (served_nodes (way_of call get.0).mount (node_at (places_of call).source))
-      | inr alters ↦ alters_nodes (given (access_of call.state) call (places_of call) asked) alters
+      | inr (inl version) ↦
+          subst (λ (w : Wanted). IsBuilt (given (access_of call.state) call (places_of call) w)) (sym version.1)
+          (stores_nodes (version_done call.state.tables call.now version.0) (version_stores call.state.tables call.now [] version.0))
+      | inr (inr alters) ↦ alters_nodes (given (access_of call.state) call (places_of call) asked) alters
     ]
   where
     served_nodes : (mount o : Option ℕ) → IsBuilt (served (access_of call.state) call mount o)
@@ -560,9 +563,14 @@ begin_nodes call asked =
         (λ folder. tt) (λ file. tt)
 
     alters_nodes : (act : Allowed) → Alters call.state.tables act → IsBuilt act
-    alters_nodes (allowed.Change changes blob report) alters =
-        elim alters.1 [ inl empty ↦ of_nodes [] changes empty | inr (node, content, of, are) ↦ of_nodes content changes are ]
+    alters_nodes (allowed.Change changes blob report) alters = of_nodes [] changes alters.1
     alters_nodes act alters = tt
+
+    stores_nodes : (act : Allowed) → StoresBody call.state.tables [] act → IsBuilt act
+    stores_nodes (allowed.Change changes blob report) (inl (none, inl empty)) = of_nodes [] changes empty
+    stores_nodes (allowed.Change changes blob report) (inl (none, inr (node, content, of, are))) = of_nodes content changes are
+    stores_nodes (allowed.Change changes blob report) (inr some) = of_nodes _ changes some.1
+    stores_nodes act stores = tt
 
 drops_built : (gone : List Version) → AreBuilt (map drop_version gone)
 drops_built [] = tt

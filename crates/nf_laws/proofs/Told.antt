@@ -363,7 +363,6 @@ deed_differs t u (deed.Join copies) sound (below, numbered) rise was were =
     (λ k d within. new_differs t (get_or copies k d) sound (omega (arith, numbered k d within)))
 deed_differs t u (deed.Requote row) sound is rise was were =
     All-cons (Differs t) (Put (rows.User row)) [] (user_differs t row is) (All-nil (Differs t))
-
 deed_differs t u (deed.Forget node at) sound is rise was were =
     All-cons (Differs t) (Drop (keys.Version node at)) [] (drop_differs t (record { node = node; at = at; size = 0 }) is) (All-nil (Differs t))
 

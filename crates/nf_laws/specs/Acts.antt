@@ -1,5 +1,5 @@
 -- What a DELETE, a MKCOL, a PUT, a MOVE of a mount and a sweep change, and what is asked about the trash, and that they change nothing else.
-use Rattle.std.specs.Prelude.{◌≡◌, ◌≢◌, ◌↔◌, ◌≤◌, ◌⊎◌, ℕ, ◌+◌, Bool, true, false, List, [], ◌∷◌, length, Option, None, Some, Ok, IsOk, IfSome, is_some, All, Contains}
+use Rattle.std.specs.Prelude.{◌≡◌, ◌≢◌, ◌↔◌, ◌≤◌, ◌⊎◌, ℕ, ◌+◌, Bool, true, false, List, [], ◌∷◌, length, Option, None, Some, Ok, IsOk, IfSome, All, Contains}
 use Rattle.nf_access.specs.Mounts.{mount_row}
 use Rattle.nf_access.specs.Shares.{share_row}
 use Rattle.nf_base.specs.declared.content.Piece.{Piece}
@@ -15,7 +15,7 @@ use Rattle.nf_laws.specs.Access.{LeadsBy}
 use Rattle.nf_laws.specs.Reads.{LeadsToKey}
 use Rattle.nf_laws.specs.Tree.{Under}
 use Rattle.nf_laws.specs.Wholes.{blob_in}
-use Rattle.nf_words.specs.Prelude.{after, answer_to, asker_of, behind, blob_for, Call, call_of, content_in, ended_row, goal_at, gone_from, home_of, IsSound, last_name, left_row, MayAsk, mount_of, name_back, named_row, root_of, seeker_of, State, step, user_of, version_row, versions_there, way_of, without_ticket}
+use Rattle.nf_words.specs.Prelude.{after, answer_to, asker_of, behind, blob_for, Call, call_of, content_in, ended_row, goal_at, gone_from, home_of, IsSound, last_name, left_row, MayAsk, mount_of, name_back, named_row, root_of, seeker_of, State, step, user_of, versions_there, way_of, without_ticket}
 use Rattle.nf_words.specs.declared.answer.By.{By}
 use Rattle.nf_words.specs.declared.answer.Goal.TheVariants.{Store}
 use Rattle.nf_words.specs.declared.answer.LockKey.{LockKey}
@@ -95,18 +95,14 @@ pub record HaveLeft (before after : Tables) (now : ℕ) (leave tops : List ℕ) 
 abbrev pub AreVersionsLeft : Tables → Tables → Type 0
 AreVersionsLeft before after = after.versions ≡ versions_there after.nodes before.versions
 
--- each version is one that there was, and of the files that are there each is, but for some of that user's
-pub record AreVersionsOf (before after : Tables) (user : ℕ) : Type 0 where
-  pub were : (node at : ℕ) (row : VersionRow) → version_row after.versions node at ≡ Some row → version_row before.versions node at ≡ Some row
-  pub others : (node at : ℕ) (row : VersionRow) → version_row before.versions node at ≡ Some row → is_some (node_row after.nodes node) ≡ true
-      → owner_of before.nodes node ≢ user → version_row after.versions node at ≡ Some row
+-- each version is one that there was
+abbrev pub AreVersionsFewer : Tables → Tables → Type 0
+AreVersionsFewer before after = All (λ (version : VersionRow). Contains before.versions version) after.versions
 
--- each version is one that there was, or what that file had, and none of the files of others is another
-pub record AreVersionsTurned (before after : Tables) (file : NodeRow) : Type 0 where
-  pub were : (node at : ℕ) (row : VersionRow) → version_row after.versions node at ≡ Some row
-      → (version_row before.versions node at ≡ Some row) ⊎ ((node ≡ file.id) × (row ≡ version_for file))
-  pub others : (node at : ℕ) (row : VersionRow) → version_row before.versions node at ≡ Some row → owner_of before.nodes node ≢ file.owner
-      → version_row after.versions node at ≡ Some row
+-- or what its file had
+abbrev pub IsOldVersion : Tables → VersionRow → Type 0
+IsOldVersion before version =
+    Contains before.versions version ⊎ ((was : NodeRow) × (node_row before.nodes version.node ≡ Some was) × (version ≡ version_for was))
 
 -- ---- DELETE
 
@@ -174,7 +170,7 @@ EmptyingKeeps =
 
 -- the node of an item of the caller's is in a folder of the caller's that is present: the one that it came from, or else the root. It has
 -- a name there that was free, and is an item no more; all under it is as it was. Of the caller's other items some may be gone for good,
--- each with all under it, and some of the caller's versions, and nothing else is another but the moment
+-- each with all under it, and some versions may be gone, and nothing else is another but the moment
 pub record IsRestored (call : Call) (node : ℕ) (after : Tables) : Type 0 where
   pub item : ItemRow
   pub there : item_row call.state.tables.items node ≡ Some item
@@ -192,7 +188,7 @@ pub record IsRestored (call : Call) (node : ℕ) (after : Tables) : Type 0 where
   pub others : (other : ℕ) → other ≢ node → (IsUnderOne call.state.tables.nodes tops other → ⊥)
       → node_row after.nodes other ≡ node_row call.state.tables.nodes other
   pub items : (other : ℕ) → other ≢ node → (Contains tops other → ⊥) → item_row after.items other ≡ item_row call.state.tables.items other
-  pub versions : AreVersionsOf call.state.tables after (asker_of call)
+  pub versions : AreVersionsFewer call.state.tables after
   pub rest : after ≡ record call.state.tables {
     meta = record call.state.tables.meta { last = call.now };
     nodes = after.nodes;
@@ -269,7 +265,7 @@ pub record IsAdded (before after : Tables) (now folder : ℕ) (name : List ℕ) 
     changed = now;
   })
   pub others : (node : ℕ) → node ≢ before.meta.next_node → node_row after.nodes node ≡ node_row before.nodes node
-  pub versions : AreVersionsOf before after (owner_of before.nodes folder)
+  pub versions : AreVersionsFewer before after
   pub rest : after ≡ record before {
     meta = record before.meta {
       next_node = before.meta.next_node + 1;
@@ -315,7 +311,7 @@ PutsAreGranted =
     → IsGranted s seat now words request spot size
 
 -- the file has the new content, which became current at the moment, and nothing else of it is another; every other node is as it was.
--- What it had may be a version, and of its owner's versions some may be gone; every other version is as it was.
+-- Each version is one that there was, or what its file had.
 -- Of the meta row these alone are others: the next number of a blob, which is as many more as the content has pieces, and the moment,
 -- unless the file was just so before
 pub record IsRefilled (before after : Tables) (now node : ℕ) (content : List Piece) : Type 0 where
@@ -324,7 +320,7 @@ pub record IsRefilled (before after : Tables) (now node : ℕ) (content : List P
   pub file : is_folder_kind row.kind ≡ false
   pub itself : node_row after.nodes node ≡ Some (record row { content = content; changed = now })
   pub others : (other : ℕ) → other ≢ node → node_row after.nodes other ≡ node_row before.nodes other
-  pub versions : AreVersionsTurned before after row
+  pub versions : All (IsOldVersion before) after.versions
   pub rest : after ≡ record before {
     meta = record before.meta { next_blob = before.meta.next_blob + length content; last = after.meta.last };
     nodes = after.nodes;

@@ -17,3 +17,5 @@ pub mod Shares
 pub mod Stacked
 pub mod Stays
 pub mod Unbroken
+pub mod Settled
+pub mod Held

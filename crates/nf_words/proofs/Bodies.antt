@@ -23,6 +23,18 @@ IsOfBody meta (Some blob) content =
     × ((size : ℕ) × (digest : List ℕ) × (1 ≤ size) × (size ≤ MAX_BODY)
     × (content ≡ record { blob = blob; size = size; digest = digest } ∷ []))
 
+-- a blob that is stored has the next number
+abbrev pub IsNext : ℕ → Option ℕ → Type 0
+IsNext next None = Unit {0}
+IsNext next (Some id) = id ≡ next
+
+pub body_next : (meta : MetaRow) (blob : Option ℕ) (content : List Piece) → IsOfBody meta blob content → IsNext meta.next_blob blob
+body_next meta None content of_body = tt
+body_next meta (Some id) content of_body = of_body.0
+
+pub none_next : (next : ℕ) (blob : Option ℕ) → blob ≡ None → IsNext next blob
+none_next next blob none = subst (IsNext next) (sym none) tt
+
 -- it has so many pieces, and its blob is counted once
 pub record IsBody (meta : MetaRow) (size : ℕ) (blob : Option ℕ) (content : List Piece) : Type 0 where
   pub of_body : IsOfBody meta blob content

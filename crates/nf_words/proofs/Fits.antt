@@ -24,7 +24,7 @@ use Rattle.nf_words.proofs.Forgetting.{AreTwo, drop_differs, IsVersion, pairs_ma
 use Rattle.nf_words.specs.Lean.{changed_key}
 use Rattle.nf_words.specs.Versions.{drop_version, version_for, version_row}
 use Rattle.nf_defs.specs.Prelude.{child_of, depth, is_folder, is_folder_kind, made, node_key, node_row, put, Tables}
-use Rattle.nf_words.proofs.Bodies.{IsOfBody, body_sound}
+use Rattle.nf_words.proofs.Bodies.{IsOfBody, body_sound, IsNext, body_next}
 use Rattle.nf_words.proofs.Found.{found_has, put_is_found}
 use Rattle.nf_words.specs.Prelude.{AreSound, blob_after, counted, IsBorn, IsFilled, IsLean, IsMountSound, IsNewMount, IsNewShare, IsNewUser, IsNewVersion, IsNodeSound, IsOfPeople, IsOtherShare, IsRemounted, IsShareSound, IsUnmounted, last_number, LeadsToRoot, last_short, limit_passed, new_node, raised, stored_pieces}
 use Rattle.nf_words.specs.declared.answer.Limit.TheVariants as limit
@@ -122,6 +122,7 @@ pub record KnownChange (t : Tables) (now : ℕ) (changes : List Change) (blob : 
   pub rows : KnownRows t blob (raised t now changes blob) changes
   pub lean : IsLean t changes
   pub stored : changes ≡ [] → blob ≡ None
+  pub next : IsNext t.meta.next_blob blob
   pub next_user : (counted t.meta changes).next_user ≤ max t.meta.next_user last_short
   pub next_group : (counted t.meta changes).next_group ≤ max t.meta.next_group last_short
   pub next_node : (counted t.meta changes).next_node ≤ max t.meta.next_node last_number
@@ -231,6 +232,7 @@ new_known t now folder name kind content blob blobs gone sound there present fre
           (drops_rows t blob (made up (Put (rows.Node row))) gone);
       lean = lean_more t (Put (rows.Node row)) (drops gone) (put_differs t row (not_there t row sound refl)) (node_apart row gone) (drops_lean t gone versions two);
       stored = λ none. absurd (cc);
+      next = body_next t.meta blob content body;
       next_user = omega (arith, ap (λ (meta : MetaRow). meta.next_user) count);
       next_group = omega (arith, ap (λ (meta : MetaRow). meta.next_group) count);
       next_node = omega (arith, fits.next_node, next);

@@ -121,7 +121,7 @@ abbrev pub IsVersion : Tables → Version → Type 0
 IsVersion t version = is_some (version_row t.versions version.node version.at) ≡ true
 
 -- each row is found
-rows_there : (rows : List VersionRow) → All (λ (row : VersionRow). is_some (version_row rows row.node row.at) ≡ true) rows
+pub rows_there : (rows : List VersionRow) → All (λ (row : VersionRow). is_some (version_row rows row.node row.at) ≡ true) rows
 rows_there [] = All-nil (λ (row : VersionRow). is_some (version_row [] row.node row.at) ≡ true)
 rows_there (first ∷ rows) =
     All-cons (λ (row : VersionRow). is_some (version_row (first ∷ rows) row.node row.at) ≡ true) first rows
@@ -307,7 +307,7 @@ module _ (t : Tables) (now : ℕ) (back : Option ℕ) (row : NodeRow) (rising : 
 -- ---- versions that are dropped
 
 -- one that is dropped isn't there
-version_gone : (versions : List VersionRow) (node at : ℕ) → version_row (dropped version_key (node ∷ at ∷ []) versions) node at ≡ None
+pub version_gone : (versions : List VersionRow) (node at : ℕ) → version_row (dropped version_key (node ∷ at ∷ []) versions) node at ≡ None
 version_gone versions node at =
     here (version_row (dropped version_key (node ∷ at ∷ []) versions) node at) refl
     (found_has (λ (row : VersionRow). bytes_eq (node ∷ at ∷ []) (version_key row) ≡ false) (λ (row : VersionRow). row.node == node && row.at == at)

@@ -24,7 +24,7 @@ use Rattle.nf_base.specs.declared.rows.VersionRow.{VersionRow}
 use Rattle.nf_defs.proofs.Puts.{below_one, key_total, same_one}
 use Rattle.nf_defs.specs.Prelude.{by_order, filled, is_folder_kind, key_cmp, made, node_key, node_row, piece_count, put, Tables, version_key}
 use Rattle.nf_retention.specs.declared.versions.Version.{Version}
-use Rattle.nf_words.proofs.Bodies.{IsOfBody, body_sound, content_decides}
+use Rattle.nf_words.proofs.Bodies.{IsOfBody, body_sound, content_decides, IsNext, body_next, none_next}
 use Rattle.nf_words.proofs.Fits.{AreApart, Differs, drops, drops_count, drops_lean, drops_rows, IsOfVersion, KnownChange, KnownRows, KnownVersion, lean_more, node_apart, one_more, put_differs, put_found}
 use Rattle.nf_words.proofs.Forgetting.{AreTwo, gone_may, gone_two, heads, IsVersion, tails}
 use Rattle.nf_words.proofs.Found.{found_has, put_is_found}
@@ -310,6 +310,10 @@ module _ (t : Tables) (now : ℕ) (back : Option ℕ) (content : List Piece) (ro
             (still u version.content (omega (arith, given, next_le t.meta.next_blob blob)) is.pieces))
       ]
 
+  next_in : (blob : Option ℕ) → IsOfBody t.meta blob content ⊎ ((blob ≡ None) × IsOfVersion t row.id content) → IsNext t.meta.next_blob blob
+  next_in blob (inl of) = body_next t.meta blob content of
+  next_in blob (inr (none, of)) = none_next t.meta.next_blob blob none
+
   pub refills_known : (blob : Option ℕ) → stored_pieces t + length content ≤ MAX_STORED_PIECES
       → (becomes ≡ true → length t.versions + 1 ≤ MAX_VERSIONS) → blob_after t.meta.next_blob blob ≤ max t.meta.next_blob last_number
       → IsOfBody t.meta blob content ⊎ ((blob ≡ None) × IsOfVersion t row.id content) → (is_same now content row ≡ true → blob ≡ None)
@@ -328,6 +332,7 @@ module _ (t : Tables) (now : ℕ) (back : Option ℕ) (content : List Piece) (ro
                 (version_in up refl row there file (next_le t.meta.next_blob blob) few_versions (omega (arith, few, ap length same)));
             lean = turned_lean is_put refl;
             stored = λ none. stored e;
+            next = next_in blob body;
             next_user = omega (arith, ap (λ (meta : MetaRow). meta.next_user) count);
             next_group = omega (arith, ap (λ (meta : MetaRow). meta.next_group) count);
             next_node = omega (arith, ap (λ (meta : MetaRow). meta.next_node) count);
@@ -358,6 +363,7 @@ module _ (t : Tables) (now : ℕ) (back : Option ℕ) (content : List Piece) (ro
                 (omega (arith, few, refilled_pieces t.nodes row new sound.rising there refl))));
             lean = lean_more t (Put (rows.Node new)) (turned is_put) (put_differs t new (differs e)) (turned_apart new is_put) (turned_lean is_put refl);
             stored = λ none. absurd (cc);
+            next = next_in blob body;
             next_user = omega (arith, ap (λ (meta : MetaRow). meta.next_user) count);
             next_group = omega (arith, ap (λ (meta : MetaRow). meta.next_group) count);
             next_node = omega (arith, fine.given, ap (λ (meta : MetaRow). meta.next_node) count);
