@@ -56,20 +56,26 @@ pub fn version_segments(alloc: Global, target: &[u8]) -> Result<Vec<Vec<u8>>, Al
 pub fn restores(alloc: Global, user: &[u8], target: &[u8]) -> Result<bool, AllocError>
     ensures { IfOk result (λ is. is ≡ restores user.now target.now) }
 {
-    let Some(rest) = behind_trashbin(target) else {
-        return Ok(false);
-    };
-    let pieces = pieces(alloc, rest)?;
-    is_restore_of(alloc, user, &pieces)
+    match behind_trashbin(target) {
+        Some(rest) => comes_back(alloc, user, rest),
+        None => Ok(false),
+    }
 }
 
 /// Whether it names what versions come back to by that user: `/remote.php/dav/versions/USER/restore/ANY`.
 pub fn restores_version(alloc: Global, user: &[u8], target: &[u8]) -> Result<bool, AllocError>
     ensures { IfOk result (λ is. is ≡ restores_version user.now target.now) }
 {
-    let Some(rest) = behind_versions(target) else {
-        return Ok(false);
-    };
+    match behind_versions(target) {
+        Some(rest) => comes_back(alloc, user, rest),
+        None => Ok(false),
+    }
+}
+
+// Whether what is behind those words, cut as it was sent, is where something of that user's comes back.
+fn comes_back(alloc: Global, user: &[u8], rest: &[u8]) -> Result<bool, AllocError>
+    ensures { IfOk result (λ is. is ≡ is_restore_of user.now (slice_split is_slash rest.now)) }
+{
     let pieces = pieces(alloc, rest)?;
     is_restore_of(alloc, user, &pieces)
 }
