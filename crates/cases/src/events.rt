@@ -167,7 +167,7 @@ fn bytes_of(
     let Some(end) = stage.end_of(step) else {
         return Ok((head.to_vec(alloc)?, Vec::new(alloc)));
     };
-    if head.starts_with(b"GET ") {
+    if is_get(head) {
         return bytes_of_get(alloc, head);
     }
     let field = if goes_away(case, stage, step) {
@@ -179,6 +179,11 @@ fn bytes_of(
         with_field(alloc, head, field)?,
         sent_at(case, end).to_vec(alloc)?,
     ))
+}
+
+// Whether a head asks by GET, behind the empty lines that may stand before it.
+fn is_get(head: &[u8]) -> bool {
+    head.trim_ascii_start().starts_with(b"GET ")
 }
 
 // A GET's head and the bytes that the session skips behind it: its own, where it announces some.

@@ -12,7 +12,7 @@ pub const MAX_TAKEN: usize = 1_000_000;
 /// The most pieces of one content.
 pub const MAX_PIECES: usize = 10_000;
 
-/// The most pieces of all nodes together. One that two nodes have counts twice.
+/// The most pieces of all nodes and versions together. One that two of them have counts twice.
 pub const MAX_STORED_PIECES: u32 = 1_048_576;
 
 /// The most nodes, of all users together.
@@ -38,6 +38,9 @@ pub const MAX_CHAIN: usize = 16;
 
 /// The most mounts, of all users together, with those that were left.
 pub const MAX_MOUNTS: usize = 262_144;
+
+/// The most versions, of all files together.
+pub const MAX_VERSIONS: usize = 262_144;
 
 /// The most bytes that a user's quota may allow: 1 TiB.
 pub const MAX_QUOTA: u64 = 1_099_511_627_776;

@@ -68,6 +68,7 @@ IsCalmResponse (response.Listing lines) = Unit {0}
 IsCalmResponse (response.Share line) = Unit {0}
 IsCalmResponse (response.Shares lines) = Unit {0}
 IsCalmResponse (response.Items lines) = Unit {0}
+IsCalmResponse (response.Versions lines) = Unit {0}
 IsCalmResponse response.Plain = Unit {0}
 
 -- an end that comes of no fault of reading or writing, no piece that isn't given, and no want of memory

@@ -39,12 +39,14 @@ use Rattle.nf_words.specs.declared.route.Route.TheVariants as route
 use Rattle.nf_ocs.specs.Asked.{is_ocs_route, ocs_request_of}
 use Rattle.nf_ocs.specs.Read.{and_then}
 use Rattle.nf_ocs.proofs.Asks.{AsksOwn, AsksWell, IsFine, NamesNobody, fine_request}
-use Rattle.nf_dav.specs.Asked.{caller_by, caller_of, caller_of_value, destination_of, field, files_refusal, files_request, first_of, front_on, Gives, is_destination, is_stray, is_trash_route, leads_alike, ocs_request, on_route, other_request, request_of, routed, second_segments, second_spot, segments_fault, spot_at, target_spot, transfer_refusal, trash_asked, trash_refusal, trash_request, unless_refused, wanted_of}
+use Rattle.nf_dav.specs.Asked.{caller_by, caller_of, caller_of_value, destination_of, field, files_refusal, files_request, first_of, front_on, Gives, is_destination, is_stray, is_trash_route, is_version_route, leads_alike, ocs_request, on_route, other_request, request_of, routed, second_segments, second_spot, segments_fault, spot_at, target_spot, transfer_refusal, trash_asked, trash_refusal, trash_request, unless_refused, version_asked, version_refusal, version_request, wanted_of}
 use Rattle.nf_dav.specs.declared.fronts.Front.{Front}
 use Rattle.nf_dav.specs.declared.fronts.Front.TheVariants as fronts
 use Rattle.nf_dav.specs.declared.requests.Unasked.{Unasked}
 use Rattle.nf_words.specs.declared.request.TrashAsk.{TrashAsk}
 use Rattle.nf_words.specs.declared.request.TrashAsk.TheVariants as trash
+use Rattle.nf_words.specs.declared.request.VersionAsk.{VersionAsk}
+use Rattle.nf_words.specs.declared.request.VersionAsk.TheVariants as version
 
 -- ---- the route and the method
 
@@ -85,15 +87,37 @@ pub record IsAskedOfTrash (head : Head) (request : Request) : Type 0 where
   pub named : method_of head.method ≡ Some method
   pub asked : trash_request route method head ≡ Ok request
 
+-- what is asked about versions by a method of a route
+pub record IsAskedOfVersions (head : Head) (request : Request) : Type 0 where
+  pub route : Route
+  pub method : Method
+  pub named : method_of head.method ≡ Some method
+  pub asked : version_request route method head ≡ Ok request
+
 -- what is asked of no route to files
 abbrev pub IsAskedElsewhere : Head → List ℕ → Request → Type 0
-IsAskedElsewhere head body request = IsAskedOfOcs head body request ⊎ IsAskedOfTrash head request
+IsAskedElsewhere head body request = IsAskedOfOcs head body request ⊎ (IsAskedOfTrash head request ⊎ IsAskedOfVersions head request)
 
 pub asked_there : (head : Head) (body : List ℕ) (request : Request) → request_of head body ≡ Ok request
     → IsAskedThere head request ⊎ IsAskedElsewhere head body request
 unfolding request_of
 asked_there head body request is = on (route_of head.target) refl is
   where
+    beside : (r : Route) (m : Method) → method_of head.method ≡ Some m
+        → (if is_trash_route r then trash_request r m head else if is_version_route r then version_request r m head else Err denial.NotBuilt) ≡ Ok request
+        → IsAskedOfTrash head request ⊎ IsAskedOfVersions head request
+    beside r m named is =
+        elim (either_of (is_trash_route r) (trash_request r m head) _ request is) [
+          | inl asked ↦ inl (record { route = r; method = m; named = named; asked = asked })
+          | inr other ↦
+              inr (record {
+                route = r;
+                method = m;
+                named = named;
+                asked = (granted (is_version_route r) denial.NotBuilt (version_request r m head) request other).1;
+              })
+        ]
+
     which : (r : Route) (m : Method) → route_of head.target ≡ Some r → method_of head.method ≡ Some m
         → (front : Option Front) → front_on r ≡ front
         → option_map_or (λ front. files_request front m head) front (other_request r m head body) ≡ Ok request
@@ -103,13 +127,7 @@ asked_there head body request is = on (route_of head.target) refl is
     which r m at named None on is =
         elim (either_of (is_ocs_route r) (ocs_request r m head body) _ request is) [
           | inl asked ↦ inr (inl (record { route = r; method = m; named = named; asked = asked }))
-          | inr other ↦
-              inr (inr (record {
-                route = r;
-                method = m;
-                named = named;
-                asked = (granted (is_trash_route r) denial.NotBuilt (trash_request r m head) request other).1;
-              }))
+          | inr other ↦ inr (inr (beside r m named other))
         ]
 
     by : (r : Route) → route_of head.target ≡ Some r → (m : Option Method) → method_of head.method ≡ m
@@ -270,13 +288,13 @@ ocs_only (Ok asked) caller request well is =
     ap (λ (request : Request). is_about_files request.wanted) (sym same) ∙ well_of_ocs asked well
 ocs_only (Err refusal) caller request well is = absurd (cc)
 
--- nor is what is asked of the trash bin
-trash_only : (refusal : Option Denial) (caller : Caller) (asked : TrashAsk) (request : Request)
-    → unless_refused refusal (record { caller = caller; wanted = wanted.Trash asked }) ≡ Ok request → is_about_files request.wanted ≡ false
-trash_only None caller asked request is =
-    let same : record { caller = caller; wanted = wanted.Trash asked } ≡ request = cc in
-    ap (λ (request : Request). is_about_files request.wanted) (sym same)
-trash_only (Some refusal) caller asked request is = absurd (cc)
+-- nor is what is asked of the trash bin, or about versions
+beside_only : (refusal : Option Denial) (caller : Caller) (asked : Wanted) (request : Request) → is_about_files asked ≡ false
+    → unless_refused refusal (record { caller = caller; wanted = asked }) ≡ Ok request → is_about_files request.wanted ≡ false
+beside_only None caller asked request other is =
+    let same : record { caller = caller; wanted = asked } ≡ request = cc in
+    ap (λ (request : Request). is_about_files request.wanted) (sym same) ∙ other
+beside_only (Some refusal) caller asked request other is = absurd (cc)
 
 -- what is asked about files is asked elsewhere
 pub asked_no_ocs : (head : Head) (body : List ℕ) (request : Request) → request_of head body ≡ Ok request → is_about_files request.wanted ≡ true
@@ -288,9 +306,12 @@ asked_no_ocs head body request is other = here (asked_there head body request is
     here (inr (inl there)) =
         absurd (false≢true (sym (ocs_only (ocs_request_of there.route there.method head body) (caller_of head) request
         (fine_request there.route there.method head body) there.asked) ∙ other))
-    here (inr (inr there)) =
-        absurd (false≢true (sym (trash_only (trash_refusal there.route there.method head) (caller_of head)
-        (trash_asked there.route there.method head) request there.asked) ∙ other))
+    here (inr (inr (inl there))) =
+        absurd (false≢true (sym (beside_only (trash_refusal there.route there.method head) (caller_of head)
+        (wanted.Trash (trash_asked there.route there.method head)) request refl there.asked) ∙ other))
+    here (inr (inr (inr there))) =
+        absurd (false≢true (sym (beside_only (version_refusal there.route there.method head) (caller_of head)
+        (wanted.Version (version_asked there.route there.method head)) request refl there.asked) ∙ other))
 
 pub asked_no_head : (head : Head) (body : List ℕ) (request : Request) → request_of head body ≡ Ok request → bytes_eq head.method (codes "HEAD") ≡ false
 asked_no_head head body request is = by (asked_there head body request is)
@@ -302,7 +323,8 @@ asked_no_head head body request is = by (asked_there head body request is)
     by : IsAskedThere head request ⊎ IsAskedElsewhere head body request → bytes_eq head.method (codes "HEAD") ≡ false
     by (inl there) = here there.method there.named (bytes_eq head.method (codes "HEAD")) refl
     by (inr (inl there)) = here there.method there.named (bytes_eq head.method (codes "HEAD")) refl
-    by (inr (inr there)) = here there.method there.named (bytes_eq head.method (codes "HEAD")) refl
+    by (inr (inr (inl there))) = here there.method there.named (bytes_eq head.method (codes "HEAD")) refl
+    by (inr (inr (inr there))) = here there.method there.named (bytes_eq head.method (codes "HEAD")) refl
 
 -- ---- what may be asked
 
@@ -461,6 +483,16 @@ may_ask_trash caller (trash.Restore user item) = record { bounds = tt; short = t
 pub trash_may_want : (r : Route) (m : Method) (head : Head) (request : Request) → trash_request r m head ≡ Ok request → MayWant request
 trash_may_want r m head request is =
     subst MayWant (unrefused_request (trash_refusal r m head) _ request is).1 (may_ask_trash (caller_of head) (trash_asked r m head))
+
+-- nor what is asked about versions
+may_ask_version : (caller : Caller) (asked : VersionAsk) → MayWant (record { caller = caller; wanted = wanted.Version asked })
+may_ask_version caller (version.List user node) = record { bounds = tt; short = tt; source = tt; target = tt }
+may_ask_version caller (version.Get user node at) = record { bounds = tt; short = tt; source = tt; target = tt }
+may_ask_version caller (version.Restore user node at) = record { bounds = tt; short = tt; source = tt; target = tt }
+
+pub version_may_want : (r : Route) (m : Method) (head : Head) (request : Request) → version_request r m head ≡ Ok request → MayWant request
+version_may_want r m head request is =
+    subst MayWant (unrefused_request (version_refusal r m head) _ request is).1 (may_ask_version (caller_of head) (version_asked r m head))
 
 pub may_ask_so : (r : Route) (m : Method) (head : Head) (body : List ℕ) (caller : Caller) (asked : Wanted)
     → ocs_request_of r m head body ≡ Ok asked → MayWant (record { caller = caller; wanted = asked })

@@ -135,12 +135,35 @@ trash_parameters r m head = tt
 on_trash : (r : Route) (m : Method) (head : Head) → IsOfRequest (dav.trash_request r m head)
 on_trash r m head = unless_any (dav.trash_refusal r m head) _ (or_else _ _ (trash_parameters r m head) (names _))
 
+version_back : (head : Head) (numbers : Option Denial) → AreOfRequest numbers
+    → AreOfRequest (dav.version_parameter_refusal method.Move head numbers)
+version_back head numbers are =
+    or_else _ _ (unless (dav.version_back head) (denial.BadParameter parameter.Destination) refl) (or_else _ _ (depth head) are)
+
+version_parameters : (m : Method) (head : Head) (numbers : Option Denial) → AreOfRequest numbers
+    → AreOfRequest (dav.version_parameter_refusal m head numbers)
+version_parameters method.Move head numbers are = version_back head numbers are
+version_parameters m head numbers are = are
+
+moment : (r : Route) (at : Option ℕ) → AreOfRequest (dav.moment_refusal r at)
+moment route.Version at = unless (is_some at) (denial.BadParameter parameter.At) refl
+moment r at = tt
+
+numbers : (r : Route) (node at : Option ℕ) → AreOfRequest (dav.numbers_refusal r node at)
+numbers r node at = or_else _ _ (unless (is_some node) (denial.BadParameter parameter.Id) refl) (moment r at)
+
+on_versions : (r : Route) (m : Method) (head : Head) → IsOfRequest (dav.version_request r m head)
+on_versions r m head =
+    unless_any (dav.version_refusal r m head) _
+    (or_else _ _ (version_parameters m head _ (numbers r (dav.version_node head) (dav.version_moment head))) (names _))
+
 by : (r : Route) (m : Option Method) (head : Head) (body : List ℕ)
     → IsOfRequest (option_map_or (λ m. dav.routed r m head body) m (Err (denial.Method r)))
 by r None head body = refl
 by r (Some m) head body =
     checked (not (takes r m)) _ _ refl
-    (there (dav.front_on r) (checked (is_ocs_route r) _ _ (on_ocs r m head body) (checked (dav.is_trash_route r) _ _ (on_trash r m head) refl)))
+    (there (dav.front_on r) (checked (is_ocs_route r) _ _ (on_ocs r m head body) (checked (dav.is_trash_route r) _ _ (on_trash r m head)
+    (checked (dav.is_version_route r) _ _ (on_versions r m head) refl))))
   where
     there : (front : Option Front) → IsOfRequest (dav.other_request r m head body)
         → IsOfRequest (option_map_or (λ front. dav.files_request front m head) front (dav.other_request r m head body))

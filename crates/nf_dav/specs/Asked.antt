@@ -1,5 +1,5 @@
 -- The request of a message: GET, PUT and DELETE (RFC 9110, section 9.3), MKCOL, COPY and MOVE (RFC 4918, sections 9.3, 9.8 and 9.9) in
--- a user's files and in what a link shares, what is asked about the trash bin (Nextcloud developer manual, Trashbin), and what is asked about
+-- a user's files and in what a link shares, what is asked about the trash bin and about versions (Nextcloud developer manual, Trashbin and Versions), and what is asked about
 -- shares, users and groups (the same, OCS Share API and User provisioning API), by the holder of a token (RFC 6750, section 2.1) or by whoever knows a link.
 use Rattle.std.specs.Prelude.{◌≡◌, ⊤, ℕ, Bool, true, false, ◌||◌, ◌&&◌, ◌==◌, nat_le, not, if◌then◌else◌, List, [], ◌∷◌, length, take, drop, codes, bytes_eq, Option, None, Some, is_some, Result, Ok, Err, option_map, option_and_then, slice_get, unwrap_or}
 use Rattle.std.specs.List.{list_any}
@@ -12,7 +12,7 @@ use Rattle.nf_http.specs.Fields.{first_value}
 use Rattle.nf_http.specs.Head.{Head, length_of}
 use Rattle.nf_routes.specs.Methods.{method_of, takes}
 use Rattle.nf_routes.specs.Mounts.{route_of}
-use Rattle.nf_routes.specs.Targets.{is_ocs, restores, segments_of, trash_segments}
+use Rattle.nf_routes.specs.Targets.{is_ocs, restores, restores_version, segments_of, trash_segments, version_segments}
 use Rattle.nf_routes.specs.declared.methods.Method.{Method}
 use Rattle.nf_routes.specs.declared.methods.Method.TheVariants as method
 use Rattle.nf_words.specs.declared.answer.Denial.{Denial}
@@ -36,6 +36,8 @@ use Rattle.nf_dav.specs.declared.requests.Unasked.{Unasked}
 use Rattle.nf_dav.specs.declared.requests.Unasked.TheVariants.{Refused, Memory}
 use Rattle.nf_ocs.specs.Parameters.{number_in}
 use Rattle.nf_words.specs.declared.request.TrashAsk.{TrashAsk}
+use Rattle.nf_words.specs.declared.request.VersionAsk.{VersionAsk}
+use Rattle.nf_words.specs.declared.request.VersionAsk.TheVariants as version
 
 -- ---- the routes to files
 
@@ -252,13 +254,73 @@ abbrev pub trash_request : Route → Method → Head → Result Request Denial
 trash_request route m head =
     unless_refused (trash_refusal route m head) (record { caller = caller_of head; wanted = wanted.Trash (trash_asked route m head) })
 
+-- ---- versions
+
+abbrev pub is_version_route : Route → Bool
+is_version_route route.Versions = true
+is_version_route route.Version = true
+is_version_route other = false
+
+-- the user who asks
+abbrev pub version_user : Head → List ℕ
+version_user head = first_of (version_segments head.target)
+
+-- the number of the file, and the moment of a version
+abbrev pub version_node : Head → Option ℕ
+version_node head = option_and_then number_in (slice_get (version_segments head.target) 2)
+
+abbrev pub version_moment : Head → Option ℕ
+version_moment head = option_and_then number_in (slice_get (version_segments head.target) 3)
+
+-- a destination is where versions come back to by the user, whatever it names there, without a query
+abbrev pub is_version_back : List ℕ → List ℕ → Bool
+is_version_back user value = not (list_any (λ b. b == 63) value) && restores_version user value
+
+abbrev pub version_back : Head → Bool
+version_back head = option_map_or (is_version_back (version_user head)) (field (codes "Destination") head) false
+
+-- of the numbers that a route has: `id`, `at`
+abbrev pub moment_refusal : Route → Option ℕ → Option Denial
+moment_refusal route.Version moment = if is_some moment then None else Some (denial.BadParameter parameter.At)
+moment_refusal other moment = None
+
+abbrev pub numbers_refusal : Route → Option ℕ → Option ℕ → Option Denial
+numbers_refusal route node moment =
+    option_or (if is_some node then None else Some (denial.BadParameter parameter.Id)) (moment_refusal route moment)
+
+-- of the fields that a method reads there, before the numbers: `destination`, `depth`. What is there is always replaced, so no Overwrite is read
+abbrev pub version_parameter_refusal : Method → Head → Option Denial → Option Denial
+version_parameter_refusal method.Move head numbers =
+    option_or (if version_back head then None else Some (denial.BadParameter parameter.Destination)) (option_or (depth_refusal head) numbers)
+version_parameter_refusal other head numbers = numbers
+
+abbrev pub version_refusal : Route → Method → Head → Option Denial
+version_refusal route m head =
+    option_or (version_parameter_refusal m head (numbers_refusal route (version_node head) (version_moment head)))
+    (option_map denial.BadName (name_fault (version_user head)))
+
+-- what is asked about them
+abbrev pub version_ask : Route → Method → List ℕ → ℕ → ℕ → VersionAsk
+version_ask route.Version method.Get user node at = version.Get user node at
+version_ask route.Version method.Move user node at = version.Restore user node at
+version_ask route m user node at = version.List user node
+
+abbrev pub version_asked : Route → Method → Head → VersionAsk
+version_asked route m head =
+    version_ask route m (version_user head) (unwrap_or (version_node head) 0) (unwrap_or (version_moment head) 0)
+
+abbrev pub version_request : Route → Method → Head → Result Request Denial
+version_request route m head =
+    unless_refused (version_refusal route m head) (record { caller = caller_of head; wanted = wanted.Version (version_asked route m head) })
+
 -- ---- all of them
 
--- a request on a route where no files are; those of uploads and versions aren't built yet
+-- a request on a route where no files are; those of uploads aren't built yet
 abbrev pub other_request : Route → Method → Head → List ℕ → Result Request Denial
 other_request route m head body =
     if is_ocs_route route then ocs_request route m head body
     else if is_trash_route route then trash_request route m head
+    else if is_version_route route then version_request route m head
     else Err denial.NotBuilt
 
 abbrev pub routed : Route → Method → Head → List ℕ → Result Request Denial

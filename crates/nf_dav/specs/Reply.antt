@@ -28,6 +28,7 @@ use Rattle.nf_words.specs.declared.route.Route.{Route}
 use Rattle.nf_dav.specs.declared.replies.Manner.{Manner}
 use Rattle.nf_words.specs.declared.listing.ItemLine.{ItemLine}
 use Rattle.nf_words.specs.declared.listing.ListingLine.{ListingLine}
+use Rattle.nf_words.specs.declared.listing.VersionLine.{VersionLine}
 use Rattle.nf_words.specs.declared.sharing.ShareLine.{ShareLine}
 use Rattle.nf_ocs.specs.Told.{plain_body, share_body, shares_body}
 
@@ -46,6 +47,7 @@ status_of (denial.Rule rule) = codes "403 Forbidden"
 status_of denial.NotFound = codes "404 Not Found"
 status_of (denial.Method route) = codes "405 Method Not Allowed"
 status_of (denial.Exists route) = codes "405 Method Not Allowed"
+status_of denial.Kind = codes "409 Conflict"
 status_of denial.NoParent = codes "409 Conflict"
 status_of denial.Overwrite = codes "412 Precondition Failed"
 status_of denial.OcsHeader = codes "412 Precondition Failed"
@@ -77,6 +79,7 @@ reason_of (denial.Rule rule) = codes "rule"
 reason_of denial.NotFound = codes "not-found"
 reason_of (denial.Method route) = codes "method"
 reason_of (denial.Exists route) = codes "exists"
+reason_of denial.Kind = codes "kind"
 reason_of denial.NoParent = codes "no-parent"
 reason_of denial.Overwrite = codes "overwrite"
 reason_of denial.OcsHeader = codes "ocs-header"
@@ -130,6 +133,7 @@ limit_word limit.Nodes = codes "nodes"
 limit_word limit.Depth = codes "depth"
 limit_word limit.Shares = codes "shares"
 limit_word limit.Mounts = codes "mounts"
+limit_word limit.Versions = codes "versions"
 limit_word limit.Pieces = codes "pieces"
 
 -- the word of a field
@@ -138,6 +142,7 @@ field_word parameter.Destination = codes "destination"
 field_word parameter.Overwrite = codes "overwrite"
 field_word parameter.Depth = codes "depth"
 field_word parameter.Id = codes "id"
+field_word parameter.At = codes "at"
 field_word parameter.Path = codes "path"
 field_word parameter.ShareType = codes "shareType"
 field_word parameter.ShareWith = codes "shareWith"
@@ -256,6 +261,7 @@ code_of (denial.Rule rule) = 403
 code_of denial.NotFound = 404
 code_of (denial.Method route) = 405
 code_of (denial.Exists route) = 405
+code_of denial.Kind = 409
 code_of denial.NoParent = 409
 code_of denial.Overwrite = 412
 code_of denial.OcsHeader = 412
@@ -341,6 +347,17 @@ trash_object items = object (member (codes "items") (array (items_of (map item_o
 abbrev pub trash_body : List ItemLine → List ℕ
 trash_body items = compact_text (trash_object items)
 
+-- the object of a version, by rising key
+abbrev pub version_object : VersionLine → Data
+version_object version =
+    object (member (codes "at") (number (unsigned version.at)) (member (codes "size") (number (unsigned version.size)) no_members))
+
+abbrev pub versions_object : List VersionLine → Data
+versions_object versions = object (member (codes "versions") (array (items_of (map version_object versions))) no_members)
+
+abbrev pub versions_body : List VersionLine → List ℕ
+versions_body versions = compact_text (versions_object versions)
+
 -- an answer whose body is that JSON
 abbrev pub json_reply : Bool → List ℕ → List ℕ
 json_reply close body = head_bytes (codes "200 OK") close [] (codes "application/json") (length body) ++ body
@@ -352,6 +369,10 @@ listing_reply close listing = json_reply close (listing_body listing)
 -- and to what is in the trash
 abbrev pub items_reply : Bool → List ItemLine → List ℕ
 items_reply close items = json_reply close (trash_body items)
+
+-- and to which versions a file has
+abbrev pub versions_reply : Bool → List VersionLine → List ℕ
+versions_reply close versions = json_reply close (versions_body versions)
 
 -- that to what is asked about shares: a share, some shares, or nothing more
 abbrev pub share_reply : Bool → ShareLine → List ℕ

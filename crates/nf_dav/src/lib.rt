@@ -9,9 +9,11 @@ mod replies;
 mod requests;
 mod spots;
 mod trash;
+mod version_requests;
 mod words;
 
 pub use replies::{
     Manner, continue_answer, done, file_head, items, listing, made, plain, refusal, share, shares,
+    versions,
 };
 pub use requests::{Unasked, request, wants_body};

@@ -1,13 +1,13 @@
-//! The JSON of listings and of the trash (RFC 8259).
+//! The JSON of listings, of the trash and of versions (RFC 8259).
 
 ghost use Rattle.std.specs.Prelude.{◌≡◌, IfOk, map};
 ghost use Rattle.std.specs.String.{string_bytes};
 ghost use Rattle.serde_json.specs.View.{view};
-ghost use Rattle.nf_dav.specs.Reply.{item_object, kind_word as word_of_kind, line_object, listing_body, listing_object, trash_body, trash_object};
+ghost use Rattle.nf_dav.specs.Reply.{item_object, kind_word as word_of_kind, line_object, listing_body, listing_object, trash_body, trash_object, version_object, versions_body, versions_object};
 
 use nf_base::NodeKind;
 use nf_json::{Said, object_of, text_of};
-use nf_words::{ItemLine, Items, Listing, ListingLine};
+use nf_words::{ItemLine, Items, Listing, ListingLine, VersionLine, Versions};
 use serde_json::{Value, json};
 use std::alloc::{AllocError, Global};
 
@@ -92,6 +92,43 @@ fn item_value(alloc: Global, item: &ItemLine) -> Result<Value, AllocError>
             ("kind", Said::Text(kind_word(item.kind))),
             ("name", Said::Text(text_of(&item.name))),
             ("size", Said::Number(item.size)),
+        ],
+    )
+}
+
+/// The text of which versions a file has.
+#[tactic(auto, using(crate::proofs::Floats::versions_have_no_float))]
+pub fn versions_text(alloc: Global, versions: &Versions) -> Result<String, AllocError>
+    ensures { IfOk result (λ text. string_bytes text ≡ versions_body versions.now) }
+{
+    versions_value(alloc, versions)?.to_string(alloc)
+}
+
+fn versions_value(alloc: Global, versions: &Versions) -> Result<Value, AllocError>
+    ensures { IfOk result (λ value. view value ≡ versions_object versions.now) }
+{
+    let lines = version_values(alloc, versions.lines())?;
+    json!(in alloc; {"versions": lines})
+}
+
+fn version_values(alloc: Global, versions: &[VersionLine]) -> Result<Vec<Value>, AllocError>
+    ensures { IfOk result (λ values. map view values.items ≡ map version_object versions.now) }
+{
+    let mut values = Vec::with_capacity(alloc, versions.len())?;
+    for version in versions {
+        values.push(version_value(alloc, version)?)?;
+    }
+    Ok(values)
+}
+
+fn version_value(alloc: Global, version: &VersionLine) -> Result<Value, AllocError>
+    ensures { IfOk result (λ value. view value ≡ version_object version.now) }
+{
+    object_of(
+        alloc,
+        &[
+            ("at", Said::Number(version.at.seconds())),
+            ("size", Said::Number(version.size)),
         ],
     )
 }

@@ -2,14 +2,14 @@
 
 ghost use Rattle.std.specs.Prelude.{◌≡◌, ◌++◌, IfOk, codes, length};
 ghost use Rattle.std.specs.String.{string_bytes};
-ghost use Rattle.nf_dav.specs.Reply.{own_line as own, allow_line as allowing, close_line as closing, continue_reply, head_bytes, items_reply, json_reply, plain_reply, refusal_reply, listing_reply, made_reply, share_reply, shares_reply, done_reply, file_head as head_of_file};
+ghost use Rattle.nf_dav.specs.Reply.{own_line as own, allow_line as allowing, close_line as closing, continue_reply, head_bytes, items_reply, json_reply, plain_reply, refusal_reply, listing_reply, made_reply, share_reply, shares_reply, versions_reply, done_reply, file_head as head_of_file};
 
-use crate::listings::{items_text, listing_text};
+use crate::listings::{items_text, listing_text, versions_text};
 use crate::refusals::refusal_text;
 use crate::words::status;
 use nf_ocs::{plain_text, share_text, shares_text};
 use nf_routes::allow;
-use nf_words::{Denial, Items, Listing, Route, ShareLine, ShareLines};
+use nf_words::{Denial, Items, Listing, Route, ShareLine, ShareLines, Versions};
 use std::alloc::{AllocError, Global};
 
 /// How a refusal is written.
@@ -56,6 +56,13 @@ pub fn items(alloc: Global, items: &Items, close: bool) -> Result<Vec<u8>, Alloc
     ensures { IfOk result (λ reply. reply.items ≡ items_reply close items.now) }
 {
     json(alloc, &items_text(alloc, items)?, close)
+}
+
+/// The answer to which versions a file has.
+pub fn versions(alloc: Global, versions: &Versions, close: bool) -> Result<Vec<u8>, AllocError>
+    ensures { IfOk result (λ reply. reply.items ≡ versions_reply close versions.now) }
+{
+    json(alloc, &versions_text(alloc, versions)?, close)
 }
 
 /// The answer to what is asked about one share.

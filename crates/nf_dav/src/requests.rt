@@ -14,6 +14,7 @@ use crate::fields::{overwrites, second_segments};
 use crate::fronts::{Front, first, front_on};
 use crate::spots::{name, spot};
 use crate::trash::{is_trash_route, trash_request};
+use crate::version_requests::{is_version_route, version_request};
 use nf_base::{Digest, MAX_OCS_BODY};
 use nf_http::Message;
 use nf_ocs::{Unread, is_ocs_route};
@@ -116,7 +117,7 @@ fn files_request(
     })
 }
 
-// A request on a route where no files are. Those of uploads and versions aren't built yet.
+// A request on a route where no files are. Those of uploads aren't built yet.
 fn other_request(
     alloc: Global,
     route: Route,
@@ -131,6 +132,8 @@ fn other_request(
         ocs_request(alloc, route, method, message, body)
     } else if is_trash_route(route) {
         trash_request(alloc, route, method, message)
+    } else if is_version_route(route) {
+        version_request(alloc, route, method, message)
     } else {
         Err(Unasked::Refused(Denial::NotBuilt))
     }

@@ -30,15 +30,16 @@ use Rattle.nf_base.specs.declared.rows.ShareRow.{ShareRow}
 use Rattle.nf_base.specs.declared.rows.UserRow.{UserRow}
 use Rattle.nf_defs.proofs.Puts.{all_put}
 use Rattle.nf_defs.specs.Prelude.{filled, made, node_key, node_row, put, Tables, user_key}
-use Rattle.nf_words.specs.Prelude.{AreSound, beside, besides, copies_to, deed_done, discard, discards, goes_itself, IsNewShare, IsNewUser, IsOtherShare, item_for, last_number, last_short, purges, raised, row_at}
+use Rattle.nf_words.specs.Prelude.{AreSound, beside, besides, copies_to, deed_done, discard, discards, forgets, goes_itself, IsNewShare, IsNewUser, IsOtherShare, item_for, last_number, last_short, purges, raised, row_at}
 use Rattle.nf_words.specs.declared.answer.Allowed.{Allowed}
 use Rattle.nf_words.specs.declared.answer.Allowed.TheVariants as allowed
 use Rattle.nf_words.specs.declared.answer.Deed.{Deed}
 use Rattle.nf_words.specs.declared.answer.Deed.TheVariants as deed
 use Rattle.nf_words.specs.declared.request.Transfer.{Transfer}
+use Rattle.nf_retention.specs.declared.versions.Version.{Version}
 use Rattle.nf_words.proofs.Fits.{KnownChange, KnownRow, KnownRows, no_more, one_more, user_more, with_user}
 use Rattle.nf_words.proofs.Found.{found_has, found_passes}
-use Rattle.nf_words.proofs.Known.{Known, KnownCopies, KnownDeeds}
+use Rattle.nf_words.proofs.Known.{Known, KnownCopies, KnownDeeds, KnownSettled}
 use Rattle.nf_words.proofs.Known.KnownDeeds.{by_copying, by_crossing, by_going, by_leaving, by_moving, by_requoting, by_restoring}
 use Rattle.nf_decide.specs.Current.{AreBorne, AreGiven, BearsAct, BearsChanges, BearsCopies, BearsDeed, BearsDeeds, BearsStep, IsBorne, IsCounted, IsNew, IsRequoted, added_by, is_fresh, rows_joined}
 use Rattle.nf_decide.proofs.Putting.{count_by-cons, counts_none, counts_one}
@@ -71,6 +72,8 @@ row_borne t u blob meta (Put (rows.Node row)) leads known =
     ]
 row_borne t u blob meta (Put (rows.Share row)) leads known = share_stays t u row known.1
 row_borne t u blob meta (Put (rows.Mount row)) leads known = tt
+row_borne t u blob meta (Put (rows.Version row)) leads known = tt
+row_borne t u blob meta (Drop (keys.Version node at)) leads known = tt
 row_borne t u blob meta (Put (rows.User row)) leads known =
     let it = known.1 in inr (record { was = it.old; there = it.there; same = it.same })
 row_borne t u blob meta (Put (rows.Token row)) leads known =
@@ -88,6 +91,8 @@ meta_last : (t u : Tables) (blob : Option ℕ) (meta : MetaRow) (change : Change
 meta_last t u blob meta (Put (rows.Node row)) known = refl
 meta_last t u blob meta (Put (rows.Share row)) known = refl
 meta_last t u blob meta (Put (rows.Mount row)) known = refl
+meta_last t u blob meta (Put (rows.Version row)) known = refl
+meta_last t u blob meta (Drop (keys.Version node at)) known = refl
 meta_last t u blob meta (Put (rows.User row)) known = refl
 meta_last t u blob meta (Put (rows.Token row)) known = refl
 meta_last t u blob meta (Put (rows.Group row)) known = refl
@@ -141,6 +146,8 @@ row_counted t u blob (Put (rows.Node row)) few given known =
 row_counted t u blob (Put (rows.Share row)) few given known =
     elim known.1 [ inl it ↦ omega (arith, it.0.given, few.shares) | inr it ↦ omega (arith, it.1) ]
 row_counted t u blob (Put (rows.Mount row)) few given known = tt
+row_counted t u blob (Put (rows.Version row)) few given known = tt
+row_counted t u blob (Drop (keys.Version node at)) few given known = tt
 row_counted t u blob (Put (rows.User row)) few given known =
     let it = known.1 in
     let below = old_given u.meta.next_user u.users row given (record { was = it.old; there = it.there; same = it.same }) in
@@ -160,6 +167,8 @@ row_given : (t u : Tables) (blob : Option ℕ) (change : Change) → AreGivenTo 
 row_given t u blob (Put (rows.Node row)) given known = (refl, given)
 row_given t u blob (Put (rows.Share row)) given known = (refl, given)
 row_given t u blob (Put (rows.Mount row)) given known = (refl, given)
+row_given t u blob (Put (rows.Version row)) given known = (refl, given)
+row_given t u blob (Drop (keys.Version node at)) given known = (refl, given)
 row_given t u blob (Put (rows.User row)) given known =
     let it = known.1 in
     let below = old_given u.meta.next_user u.users row given (record { was = it.old; there = it.there; same = it.same }) in
@@ -239,6 +248,9 @@ row_few t u blob (Put (rows.Node row)) rising few known =
     ]
 row_few t u blob (Put (rows.Share row)) rising few known = none_added t.meta.next_node u.nodes (Put (rows.Share row)) refl few
 row_few t u blob (Put (rows.Mount row)) rising few known = none_added t.meta.next_node u.nodes (Put (rows.Mount row)) refl few
+row_few t u blob (Put (rows.Version row)) rising few known = none_added t.meta.next_node u.nodes (Put (rows.Version row)) refl few
+row_few t u blob (Drop (keys.Version node at)) rising few known =
+    none_added t.meta.next_node u.nodes (Drop (keys.Version node at)) refl few
 row_few t u blob (Put (rows.User row)) rising few known = none_added t.meta.next_node u.nodes (Put (rows.User row)) refl few
 row_few t u blob (Put (rows.Token row)) rising few known = none_added t.meta.next_node u.nodes (Put (rows.Token row)) refl few
 row_few t u blob (Put (rows.Group row)) rising few known = none_added t.meta.next_node u.nodes (Put (rows.Group row)) refl few
@@ -301,6 +313,7 @@ deed_bears t now (deed.Relink node folder name) sound at (row, fits) =
     }
 deed_bears t now (deed.Join copies) sound at joins = copies_bear t now copies sound joins
 deed_bears t now (deed.Requote row) sound at known = record { was = known.old; there = known.there; same = known.same }
+deed_bears t now (deed.Forget node moment) sound at known = tt
 
 deeds_bear : (t : Tables) (now : ℕ) (deeds : List Deed) → AreSound t → t.meta.last ≡ now → InTurn t now deeds → BearsDeeds t deeds
 deeds_bear t now [] sound at turn = tt
@@ -322,6 +335,7 @@ deed_unstamped t now (deed.Join copies) bears = record {
   leads = bears.leads;
 }
 deed_unstamped t now (deed.Requote row) bears = bears
+deed_unstamped t now (deed.Forget node at) bears = bears
 
 deeds_unstamped : (t : Tables) (now : ℕ) (deeds : List Deed) → BearsDeeds (stamp t now) deeds → BearsDeeds t deeds
 deeds_unstamped t now [] bears = tt
@@ -330,7 +344,7 @@ deeds_unstamped t now (one ∷ deeds) bears = (
   deeds_unstamped (deed_done t one) now deeds (subst (λ (u : Tables). BearsDeeds u deeds) (deed_stamped t now one) bears.1),
 )
 
-step_bears : (t : Tables) (now : ℕ) (deeds : List Deed) → AreSound t → t.meta.last ≤ now → KnownDeeds t now deeds → BearsStep t deeds
+step_bears : (t : Tables) (now : ℕ) (deeds : List Deed) → AreSound t → t.meta.last ≤ now → KnownSettled t now deeds → BearsStep t deeds
 step_bears t now deeds sound later known = record {
   borne = deeds_unstamped t now deeds (deeds_bear (stamp t now) now deeds (stamp_sound t now sound later) refl (step_turn t now deeds sound later known));
   tells = tells_step t now deeds sound later known;
@@ -421,6 +435,22 @@ step_few t now deeds sound (by_crossing transfer name known) =
       besides_none t now from,
     )
 
+-- versions that go make none
+forgets_none : (gone : List Version) → sum_by rows_joined (forgets gone) ≡ 0
+forgets_none [] = refl
+forgets_none (version ∷ gone) =
+    omega (arith, sum_by-cons rows_joined (deed.Forget version.node version.at) (forgets gone), forgets_none gone)
+
+settled_few : (t : Tables) (now : ℕ) (deeds : List Deed) → AreSound t → KnownSettled t now deeds → length t.nodes + sum_by rows_joined deeds ≤ MAX_NODES
+settled_few t now deeds sound known =
+    omega (
+      arith,
+      step_few t now known.first sound known.known,
+      ap (λ (all : List Deed). sum_by rows_joined all) known.are,
+      sum_by-append rows_joined known.first (forgets known.gone),
+      forgets_none known.gone,
+    )
+
 -- so there may be the nodes that an act adds
 pub known_few : (t : Tables) (now : ℕ) (act : Allowed) → AreSound t → Known t now act → length t.nodes + (added_by t act).nodes ≤ MAX_NODES
 known_few t now (allowed.Get node content) sound known = omega (arith, sound.few_nodes)
@@ -428,5 +458,5 @@ known_few t now (allowed.List listing) sound known = omega (arith, sound.few_nod
 known_few t now (allowed.Put by key length) sound known = omega (arith, sound.few_nodes)
 known_few t now (allowed.Change changes blob report) sound known =
     rows_few t blob (raised t now changes blob) changes sound.rising sound.few_nodes known.rows
-known_few t now (allowed.Deeds deeds report) sound known = omega (arith, step_few t now deeds sound known)
+known_few t now (allowed.Deeds deeds report) sound known = omega (arith, settled_few t now deeds sound known)
 known_few t now allowed.Close sound known = omega (arith, sound.few_nodes)

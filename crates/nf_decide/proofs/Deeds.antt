@@ -1,16 +1,17 @@
 -- The deeds of a step: the numbers that they give, and the room that they take.
-use Rattle.std.proofs.Common.{ℕ, ◌+◌, ◌≤◌, ◌≡◌, cond, count_by, if◌then◌else◌, max, not, sum_by, List, [], ◌∷◌, ◌++◌, length, refl, sym, ap, subst, ◌∙◌, arith, length-append}
+use Rattle.std.proofs.Common.{ℕ, ◌+◌, ◌≤◌, ◌≡◌, cond, count_by, if◌then◌else◌, is_some, max, not, sum_by, List, [], ◌∷◌, ◌++◌, length, refl, sym, ap, subst, ◌∙◌, arith, length-append}
 use Rattle.std.proofs.lemmas.List.{length-map}
 use Rattle.std.proofs.lemmas.List.Filters.{length-filter_both}
 use Rattle.std.proofs.lemmas.List.Sums.{sum_by-cons}
 use Rattle.nf_base.specs.declared.rows.MetaRow.{MetaRow}
 use Rattle.nf_base.specs.declared.rows.NodeRow.{NodeRow}
 use Rattle.nf_base.specs.declared.rows.ShareRow.{ShareRow}
+use Rattle.nf_base.specs.declared.rows.VersionRow.{VersionRow}
 use Rattle.nf_defs.proofs.Puts.{dropped_length, put_length}
-use Rattle.nf_defs.specs.Prelude.{is_under, item_key, relinked, Tables, user_key, without_under}
+use Rattle.nf_defs.specs.Prelude.{is_under, item_key, node_row, relinked, Tables, user_key, version_key, without_under}
 use Rattle.nf_defs.specs.Tree.{trashed}
 use Rattle.nf_laws.proofs.OneRow.{length_with}
-use Rattle.nf_words.specs.Prelude.{deed_done, deeds_done, ended_row, ended_under, last_number}
+use Rattle.nf_words.specs.Prelude.{deed_done, deeds_done, ended_row, ended_under, last_number, versions_there}
 use Rattle.nf_words.specs.declared.answer.Deed.{Deed}
 use Rattle.nf_words.specs.declared.answer.Deed.TheVariants as deed
 use Rattle.nf_decide.specs.Counts.{FitsRows, IsNoSmaller, only_nodes}
@@ -37,6 +38,7 @@ deed_meta t (deed.Restore node folder name) = none_more t.meta
 deed_meta t (deed.Relink node folder name) = none_more t.meta
 deed_meta t (deed.Join rows) = refl
 deed_meta t (deed.Requote row) = none_more t.meta
+deed_meta t (deed.Forget node at) = none_more t.meta
 
 -- and after some
 pub deeds_meta : (t : Tables) (deeds : List Deed) → (deeds_done t deeds).meta ≡ record t.meta { next_node = t.meta.next_node + sum_by rows_joined deeds }
@@ -56,6 +58,7 @@ deed_numbers t (deed.Restore node folder name) borne = omega arith
 deed_numbers t (deed.Relink node folder name) borne = omega arith
 deed_numbers t (deed.Join rows) borne = omega (arith, borne.numbers.next_node)
 deed_numbers t (deed.Requote row) borne = omega arith
+deed_numbers t (deed.Forget node at) borne = omega arith
 
 deeds_numbers : (t : Tables) (deeds : List Deed) → BearsDeeds t deeds → t.meta.next_node + sum_by rows_joined deeds ≤ max t.meta.next_node last_number
 deeds_numbers t [] borne = omega arith
@@ -89,6 +92,7 @@ added_is (deed.Restore node folder name) = refl
 added_is (deed.Relink node folder name) = refl
 added_is (deed.Join rows) = refl
 added_is (deed.Requote row) = refl
+added_is (deed.Forget node at) = refl
 
 -- the first fits where all do
 pub first_fits : (t : Tables) (room : RowCounts) (one : Deed) (deeds : List Deed) → FitsRows t room (added_all (one ∷ deeds))
@@ -102,16 +106,18 @@ first_fits t room one deeds fits =
       nodes = omega (arith, fits.nodes, sum_by-cons rows_joined one deeds);
       shares = fits.shares;
       mounts = fits.mounts;
+      versions = fits.versions;
       items = omega (arith, fits.items, count_by-cons discards one deeds);
     })
 
--- the rows that a deed leaves: users, nodes, shares and items, in this order
+-- the rows that a deed leaves: users, nodes, shares, items and versions, in this order
 abbrev Grows : Tables → Tables → Deed → Type 0
 Grows t u one =
     (length u.users ≤ length t.users + cond (requotes one) 1 0)
     × (length u.nodes ≤ length t.nodes + rows_joined one)
     × (length u.shares ≤ length t.shares)
     × (length u.items ≤ length t.items + cond (discards one) 1 0)
+    × (length u.versions ≤ length t.versions)
 
 left_few : (rows : List NodeRow) (top : ℕ) → length (without_under rows top) ≤ length rows
 left_few rows top =
@@ -120,16 +126,26 @@ left_few rows top =
 ended_few : (rows : List NodeRow) (top : ℕ) (shares : List ShareRow) → length (ended_under rows top shares) ≤ length shares
 ended_few rows top shares = omega (arith, length-map shares (λ (share : ShareRow). if is_under rows share.node top then ended_row share else share))
 
+there_few : (nodes : List NodeRow) (versions : List VersionRow) → length (versions_there nodes versions) ≤ length versions
+there_few nodes versions =
+    omega (
+      arith,
+      length-filter_both (λ (row : VersionRow). is_some (node_row nodes row.node)) (λ (row : VersionRow). not (is_some (node_row nodes row.node))) (λ row. refl)
+          versions,
+    )
+
 grows : (t : Tables) (one : Deed) → Grows t (deed_done t one) one
 grows t (deed.Discard item) =
-    (omega arith, omega (arith, length_with t.nodes item.node trashed), ended_few t.nodes item.node t.shares, put_length item_key item t.items)
+    (omega arith, omega (arith, length_with t.nodes item.node trashed), ended_few t.nodes item.node t.shares, put_length item_key item t.items, omega arith)
 grows t (deed.Purge node) =
-    (omega arith, omega (arith, left_few t.nodes node), ended_few t.nodes node t.shares, omega (arith, dropped_length item_key (node ∷ []) t.items))
+    (omega arith, omega (arith, left_few t.nodes node), ended_few t.nodes node t.shares, omega (arith, dropped_length item_key (node ∷ []) t.items), there_few (without_under t.nodes node) t.versions)
 grows t (deed.Restore node folder name) =
-    (omega arith, omega (arith, length_with t.nodes node (relinked folder name)), omega arith, omega (arith, dropped_length item_key (node ∷ []) t.items))
-grows t (deed.Relink node folder name) = (omega arith, omega (arith, length_with t.nodes node (relinked folder name)), omega arith, omega arith)
-grows t (deed.Join rows) = (omega arith, omega (arith, length-append t.nodes rows), omega arith, omega arith)
-grows t (deed.Requote row) = (put_length user_key row t.users, omega arith, omega arith, omega arith)
+    (omega arith, omega (arith, length_with t.nodes node (relinked folder name)), omega arith, omega (arith, dropped_length item_key (node ∷ []) t.items), omega arith)
+grows t (deed.Relink node folder name) =
+    (omega arith, omega (arith, length_with t.nodes node (relinked folder name)), omega arith, omega arith, omega arith)
+grows t (deed.Join rows) = (omega arith, omega (arith, length-append t.nodes rows), omega arith, omega arith, omega arith)
+grows t (deed.Requote row) = (put_length user_key row t.users, omega arith, omega arith, omega arith, omega arith)
+grows t (deed.Forget node at) = (omega arith, omega arith, omega arith, omega arith, dropped_length version_key (node ∷ at ∷ []) t.versions)
 
 -- nobody else has another row
 same_others : (t : Tables) (one : Deed)
@@ -141,6 +157,7 @@ same_others t (deed.Restore node folder name) = (refl, refl, refl, refl)
 same_others t (deed.Relink node folder name) = (refl, refl, refl, refl)
 same_others t (deed.Join rows) = (refl, refl, refl, refl)
 same_others t (deed.Requote row) = (refl, refl, refl, refl)
+same_others t (deed.Forget node at) = (refl, refl, refl, refl)
 
 -- so the others fit once it is done
 pub rest_fits : (t : Tables) (room more : RowCounts) (one : Deed) (deeds : List Deed) → IsNoSmaller room more
@@ -156,6 +173,7 @@ rest_fits t room more one deeds higher fits =
       nodes = omega (arith, g.1, fits.nodes, higher.nodes, sum_by-cons rows_joined one deeds);
       shares = omega (arith, g.2, fits.shares, higher.shares);
       mounts = omega (arith, same.3, fits.mounts, higher.mounts);
+      versions = omega (arith, g.4, fits.versions, higher.versions);
       items = omega (arith, g.3, fits.items, higher.items, count_by-cons discards one deeds);
     }
 
@@ -171,5 +189,6 @@ all_fit t room deeds borne fits = record {
   nodes = omega (arith, fits.nodes, joined_all t deeds borne);
   shares = fits.shares;
   mounts = fits.mounts;
+  versions = fits.versions;
   items = fits.items;
 }

@@ -15,6 +15,7 @@ pub mod Offered
 pub mod Openings
 pub mod Owners
 pub mod Putting
+pub mod Refills
 pub mod Returning
 pub mod Sizes
 pub mod Stamps

@@ -14,13 +14,14 @@ use Rattle.nf_base.specs.declared.limits.TheConstants.{MAX_DEPTH}
 use Rattle.nf_base.specs.declared.rows.ItemRow.{ItemRow}
 use Rattle.nf_base.specs.declared.rows.NodeRow.{NodeRow}
 use Rattle.nf_base.specs.declared.rows.ShareRow.{ShareRow}
+use Rattle.nf_base.specs.declared.rows.VersionRow.{VersionRow}
 use Rattle.nf_defs.proofs.Climbs.{holds_some}
 use Rattle.nf_defs.specs.Prelude.{dropped, folder_of, is_under, is_under_within, item_key, item_row, key_cmp, node_row, parent_of, Tables, without_all, without_under}
 use Rattle.nf_laws.proofs.Others.{item_other}
 use Rattle.nf_table.proofs.Dropped.{dropped_in_turn, has}
 use Rattle.nf_table.specs.Rows.{all_dropped, AreSorted}
 use Rattle.nf_words.proofs.Known.{IsItem}
-use Rattle.nf_words.specs.Prelude.{deed_done, deeds_done, ended_row, ended_under, is_closing, purged, purges}
+use Rattle.nf_words.specs.Prelude.{deed_done, deeds_done, ended_row, ended_under, is_closing, purged, purges, versions_there}
 use Rattle.nf_words.specs.declared.answer.Deed.{Deed}
 use Rattle.nf_words.specs.declared.answer.Deed.TheVariants as deed
 use Rattle.nf_decide.specs.Counts.{FitsRows, IsNoSmaller}
@@ -115,9 +116,57 @@ closed_still t gone top closed k d within =
 
 -- ---- the tables after a run
 
--- those where some nodes are gone with their items
+-- the versions, where those of nodes that are there no more go one after the other
+abbrev pub versions_in_turn : List NodeRow → List ℕ → List VersionRow → List VersionRow
+versions_in_turn rows [] versions = versions
+versions_in_turn rows (top ∷ tops) versions = versions_in_turn (without_under rows top) tops (versions_there (without_under rows top) versions)
+
+-- what is there of fewer rows is there of all
+all_still : (rows : List NodeRow) (run : List ℕ) (node : ℕ) → is_some (node_row (without_all rows run) node) ≡ true → is_some (node_row rows node) ≡ true
+all_still rows [] node is = is
+all_still rows (top ∷ run) node is = one (node_row (without_under rows top) node) refl (all_still (without_under rows top) run node is)
+  where
+    one : (o : Option NodeRow) → node_row (without_under rows top) node ≡ o → is_some o ≡ true → is_some (node_row rows node) ≡ true
+    one None e there = absurd (cc)
+    one (Some row) e there = ap is_some (still_there (λ node. not (is_under rows node top)) rows node row e)
+
+-- so those that stay at last stayed before
+there_twice : (fewer rows : List NodeRow) (versions : List VersionRow)
+    → ((node : ℕ) → is_some (node_row fewer node) ≡ true → is_some (node_row rows node) ≡ true)
+    → versions_there fewer (versions_there rows versions) ≡ versions_there fewer versions
+there_twice fewer rows [] still = refl
+there_twice fewer rows (x ∷ versions) still =
+    here (is_some (node_row rows x.node)) (is_some (node_row fewer x.node)) refl refl (there_twice fewer rows versions still)
+  where
+    here : (a b : Bool) → is_some (node_row rows x.node) ≡ a → is_some (node_row fewer x.node) ≡ b
+        → versions_there fewer (versions_there rows versions) ≡ versions_there fewer versions
+        → versions_there fewer (if a then x ∷ versions_there rows versions else versions_there rows versions)
+        ≡ (if b then x ∷ versions_there fewer versions else versions_there fewer versions)
+    here true true e f rest = rw f (ap (λ (all : List VersionRow). x ∷ all) rest)
+    here true false e f rest = rw f rest
+    here false true e f rest = absurd (both_ways (is_some (node_row rows x.node)) e (still x.node f))
+    here false false e f rest = rest
+
+-- all at once, where some go
+pub turn_versions : (rows : List NodeRow) (top : ℕ) (run : List ℕ) (versions : List VersionRow)
+    → versions_in_turn rows (top ∷ run) versions ≡ versions_there (without_all rows (top ∷ run)) versions
+turn_versions rows top [] versions = refl
+turn_versions rows top (next ∷ run) versions =
+    turn_versions (without_under rows top) next run (versions_there (without_under rows top) versions)
+    ∙ there_twice (without_all (without_under rows top) (next ∷ run)) (without_under rows top) versions (all_still (without_under rows top) (next ∷ run))
+
+pub run_gone : (rows : List NodeRow) (run : List ℕ) (versions : List VersionRow) → run ≢ []
+    → versions_there (without_all rows run) versions ≡ versions_in_turn rows run versions
+run_gone rows [] versions some = absurd (some refl)
+run_gone rows (top ∷ run) versions some = sym (turn_versions rows top run versions)
+
+-- those where some nodes are gone with their items and versions
 abbrev pub left : Tables → List ℕ → Tables
-left t run = record t { nodes = without_all t.nodes run; items = all_dropped item_key (map (λ node. node ∷ []) run) t.items }
+left t run = record t {
+  nodes = without_all t.nodes run;
+  items = all_dropped item_key (map (λ node. node ∷ []) run) t.items;
+  versions = versions_in_turn t.nodes run t.versions;
+}
 
 -- it is an item of the trash, or no share is left to end
 abbrev pub IsReady : Tables → ℕ → Type 0
@@ -125,7 +174,12 @@ IsReady t node = IsItem t node ⊎ IsClosed t node
 
 one_purged : (t : Tables) (node : ℕ) → IsClosed t node → purged t node ≡ left t (node ∷ [])
 one_purged t node closed =
-    ap (λ (shares : List ShareRow). record t { nodes = without_under t.nodes node; shares = shares; items = dropped item_key (node ∷ []) t.items })
+    ap (λ (shares : List ShareRow). record t {
+      nodes = without_under t.nodes node;
+      shares = shares;
+      items = dropped item_key (node ∷ []) t.items;
+      versions = versions_there (without_under t.nodes node) t.versions;
+    })
     (ended_before t.nodes node t.shares closed)
 
 still_ready : (t : Tables) (gone node : ℕ) → IsClosed t gone → IsReady t node → IsReady (left t (gone ∷ [])) node
@@ -176,6 +230,7 @@ same_room room = record {
   nodes = omega arith;
   shares = omega arith;
   mounts = omega arith;
+  versions = omega arith;
   items = omega arith;
 }
 

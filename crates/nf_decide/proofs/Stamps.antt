@@ -1,5 +1,5 @@
 -- Steps that change some row.
-use Rattle.std.proofs.Common.{ℕ, ◌≡◌, ◌≢◌, ◌-◌, List, [], ◌∷◌, ◌++◌, Option, None, Some, IsSome, refl}
+use Rattle.std.proofs.Common.{ℕ, ◌≡◌, ◌≢◌, ◌-◌, List, [], ◌∷◌, ◌++◌, Option, None, Some, IsSome, refl, sym, ◌∙◌}
 use Rattle.nf_base.specs.declared.limits.TheConstants.{MAX_DEPTH}
 use Rattle.nf_base.specs.declared.changes.Change.{Change}
 use Rattle.nf_base.specs.declared.changes.Change.TheVariants.{Put}
@@ -8,8 +8,9 @@ use Rattle.nf_base.specs.declared.rows.Row.TheVariants as rows
 use Rattle.nf_defs.specs.Prelude.{children_of, node_row, relinked, Tables, walk_of, walk_within}
 use Rattle.nf_defs.specs.Tree.{trashed}
 use Rattle.std.specs.List.{flat_map}
+use Rattle.std.proofs.lemmas.List.{append_assoc}
 use Rattle.nf_tree.proofs.Walks.{walk_down}
-use Rattle.nf_words.specs.Prelude.{closed_under, deed_done, stamped, told_deed, told_deeds, told_node}
+use Rattle.nf_words.specs.Prelude.{closed_under, deed_done, forgotten_under, gone_under, stamped, told_deed, told_deeds, told_item, told_node}
 use Rattle.nf_words.specs.declared.answer.Deed.{Deed}
 use Rattle.nf_words.specs.declared.answer.Deed.TheVariants as deed
 use Rattle.nf_decide.specs.Current.{BearsDeed, BearsDeeds}
@@ -29,6 +30,11 @@ node_some : (o : Option NodeRow) (change : NodeRow → NodeRow) (more : List Cha
 node_some None change more there none = absurd (cc there)
 node_some (Some row) change more there none = absurd (cc)
 
+-- where there is nothing, there is nothing behind something
+none_behind : (front rest : List Change) → front ++ rest ≡ [] → rest ≡ []
+none_behind [] rest none = none
+none_behind (change ∷ front) rest none = absurd (cc)
+
 -- a deed that can be borne changes a row
 deed_some : (t : Tables) (one : Deed) (more : List Change) → BearsDeed t one → told_deed t one ++ more ≢ []
 deed_some t (deed.Discard item) more borne none = here (node_row t.nodes item.node) none
@@ -36,12 +42,17 @@ deed_some t (deed.Discard item) more borne none = here (node_row t.nodes item.no
     here : (o : Option NodeRow) → (told_node o trashed ++ Put (rows.Item item) ∷ closed_under t.nodes t.shares item.node) ++ more ≢ []
     here None none = absurd (cc)
     here (Some row) none = absurd (cc)
-deed_some t (deed.Purge node) more borne none = let h = rw (walk_top t.nodes node) at none in absurd (cc)
+deed_some t (deed.Purge node) more borne none =
+    let front = forgotten_under t.nodes t.versions node in
+    let gone = gone_under t.nodes t.shares node ++ told_item t node in
+    let rest = none_behind front (gone ++ more) (sym (append_assoc front gone more) ∙ none) in
+    let h = rw (walk_top t.nodes node) at rest in absurd (cc)
 deed_some t (deed.Restore node folder name) more borne none = absurd (cc)
 deed_some t (deed.Relink node folder name) more borne none = node_some (node_row t.nodes node) (relinked folder name) more borne.there none
 deed_some t (deed.Join []) more borne none = borne.some refl
 deed_some t (deed.Join (row ∷ rows)) more borne none = absurd (cc)
 deed_some t (deed.Requote row) more borne none = absurd (cc)
+deed_some t (deed.Forget node at) more borne none = absurd (cc)
 
 -- so some deeds do
 pub deeds_some : (t : Tables) (deeds : List Deed) → BearsDeeds t deeds → deeds ≢ [] → told_deeds t deeds ≢ []

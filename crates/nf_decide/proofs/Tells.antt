@@ -26,17 +26,17 @@ use Rattle.nf_laws.proofs.Trashed.{item_home}
 use Rattle.nf_laws.proofs.Upwards.{climbs_is_under, never_climbs}
 use Rattle.nf_laws.specs.Transfers.{Mirrors}
 use Rattle.nf_words.proofs.Found.{child_parent}
-use Rattle.nf_words.proofs.Known.{IsItem, KnownCross, KnownDeeds, KnownLeaving, KnownTransfer}
+use Rattle.nf_words.proofs.Known.{IsItem, KnownCross, KnownDeeds, KnownLeaving, KnownSettled, KnownTransfer}
 use Rattle.nf_words.proofs.Known.KnownDeeds.{by_copying, by_crossing, by_going, by_leaving, by_moving, by_requoting, by_restoring}
 use Rattle.nf_words.proofs.Transfers.{replaced_leaves, row_leaves}
 use Rattle.nf_words.proofs.Trashing.{rest_goes}
-use Rattle.nf_words.specs.Prelude.{AreSound, beside, besides, closed_under, copies, copies_to, crossing, deed_done, deeds_done, discard, discards, ended_row, goes_itself, is_closing, item_for, LeadsToRoot, moves, purges, row_at, told_deed, told_deeds}
+use Rattle.nf_words.specs.Prelude.{AreSound, beside, besides, closed_under, copies, copies_to, crossing, deed_done, deeds_done, discard, discards, ended_row, forgets, goes_itself, is_closing, item_for, LeadsToRoot, moves, purges, row_at, told_deed, told_deeds, versions_of}
 use Rattle.nf_words.specs.declared.answer.Deed.{Deed}
 use Rattle.nf_words.specs.declared.answer.Deed.TheVariants as deed
 use Rattle.nf_words.specs.declared.request.Transfer.{Transfer}
 use Rattle.nf_decide.specs.Gone.{TellsDeeds, told_first}
-use Rattle.nf_decide.proofs.ToldFirst.{join_same, join_tells, leave_tells, relink_tells, restore_tells, tell_both, Tells, there_given}
-use Rattle.nf_decide.proofs.ToldGone.{SameUnder}
+use Rattle.nf_decide.proofs.ToldFirst.{join_same, join_tells, leave_tells, relink_tells, restore_tells, tell_both, Tells, tells_behind, there_given}
+use Rattle.nf_decide.proofs.ToldGone.{SameUnder, versions_left}
 
 -- ---- what is done first
 
@@ -53,7 +53,7 @@ after_first t now first last sound at turn = deeds_sound t now first sound at (t
 
 leaves_first : (t : Tables) (now : ℕ) (gone : List ℕ) (row : NodeRow) → AreSound t → KnownLeaving t row → All (IsItem t) gone
     → Tells t t gone (discard t now row)
-leaves_first t now gone row sound known were = leave_tells t t now gone row sound sound known known were (λ j folder up. refl) refl
+leaves_first t now gone row sound known were = leave_tells t t now gone row sound sound known known were (λ j folder up. (refl, refl)) refl
 
 leaving_tell : (t : Tables) (now : ℕ) (row : NodeRow) → AreSound t → t.meta.last ≡ now → KnownLeaving t row
     → InTurn t now (discard t now row ∷ beside t now row) → TellsDeeds t (discard t now row ∷ beside t now row)
@@ -246,7 +246,7 @@ module _ (t : Tables) (now : ℕ) (transfer : Transfer) (name : List ℕ) (sound
         joins_tell t gone goes.items,
         (
           leave_tells t v now gone from sound (fit_sound t now joins sound at turn.0) leaving (leaves_joined t from more leaving) goes.items
-              (under_joined t (λ j folder up. refl)) closed_here,
+              (under_joined t (λ j folder up. (refl, refl))) closed_here,
           tt,
         ),
       )
@@ -276,13 +276,17 @@ module _ (t : Tables) (now : ℕ) (transfer : Transfer) (name : List ℕ) (sound
     -- so what is under the source is the same without the other
     under_left : SameUnder t without from.id
     under_left j folder climbs =
-        let under = climbs_is_under j t folder from.id sound climbs in
-        ap (λ (rows : List NodeRow). map (λ row. row.id) (by_name rows))
-        (left.in_folder folder (not_both folder under) (λ above.
-        let own = child_parent t.nodes transfer.folder name row.id sound.rising (known.there ∙ is) in
-        let it : transfer.folder ≡ folder = same_Some transfer.folder folder (sym own ∙ above) in
-        both_ways (is_under t.nodes transfer.folder transfer.node) known.outside
-        (ap (λ (n : ℕ). is_under t.nodes n transfer.node) it ∙ ap (is_under t.nodes folder) (sym same) ∙ under)))
+        let under = climbs_is_under j t folder from.id sound climbs in (
+          ap (λ (rows : List NodeRow). map (λ row. row.id) (by_name rows))
+              (left.in_folder folder (not_both folder under) (λ above.
+              let own = child_parent t.nodes transfer.folder name row.id sound.rising (known.there ∙ is) in
+              let it : transfer.folder ≡ folder = same_Some transfer.folder folder (sym own ∙ above) in
+              both_ways (is_under t.nodes transfer.folder transfer.node) known.outside
+              (ap (λ (n : ℕ). is_under t.nodes n transfer.node) it ∙ ap (is_under t.nodes folder) (sym same) ∙ under))),
+          cond_both (goes_itself t now row) (deed.Purge row.id) (deed.Discard (item_for now row))
+              (λ (one : Deed). versions_of (deed_done t one).versions folder ≡ versions_of t.versions folder)
+              (λ e. versions_left t row.id folder sound (not_both folder under)) (λ e. refl),
+        )
 
     climbs_so : (node : ℕ) → LeadsToRoot t.nodes node → is_under t.nodes node row.id ≡ false → (k : ℕ) → climb after.nodes k node ≡ climb t.nodes k node
     climbs_so node present outside k =
@@ -390,6 +394,7 @@ deed_told t now (deed.Restore node folder name) = refl
 deed_told t now (deed.Relink node folder name) = refl
 deed_told t now (deed.Join copies) = refl
 deed_told t now (deed.Requote row) = refl
+deed_told t now (deed.Forget node at) = refl
 
 told_stamped : (t : Tables) (now : ℕ) (deeds : List Deed) → told_deeds (stamp t now) deeds ≡ told_deeds t deeds
 told_stamped t now [] = refl
@@ -405,6 +410,7 @@ first_stamped t now (deed.Restore node folder name) = refl
 first_stamped t now (deed.Relink node folder name) = refl
 first_stamped t now (deed.Join copies) = refl
 first_stamped t now (deed.Requote row) = refl
+first_stamped t now (deed.Forget node at) = refl
 
 firsts_stamped : (t : Tables) (now : ℕ) (deeds : List Deed) → flat_map (told_first (stamp t now)) deeds ≡ flat_map (told_first t) deeds
 firsts_stamped t now [] = refl
@@ -413,8 +419,12 @@ firsts_stamped t now (one ∷ deeds) =
     ∙ ap (λ (changes : List Change). told_first t one ++ changes) (firsts_stamped t now deeds)
 
 -- what is decided tells each deed of the tables before
-pub tells_step : (t : Tables) (now : ℕ) (deeds : List Deed) → AreSound t → t.meta.last ≤ now → KnownDeeds t now deeds → TellsDeeds t deeds
+pub tells_step : (t : Tables) (now : ℕ) (deeds : List Deed) → AreSound t → t.meta.last ≤ now → KnownSettled t now deeds → TellsDeeds t deeds
 tells_step t now deeds sound later it =
-    sym (told_stamped t now deeds)
-    ∙ step_tell (stamp t now) now deeds (stamp_sound t now sound later) refl (known_stamped t now now deeds it) (step_turn t now deeds sound later it)
-    ∙ firsts_stamped t now deeds
+    let first = it.first in
+    let turn = turn_front (stamp t now) now first (forgets it.gone) (subst (InTurn (stamp t now) now) it.are (step_turn t now deeds sound later it)) in
+    subst (TellsDeeds t) (sym it.are)
+    (tells_behind t first it.gone
+    (sym (told_stamped t now first)
+    ∙ step_tell (stamp t now) now first (stamp_sound t now sound later) refl (known_stamped t now now first it.known) turn
+    ∙ firsts_stamped t now first))

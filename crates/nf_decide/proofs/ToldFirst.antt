@@ -25,12 +25,13 @@ use Rattle.nf_laws.proofs.Rows.{row_is}
 use Rattle.nf_laws.proofs.Trashed.{item_put, item_top}
 use Rattle.nf_laws.specs.Transfers.{IsPlacedCopy, Mirrors}
 use Rattle.nf_words.proofs.Known.{IsItem, KnownGoes, KnownLeaving}
-use Rattle.nf_words.specs.Prelude.{AreSound, closed_under, deed_done, deeds_done, discard, dropped_under, goes_itself, gone_under, item_for, LeadsToRoot, purges, told_deed, told_deeds, told_item, told_node}
+use Rattle.nf_words.specs.Prelude.{AreSound, closed_under, deed_done, deeds_done, discard, dropped_under, forgets, forgotten_under, goes_itself, gone_under, item_for, LeadsToRoot, purges, told_deed, told_deeds, told_item, told_node}
 use Rattle.nf_words.specs.declared.answer.Deed.{Deed}
 use Rattle.nf_words.specs.declared.answer.Deed.TheVariants as deed
 use Rattle.nf_words.specs.declared.request.Transfer.{Transfer}
+use Rattle.nf_retention.specs.declared.versions.Version.{Version}
 use Rattle.nf_decide.specs.Gone.{TellsDeeds, told_first}
-use Rattle.nf_decide.proofs.ToldGone.{items_told, present_apart, purge_same, SameUnder, same_walk}
+use Rattle.nf_decide.proofs.ToldGone.{items_told, present_apart, purge_same, SameUnder, same_forgotten, same_walk}
 
 -- ---- deeds that act, and then items that go
 
@@ -57,7 +58,7 @@ first_left t u gone (one ∷ deeds) tell items same =
     first_left t (deed_done u one) gone deeds tell.1 (tell.0.items items) (tell.0.same items same)
 
 -- those behind others are told of the tables after these
-told_both : (u : Tables) (first last : List Deed) → told_deeds u (first ++ last) ≡ told_deeds u first ++ told_deeds (deeds_done u first) last
+pub told_both : (u : Tables) (first last : List Deed) → told_deeds u (first ++ last) ≡ told_deeds u first ++ told_deeds (deeds_done u first) last
 told_both u [] last = refl
 told_both u (one ∷ first) last =
     ap (λ (changes : List Change). told_deed u one ++ changes) (told_both (deed_done u one) first last)
@@ -66,12 +67,27 @@ told_both u (one ∷ first) last =
 pub tell_both : (t : Tables) (first : List Deed) (gone : List ℕ) → AreSound t → AreSound (deeds_done t first) → KnownGoes t gone
     → TellInTurn t t gone first → TellsDeeds t (first ++ purges gone)
 tell_both t first gone sound after goes tell =
-    let left = first_left t t gone first tell goes.items (λ k d within j folder up. refl) in
+    let left = first_left t t gone first tell goes.items (λ k d within j folder up. (refl, refl)) in
     told_both t first (purges gone)
     ∙ ap (λ (changes : List Change). changes ++ told_deeds (deeds_done t first) (purges gone)) (first_told t t gone first tell)
     ∙ ap (λ (changes : List Change). flat_map (told_first t) first ++ changes)
     (items_told t (deeds_done t first) gone sound after goes.items left.0 left.1 goes.once)
     ∙ sym (flat_map-append (told_first t) first (purges gone))
+
+-- ---- versions that go behind others
+
+forgets_told : (t u : Tables) (gone : List Version) → told_deeds u (forgets gone) ≡ flat_map (told_first t) (forgets gone)
+forgets_told t u [] = refl
+forgets_told t u (version ∷ gone) =
+    ap (λ (changes : List Change). Drop (keys.Version version.node version.at) ∷ changes)
+    (forgets_told t (deed_done u (deed.Forget version.node version.at)) gone)
+
+pub tells_behind : (t : Tables) (first : List Deed) (gone : List Version) → TellsDeeds t first → TellsDeeds t (first ++ forgets gone)
+tells_behind t first gone tells =
+    told_both t first (forgets gone)
+    ∙ ap (λ (changes : List Change). changes ++ told_deeds (deeds_done t first) (forgets gone)) tells
+    ∙ ap (λ (changes : List Change). flat_map (told_first t) first ++ changes) (forgets_told t (deeds_done t first) gone)
+    ∙ sym (flat_map-append (told_first t) first (forgets gone))
 
 -- ---- what isn't under an item
 
@@ -115,13 +131,15 @@ moved_same : (t u : Tables) (gone : List ℕ) (node home : ℕ) (name : List ℕ
     → ((top j folder : ℕ) → IsItem t top → climb t.nodes j folder ≡ Some top → is_in folder old ≡ false)
     → All (SameUnder t u) gone → All (SameUnder t (record u { nodes = with_node u.nodes node (relinked home name) })) gone
 moved_same t u gone node home name old sound were there present out same k d within j folder up =
-    let top = get_or gone k d in
-    ap (λ (rows : List NodeRow). map (λ row. row.id) (by_name rows))
-    (filter_with (is_in folder) u.nodes node (relinked home name) (λ row is. (
-      ap (is_in folder) (same_Some row old (sym is ∙ there)) ∙ out top j folder (were k d within) up,
-      ne_eqb home folder (λ same. never_under t top j folder sound (were k d within) up (subst (LeadsToRoot t.nodes) same present)),
-    )))
-    ∙ same k d within j folder up
+    let top = get_or gone k d in (
+      ap (λ (rows : List NodeRow). map (λ row. row.id) (by_name rows))
+          (filter_with (is_in folder) u.nodes node (relinked home name) (λ row is. (
+            ap (is_in folder) (same_Some row old (sym is ∙ there)) ∙ out top j folder (were k d within) up,
+            ne_eqb home folder (λ same. never_under t top j folder sound (were k d within) up (subst (LeadsToRoot t.nodes) same present)),
+          )))
+          ∙ (same k d within j folder up).0,
+      (same k d within j folder up).1,
+    )
 
 pub relink_tells : (t u : Tables) (gone : List ℕ) (node : ℕ) (row : NodeRow) (home : ℕ) (name : List ℕ) → AreSound t → All (IsItem t) gone
     → node_row t.nodes node ≡ Some row → LeadsToRoot t.nodes node → LeadsToRoot t.nodes home → node_row u.nodes node ≡ Some row
@@ -166,12 +184,14 @@ leave_tells t u now gone row sound also known is were under closed =
     purging : Tells t u gone (deed.Purge row.id)
     purging = record {
       told =
-          ap (λ (nodes : List ℕ). (map (λ node. Drop (keys.Node node)) nodes ++ closed_under u.nodes u.shares row.id) ++ told_item u row.id)
+          ap (λ (changes : List Change). changes ++ (gone_under u.nodes u.shares row.id ++ told_item u row.id)) (same_forgotten t u row.id sound under)
+          ∙ ap (λ (changes : List Change). forgotten_under t.nodes t.versions row.id ++ changes)
+          (ap (λ (nodes : List ℕ). (map (λ node. Drop (keys.Node node)) nodes ++ closed_under u.nodes u.shares row.id) ++ told_item u row.id)
           (same_walk t u row.id sound under)
           ∙ ap (λ (closing : List Change). (dropped_under t.nodes row.id ++ closing) ++ told_item u row.id) closed
           ∙ ap (λ (b : Bool). all ++ (if b then Drop (keys.Item row.id) ∷ [] else [])) (no_item u also is.present)
           ∙ append-nil all
-          ∙ sym (ap (λ (b : Bool). if b then dropped_under t.nodes row.id ++ Drop (keys.Item row.id) ∷ [] else all) (no_item t sound known.present));
+          ∙ sym (ap (λ (b : Bool). if b then dropped_under t.nodes row.id ++ Drop (keys.Item row.id) ∷ [] else all) (no_item t sound known.present)));
       items = λ items k d within.
           ap is_some (item_other row.id (get_or gone k d) u.items (present_other t row.id (get_or gone k d) sound known.present (were k d within)))
           ∙ items k d within;
@@ -187,14 +207,16 @@ leave_tells t u now gone row sound also known is were under closed =
           (is.there ∙ sym known.there)
           ∙ ap (λ (closing : List Change). told_node (node_row t.nodes row.id) trashed ++ Put (rows.Item (item_for now row)) ∷ closing) closed;
       items = λ items k d within. item_put (item_for now row) u.items (get_or gone k d) (items k d within);
-      same = λ items same k d within j folder up.
-          ap (λ (rows : List NodeRow). map (λ row. row.id) (by_name rows))
-          (filter_with (is_in folder) u.nodes row.id trashed (λ old there. (
-            ap (is_in folder) (same_Some old row (sym there ∙ is.there))
-                ∙ never_in t (get_or gone k d) j folder row.id row sound (were k d within) up known.there known.present,
-            refl,
-          )))
-          ∙ same k d within j folder up;
+      same = λ items same k d within j folder up. (
+        ap (λ (rows : List NodeRow). map (λ row. row.id) (by_name rows))
+            (filter_with (is_in folder) u.nodes row.id trashed (λ old there. (
+              ap (is_in folder) (same_Some old row (sym there ∙ is.there))
+                  ∙ never_in t (get_or gone k d) j folder row.id row sound (were k d within) up known.there known.present,
+              refl,
+            )))
+            ∙ (same k d within j folder up).0,
+        (same k d within j folder up).1,
+      );
     }
 
 -- ---- copies that are joined
@@ -224,12 +246,14 @@ pub join_same : (t u : Tables) (now : ℕ) (transfer : Transfer) (name : List �
 join_same t u now transfer name copies top sound mirrors given out same j folder up =
     let old = climbs_given t j folder top sound given up in
     let none = none_joined t now transfer name copies folder mirrors old
-    (λ is. out j (subst (λ (n : ℕ). climb t.nodes j n ≡ Some top) (sym is) up)) in
-    ap (λ (rows : List NodeRow). map (λ row. row.id) (by_name rows))
-    (filter-append (is_in folder) u.nodes copies
-    ∙ ap (λ (rows : List NodeRow). filter (is_in folder) u.nodes ++ rows) none
-    ∙ append-nil (filter (is_in folder) u.nodes))
-    ∙ same j folder up
+    (λ is. out j (subst (λ (n : ℕ). climb t.nodes j n ≡ Some top) (sym is) up)) in (
+      ap (λ (rows : List NodeRow). map (λ row. row.id) (by_name rows))
+          (filter-append (is_in folder) u.nodes copies
+          ∙ ap (λ (rows : List NodeRow). filter (is_in folder) u.nodes ++ rows) none
+          ∙ append-nil (filter (is_in folder) u.nodes))
+          ∙ (same j folder up).0,
+      (same j folder up).1,
+    )
 
 pub join_tells : (t u : Tables) (now : ℕ) (gone : List ℕ) (transfer : Transfer) (name : List ℕ) (copies : List NodeRow) → AreSound t
     → Mirrors t now transfer name copies → LeadsToRoot t.nodes transfer.folder → All (IsItem t) gone → Tells t u gone (deed.Join copies)

@@ -1,9 +1,11 @@
 -- What goes for good: each is told of the tables before all of it, since nothing of one is under another.
-use Rattle.std.proofs.Common.{◌≡◌, ◌≢◌, inl, inr, ℕ, suc, ◌&&◌, Bool, false, not, List, [], ◌∷◌, ◌++◌, None, Some, get_or, if◌then◌else◌, map, refl, sym, ap, subst, ◌∙◌, arith}
+use Rattle.std.proofs.Common.{◌≡◌, ◌≢◌, inl, inr, ℕ, suc, ◌==◌, ◌&&◌, Bool, false, true, not, List, [], ◌∷◌, ◌++◌, Option, None, Some, filter, get_or, if◌then◌else◌, map, refl, sym, ap, subst, ◌∙◌, arith}
+use Rattle.std.specs.Prelude.{is_some}
 use Rattle.std.specs.List.{All, AllPairs, Contains, flat_map}
-use Rattle.std.proofs.lemmas.Bool.{cases_Bool, false_from_ne_true, not-false}
+use Rattle.std.specs.Option.{option_map_or}
+use Rattle.std.proofs.lemmas.Bool.{both_ways, cases_Bool, cond_both, eqb-true, false_from_ne_true, not-false}
 use Rattle.std.proofs.lemmas.List.{append-nil}
-use Rattle.std.proofs.lemmas.List.Elements.{All-head, All-tail}
+use Rattle.std.proofs.lemmas.List.Elements.{All-contains_itself, All-head, All-tail}
 use Rattle.std.proofs.lemmas.Option.{same_Some}
 use Rattle.nf_base.specs.declared.changes.Change.{Change}
 use Rattle.nf_base.specs.declared.changes.Change.TheVariants.{Drop}
@@ -11,30 +13,34 @@ use Rattle.nf_base.specs.declared.changes.RowKey.TheVariants as keys
 use Rattle.nf_base.specs.declared.limits.TheConstants.{MAX_DEPTH}
 use Rattle.nf_base.specs.declared.rows.NodeRow.{NodeRow}
 use Rattle.nf_base.specs.declared.rows.ShareRow.{ShareRow}
+use Rattle.nf_base.specs.declared.rows.VersionRow.{VersionRow}
 use Rattle.nf_defs.proofs.Climbs.{under_climb}
 use Rattle.nf_defs.proofs.Walks.{climbs_walk, inside_of, node_row_each, walk_climbs}
-use Rattle.nf_defs.specs.Prelude.{by_name, children_of, climb, folder_of, is_in, is_under, parent_of, Tables, walk_of}
+use Rattle.nf_defs.specs.Prelude.{by_name, children_of, climb, folder_of, is_file, is_folder_kind, is_in, is_under, node_row, parent_of, Tables, walk_of, without_under}
 use Rattle.nf_laws.proofs.Climbs.{climbs_no_further, parent_at}
+use Rattle.nf_laws.proofs.Gone.{row_left}
 use Rattle.nf_laws.proofs.Present.{below_present, never_trash}
 use Rattle.nf_laws.proofs.InTurn.{item_outside, item_stays}
 use Rattle.nf_laws.proofs.Sources.{filter_left, walk_by}
 use Rattle.nf_laws.proofs.Trashed.{item_top, purged_sound}
 use Rattle.nf_laws.proofs.Upwards.{climb_short}
 use Rattle.nf_words.proofs.Known.{IsItem}
-use Rattle.nf_words.specs.Prelude.{AreSound, closed_under, dropped_under, gone_under, is_closing, LeadsToRoot, purged, purges, told_deed, told_deeds, told_item}
+use Rattle.nf_words.specs.Prelude.{AreSound, closed_under, dropped_under, forgotten_of, forgotten_under, gone_under, is_closing, LeadsToRoot, purged, purges, told_deed, told_deeds, told_item, versions_of}
 use Rattle.nf_words.specs.declared.answer.Deed.TheVariants as deed
 use Rattle.nf_decide.specs.Gone.{told_first, told_gone}
 
 -- ---- what is under an item, in other tables
 
--- each folder that is under a node has the same children there
+-- each node that is under another has the same children and versions there
 abbrev pub SameUnder : Tables → Tables → ℕ → Type 0
-SameUnder t u top = (j folder : ℕ) → climb t.nodes j folder ≡ Some top → children_of u.nodes folder ≡ children_of t.nodes folder
+SameUnder t u top =
+    (j folder : ℕ) → climb t.nodes j folder ≡ Some top
+    → (children_of u.nodes folder ≡ children_of t.nodes folder) × (versions_of u.versions folder ≡ versions_of t.versions folder)
 
 -- so the walk from it is the same
 pub same_walk : (t u : Tables) (top : ℕ) → AreSound t → SameUnder t u top → walk_of u.nodes top ≡ walk_of t.nodes top
 unfolding walk_of
-same_walk t u top sound same = walk_by MAX_DEPTH t u.nodes top sound same 0 top refl
+same_walk t u top sound same = walk_by MAX_DEPTH t u.nodes top sound (λ j folder up. (same j folder up).0) 0 top refl
 
 -- and what climbs to it does so there
 still_climbs : (t u : Tables) (top j node : ℕ) → AreSound t → AreSound u → SameUnder t u top → climb t.nodes j node ≡ Some top
@@ -44,6 +50,54 @@ still_climbs t u top j node sound also same up =
     let is = walk_climbs u.nodes top node also.rising (subst (λ (nodes : List ℕ). Contains nodes node) (sym (same_walk t u top sound same)) was) in
     (is.0, is.2)
 
+-- ---- versions of what goes, and of what stays
+
+-- where all that a second test keeps out fails the first, the first alone says what is left
+version_left : (p q : VersionRow → Bool) (rows : List VersionRow) → All (λ (row : VersionRow). q row ≡ false → p row ≡ false) rows
+    → filter p (filter q rows) ≡ filter p rows
+version_left p q [] own = refl
+version_left p q (x ∷ rows) own =
+    let rest = version_left p q rows (All-tail (λ (row : VersionRow). q row ≡ false → p row ≡ false) x rows own) in
+    cond_both (q x) (x ∷ filter q rows) (filter q rows) (λ left. filter p left ≡ filter p (x ∷ rows))
+    (λ e. ap (λ (left : List VersionRow). if p x then x ∷ left else left) rest)
+    (λ e. rest ∙ sym (ap (λ (b : Bool). if b then x ∷ filter p rows else filter p rows) (All-head (λ (row : VersionRow). q row ≡ false → p row ≡ false) x rows own e)))
+
+-- a version's node is there
+node_there : (t : Tables) (node : ℕ) → is_file t.nodes node ≡ true → is_some (node_row t.nodes node) ≡ true
+node_there t node is = here (node_row t.nodes node) is
+  where
+    here : (o : Option NodeRow) → option_map_or (λ row. not (is_folder_kind row.kind)) o false ≡ true → is_some o ≡ true
+    here None is = absurd (cc)
+    here (Some row) is = refl
+
+-- so what isn't under a node that goes keeps its versions
+pub versions_left : (t : Tables) (top node : ℕ) → AreSound t → is_under t.nodes node top ≡ false
+    → versions_of (purged t top).versions node ≡ versions_of t.versions node
+versions_left t top node sound outside =
+    version_left (λ row. row.node == node) (λ row. is_some (node_row (without_under t.nodes top) row.node)) t.versions
+    (λ k d within goes.
+    let row : VersionRow = get_or t.versions k d in
+    false_from_ne_true (row.node == node) (λ same.
+    let out : is_under t.nodes row.node top ≡ false = ap (λ (n : ℕ). is_under t.nodes n top) (eqb-true row.node node same) ∙ outside in
+    both_ways (is_some (node_row (without_under t.nodes top) row.node)) goes
+    (ap is_some (row_left t.nodes top row.node out) ∙ node_there t row.node (sound.others.versions k d within).file)))
+
+-- those of what is under a node are told the same
+flat_same : (f g : ℕ → List Change) (nodes : List ℕ) → All (λ (node : ℕ). f node ≡ g node) nodes → flat_map f nodes ≡ flat_map g nodes
+flat_same f g [] same = refl
+flat_same f g (node ∷ nodes) same =
+    ap (λ (front : List Change). front ++ flat_map f nodes) (All-head (λ (node : ℕ). f node ≡ g node) node nodes same)
+    ∙ ap (λ (rest : List Change). g node ++ rest) (flat_same f g nodes (All-tail (λ (node : ℕ). f node ≡ g node) node nodes same))
+
+pub same_forgotten : (t u : Tables) (top : ℕ) → AreSound t → SameUnder t u top
+    → forgotten_under u.nodes u.versions top ≡ forgotten_under t.nodes t.versions top
+same_forgotten t u top sound same =
+    ap (λ (nodes : List ℕ). flat_map (forgotten_of u.versions) nodes) (same_walk t u top sound same)
+    ∙ flat_same (forgotten_of u.versions) (forgotten_of t.versions) (walk_of t.nodes top) (λ k d within.
+    let node = get_or (walk_of t.nodes top) k d in
+    let up = walk_climbs t.nodes top node sound.rising (All-contains_itself (walk_of t.nodes top) k d within) in
+    ap (λ (rows : List VersionRow). map (λ row. Drop (keys.Version row.node row.at)) rows) (same up.0 node up.2).1)
+
 -- no node climbs to both
 abbrev pub AreApartIn : List NodeRow → ℕ → ℕ → Type 0
 AreApartIn rows a b = (node i k : ℕ) → climb rows i node ≡ Some a → climb rows k node ≡ Some b → ⊥
@@ -51,10 +105,19 @@ AreApartIn rows a b = (node i k : ℕ) → climb rows i node ≡ Some a → clim
 -- so what is under the one is the same without the other
 pub purge_same : (t u : Tables) (node top : ℕ) → AreSound t → AreSound u → AreApartIn u.nodes node top → SameUnder t u top
     → SameUnder t (purged u node) top
-purge_same t u node top sound also apart same j folder up =
-    ap (λ (rows : List NodeRow). map (λ row. row.id) (by_name rows))
-    (filter_left (is_in folder) (λ row. not (is_under u.nodes row.id node)) u.nodes none_goes) ∙ same j folder up
+purge_same t u node top sound also apart same j folder up = (
+  ap (λ (rows : List NodeRow). map (λ row. row.id) (by_name rows))
+      (filter_left (is_in folder) (λ row. not (is_under u.nodes row.id node)) u.nodes none_goes) ∙ (same j folder up).0,
+  versions_left u node folder also outside ∙ (same j folder up).1,
+)
   where
+    outside : is_under u.nodes folder node ≡ false
+    outside =
+        false_from_ne_true (is_under u.nodes folder node) (λ under.
+        let c = still_climbs t u top j folder sound also same up in
+        let e = under_climb u.nodes folder node under in
+        apart folder e.0 c.0 e.2 c.1)
+
     none_goes : All (λ (row : NodeRow). not (is_under u.nodes row.id node) ≡ false → is_in folder row ≡ false) u.nodes
     none_goes k d within goes =
         let row : NodeRow = get_or u.nodes k d in
@@ -111,11 +174,13 @@ item_told : (t u : Tables) (top : ℕ) → AreSound t → AreSound u → IsItem 
     → told_deed u (deed.Purge top) ≡ told_gone t top
 item_told t u top sound also was is same =
     let dropped = dropped_under t.nodes top in
-    ap (λ (nodes : List ℕ). (map (λ node. Drop (keys.Node node)) nodes ++ closed_under u.nodes u.shares top) ++ told_item u top) (same_walk t u top sound same)
+    ap (λ (changes : List Change). changes ++ (gone_under u.nodes u.shares top ++ told_item u top)) (same_forgotten t u top sound same)
+    ∙ ap (λ (changes : List Change). forgotten_under t.nodes t.versions top ++ changes)
+    (ap (λ (nodes : List ℕ). (map (λ node. Drop (keys.Node node)) nodes ++ closed_under u.nodes u.shares top) ++ told_item u top) (same_walk t u top sound same)
     ∙ ap (λ (closed : List Change). (dropped ++ closed) ++ told_item u top) (item_closed u top also is)
     ∙ ap (λ (changes : List Change). changes ++ told_item u top) (append-nil dropped)
     ∙ ap (λ (b : Bool). dropped ++ (if b then Drop (keys.Item top) ∷ [] else [])) is
-    ∙ sym (ap (λ (b : Bool). if b then dropped ++ Drop (keys.Item top) ∷ [] else gone_under t.nodes t.shares top) was)
+    ∙ sym (ap (λ (b : Bool). if b then dropped ++ Drop (keys.Item top) ∷ [] else gone_under t.nodes t.shares top) was))
 
 -- and so are items one after the other
 pub items_told : (t u : Tables) (gone : List ℕ) → AreSound t → AreSound u → All (IsItem t) gone → All (IsItem u) gone → All (SameUnder t u) gone

@@ -49,7 +49,7 @@ seen_on t walk items more =
 
 -- ---- what is seen of items
 
-map_reverse : {X Y : Type 0} (f : X → Y) (xs : List X) → map f (reverse xs) ≡ reverse (map f xs)
+pub map_reverse : {X Y : Type 0} (f : X → Y) (xs : List X) → map f (reverse xs) ≡ reverse (map f xs)
 map_reverse f [] = refl
 map_reverse {Y = Y} f (x ∷ xs) =
     ap (map f) (reverse-append (x ∷ []) xs)
@@ -81,7 +81,7 @@ walked t now quota total items aged order sum =
 -- ---- without an item
 
 -- where all pass a test all are left
-all_left : {X : Type 0} (test : X → Bool) (xs : List X) → All (λ (x : X). test x ≡ true) xs → filter test xs ≡ xs
+pub all_left : {X : Type 0} (test : X → Bool) (xs : List X) → All (λ (x : X). test x ≡ true) xs → filter test xs ≡ xs
 all_left test [] passes = refl
 all_left {X = X} test (x ∷ xs) passes =
     rw (All-head (λ (x : X). test x ≡ true) x xs passes)

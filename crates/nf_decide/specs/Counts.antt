@@ -7,7 +7,7 @@ use Rattle.nf_decide.specs.declared.counts.RowCounts.{RowCounts}
 
 -- so many nodes, and nothing else
 abbrev pub only_nodes : ℕ → RowCounts
-only_nodes nodes = record { users = 0; tokens = 0; groups = 0; members = 0; nodes = nodes; shares = 0; mounts = 0; items = 0 }
+only_nodes nodes = record { users = 0; tokens = 0; groups = 0; members = 0; nodes = nodes; shares = 0; mounts = 0; versions = 0; items = 0 }
 
 -- those of people alone
 abbrev pub people_of : RowCounts → PeopleCounts
@@ -26,6 +26,7 @@ pub record FitsRows (t : Tables) (room added : RowCounts) : Type 0 where
   pub nodes : FitsNodes t room.nodes added.nodes
   pub shares : length t.shares + added.shares ≤ room.shares
   pub mounts : length t.mounts + added.mounts ≤ room.mounts
+  pub versions : length t.versions + added.versions ≤ room.versions
   pub items : length t.items + added.items ≤ room.items
 
 -- as many people fit as before, or more
@@ -44,4 +45,5 @@ pub record IsNoSmaller (old new : RowCounts) : Type 0 where
   pub nodes : old.nodes ≤ new.nodes
   pub shares : old.shares ≤ new.shares
   pub mounts : old.mounts ≤ new.mounts
+  pub versions : old.versions ≤ new.versions
   pub items : old.items ≤ new.items

@@ -53,6 +53,11 @@ abbrev pub puts_mount : Change → Bool
 puts_mount (Put (rows.Mount row)) = true
 puts_mount other = false
 
+-- and a version
+abbrev pub puts_version : Change → Bool
+puts_version (Put (rows.Version row)) = true
+puts_version other = false
+
 -- and an item of the trash
 abbrev pub puts_item : Change → Bool
 puts_item (Put (rows.Item row)) = true
@@ -81,6 +86,7 @@ abbrev pub is_counted : Counted → Change → Bool
 is_counted (counted.Fresh next) = is_fresh next
 is_counted counted.Share = puts_share
 is_counted counted.Mount = puts_mount
+is_counted counted.Version = puts_version
 is_counted counted.Item = puts_item
 is_counted counted.User = puts_user
 is_counted counted.Token = puts_token
@@ -97,6 +103,7 @@ added_of next changes = record {
   nodes = count_by (is_fresh next) changes;
   shares = count_by puts_share changes;
   mounts = count_by puts_mount changes;
+  versions = count_by puts_version changes;
   items = count_by puts_item changes;
 }
 
@@ -120,6 +127,7 @@ added_deed (deed.Restore node folder name) = only_nodes 0
 added_deed (deed.Relink node folder name) = only_nodes 0
 added_deed (deed.Join rows) = only_nodes (length rows)
 added_deed (deed.Requote row) = record (only_nodes 0) { users = 1 }
+added_deed (deed.Forget node at) = only_nodes 0
 
 -- and some deeds; a machine counts no further
 abbrev pub nodes_joined : List Deed → ℕ
@@ -182,9 +190,10 @@ pub record IsFounded (old : List GroupRow) (row : GroupRow) : Type 0 where
   pub unnamed : group_named old row.name ≡ None
   pub few : length old + 1 ≤ MAX_GROUPS
 
--- the key is that of a member or of an item of the trash
+-- the key is that of a member, of a version or of an item of the trash
 abbrev pub IsDroppedKey : RowKey → Type 0
 IsDroppedKey (keys.Member group user) = Unit {0}
+IsDroppedKey (keys.Version node at) = Unit {0}
 IsDroppedKey (keys.Item node) = Unit {0}
 IsDroppedKey key = ⊥
 
@@ -199,6 +208,7 @@ IsBorne next t (Drop key) = IsDroppedKey key
 IsBorne next t (Put (rows.Node row)) = ((next ≤ row.id) × IsNew t.nodes row) ⊎ ((row.id < next) × IsRefilled t.nodes row)
 IsBorne next t (Put (rows.Share row)) = (old : ShareRow) → share_row t.shares row.id ≡ Some old → old.node ≡ row.node
 IsBorne next t (Put (rows.Mount row)) = Unit {0}
+IsBorne next t (Put (rows.Version row)) = Unit {0}
 IsBorne next t (Put (rows.Item row)) = Unit {0}
 IsBorne next t other = ⊥
 
@@ -216,6 +226,7 @@ IsCounted meta (Drop key) = IsDroppedKey key
 IsCounted meta (Put (rows.Node row)) = row.id + 1 ≤ max meta.next_node last_number
 IsCounted meta (Put (rows.Share row)) = row.id + 1 ≤ max meta.next_share last_number
 IsCounted meta (Put (rows.Mount row)) = Unit {0}
+IsCounted meta (Put (rows.Version row)) = Unit {0}
 IsCounted meta (Put (rows.Item row)) = Unit {0}
 IsCounted meta other = ⊥
 
@@ -252,6 +263,7 @@ BearsDeed t (deed.Restore node folder name) = BearsPlace t node folder name
 BearsDeed t (deed.Relink node folder name) = BearsPlace t node folder name
 BearsDeed t (deed.Join rows) = BearsCopies t rows
 BearsDeed t (deed.Requote row) = IsRequoted t.users row
+BearsDeed t (deed.Forget node at) = Unit {0}
 
 -- each deed can be borne by the tables after those before it
 abbrev pub BearsDeeds : Tables → List Deed → Type 0

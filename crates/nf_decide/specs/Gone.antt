@@ -6,13 +6,15 @@ use Rattle.nf_base.specs.declared.changes.Change.TheVariants.{Drop}
 use Rattle.nf_base.specs.declared.changes.RowKey.TheVariants as keys
 use Rattle.nf_defs.specs.Prelude.{item_row, Tables}
 use Rattle.nf_words.specs.Deeds.{dropped_under, gone_under, told_deed, told_deeds}
+use Rattle.nf_words.specs.Versions.{forgotten_under}
 use Rattle.nf_words.specs.declared.answer.Deed.{Deed}
 use Rattle.nf_words.specs.declared.answer.Deed.TheVariants as deed
 
--- a node that goes: of an item of the trash no share is left to end, and nothing else has an item
+-- a node that goes, with the versions of all under it: of an item of the trash no share is left to end, and nothing else has an item
 abbrev pub told_gone : Tables → ℕ → List Change
 told_gone t node =
-    if is_some (item_row t.items node) then dropped_under t.nodes node ++ Drop (keys.Item node) ∷ [] else gone_under t.nodes t.shares node
+    forgotten_under t.nodes t.versions node
+    ++ (if is_some (item_row t.items node) then dropped_under t.nodes node ++ Drop (keys.Item node) ∷ [] else gone_under t.nodes t.shares node)
 
 -- the node of the item that a deed takes out for good, if it does
 abbrev pub item_gone : Tables → Deed → Option ℕ

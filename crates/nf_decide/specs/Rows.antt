@@ -5,13 +5,14 @@ use Rattle.nf_base.specs.declared.rows.MetaRow.{MetaRow}
 use Rattle.nf_base.specs.declared.rows.MountRow.{MountRow}
 use Rattle.nf_base.specs.declared.rows.NodeRow.{NodeRow}
 use Rattle.nf_base.specs.declared.rows.ShareRow.{ShareRow}
+use Rattle.nf_base.specs.declared.rows.VersionRow.{VersionRow}
 use Rattle.nf_defs.specs.Tables.{Tables, no_rows}
 use Rattle.nf_decide.specs.declared.counts.RowCounts.{RowCounts}
 use Rattle.nf_people.specs.People.{PeopleValue}
 
 -- the tables of the rows of each kind that is built; there are none of the others
-abbrev pub tables_in : MetaRow → PeopleValue → List NodeRow → List ShareRow → List MountRow → List ItemRow → Tables
-tables_in meta people nodes shares mounts items = record no_rows {
+abbrev pub tables_in : MetaRow → PeopleValue → List NodeRow → List ShareRow → List MountRow → List VersionRow → List ItemRow → Tables
+tables_in meta people nodes shares mounts versions items = record no_rows {
   meta = meta;
   users = people.users;
   tokens = people.tokens;
@@ -20,6 +21,7 @@ tables_in meta people nodes shares mounts items = record no_rows {
   nodes = nodes;
   shares = shares;
   mounts = mounts;
+  versions = versions;
   items = items;
 }
 

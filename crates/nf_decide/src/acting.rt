@@ -6,12 +6,14 @@ ghost use Rattle.nf_base.specs.declared.rows.Row.TheVariants as kinds;
 ghost use Rattle.nf_base.specs.Kept.{IsPlain};
 ghost use Rattle.nf_defs.specs.Prelude.{node_row};
 ghost use Rattle.nf_defs.specs.declared.Found.TheVariants.{Free};
-ghost use Rattle.nf_words.specs.Prelude.{AreSound, carries, carry_limit, copied, copies, copy_limit, crossing, deleted, last_name, made_folder, made_or_done, makes, moved, moves, new_node, stored};
+ghost use Rattle.nf_words.specs.Prelude.{AreSound, carries, carry_limit, charged_for, copied, copies, copy_limit, crossing, deleted, last_name, made_folder, made_or_done, makes, moved, moves, new_node, stored};
 
 use crate::copying::copies_to;
 use crate::discarding::done;
 use crate::leaving::leaves;
 use crate::nodes::owner_of;
+use crate::quotas::size_replaced;
+use crate::settling::{Charged, owner_charged, settle};
 use crate::shared::nothing_done;
 use crate::transferring::crosses;
 use crate::view::View;
@@ -178,7 +180,9 @@ fn copies(
     ensures { IfOk result (λ deeds. deeds.items ≡ copies view.now.tables moment name transfer.now) }
 {
     let deed = Deed::Join(copies_to(alloc, view, moment, transfer, name)?);
-    leaves(alloc, view, moment, transfer.replaced)?.before(deed)
+    let mut deeds = leaves(alloc, view, moment, transfer.replaced)?.before(deed)?;
+    settle(alloc, view, &charged_at(view, transfer), &mut deeds)?;
+    Ok(deeds)
 }
 
 fn crossing(
@@ -195,7 +199,19 @@ fn crossing(
     let deed = Deed::Join(copies_to(alloc, view, moment, transfer, name)?);
     let replaced = leaves(alloc, view, moment, transfer.replaced)?;
     let source = leaves(alloc, view, moment, Some(transfer.node))?;
-    replaced.before_both(deed, source)
+    let mut deeds = replaced.before_both(deed, source)?;
+    settle(alloc, view, &charged_at(view, transfer), &mut deeds)?;
+    Ok(deeds)
+}
+
+/// Who is charged for copies: the owner of their folder, in the place of what they replace.
+fn charged_at(view: &View<'_>, transfer: &Transfer) -> Charged
+    requires { AreSound view.now.tables }
+    ensures { result ≡ charged_for view.now.tables transfer.now }
+{
+    let old = size_replaced(view, &transfer.replaced);
+    let owner = owner_of(view.tree(), transfer.folder);
+    owner_charged(view, owner, old, view.size(transfer.node))
 }
 
 /// What is put at a place is made, where nothing was there.

@@ -65,7 +65,9 @@ pub(crate) fn is_transfer(makes: &Making) -> bool
         | Making::Folder
         | Making::Shared
         | Making::Told
-        | Making::Restored { .. } => false,
+        | Making::Restored { .. }
+        | Making::Sent { .. }
+        | Making::Refilled { .. } => false,
     }
 }
 

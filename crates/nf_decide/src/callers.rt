@@ -117,6 +117,7 @@ impl<'a> Call<'a> {
             Wanted::People(_) => self.view.people().is_admin(asker_of(caller)),
             Wanted::Share(_)
             | Wanted::Trash(_)
+            | Wanted::Version(_)
             | Wanted::Get(_)
             | Wanted::Put { .. }
             | Wanted::Mkcol(_)
@@ -143,7 +144,7 @@ fn is_about_files(wanted: &Wanted) -> bool
     ensures { result ≡ is_about_files wanted.now }
 {
     match wanted {
-        Wanted::Share(_) | Wanted::People(_) | Wanted::Trash(_) => false,
+        Wanted::Share(_) | Wanted::People(_) | Wanted::Trash(_) | Wanted::Version(_) => false,
         Wanted::Get(_)
         | Wanted::Put { .. }
         | Wanted::Mkcol(_)

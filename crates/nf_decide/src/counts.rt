@@ -5,7 +5,7 @@ ghost use Rattle.nf_decide.specs.Counts.{only_nodes, people_of};
 
 use nf_people::PeopleCounts;
 
-/// How many users, tokens, groups, members, nodes, shares, mounts and items of the trash.
+/// How many users, tokens, groups, members, nodes, shares, mounts, versions and items of the trash.
 #[derive(Clone, Copy, PartialEq, Eq)]
 pub struct RowCounts {
     pub users: usize,
@@ -15,6 +15,7 @@ pub struct RowCounts {
     pub nodes: usize,
     pub shares: usize,
     pub mounts: usize,
+    pub versions: usize,
     pub items: usize,
 }
 
@@ -31,6 +32,7 @@ impl RowCounts {
             nodes,
             shares: 0,
             mounts: 0,
+            versions: 0,
             items: 0,
         }
     }

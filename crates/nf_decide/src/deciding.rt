@@ -12,12 +12,12 @@ ghost use Rattle.nf_decide.specs.Deciding.{Follows, IsNamed, IsThere, asking_of,
 use crate::acting::{copied, deleted, made_folder, moved, stored};
 use crate::asked::{is_forbidden, is_kept, is_transfer, node_at};
 use crate::items::item_row;
-use crate::limits::{carry_limit, copy_limit, limit_at, offer_limit, pieces_of, restored_limit};
+use crate::limits::{back_limit, carry_limit, copy_limit, limit_at, offer_limit, pieces_of, restored_limit};
 use crate::locking::locked;
 use crate::mounting::mount_itself;
 use crate::nodes::is_folder;
 use crate::people::{people_done, people_limit};
-use crate::quotas::{carry_excess, copy_excess, excess_at, restore_excess};
+use crate::quotas::{back_excess, carry_excess, copy_excess, excess_at, restore_excess};
 use crate::transferring::{transfer_of, unfit};
 use crate::view::View;
 use nf_base::{Moment, NodeId, ShareRow};
@@ -68,7 +68,8 @@ struct Seen {
 impl<'a> Call<'a> {
     /// What the step may do, or its refusal by the first rule that holds.
     pub fn decide(&self, alloc: Global) -> Result<Result<Allowed, Denial>, AllocError>
-        requires { AreSound self.now.state.tables }
+        requires sound { AreSound self.now.state.tables }
+        requires late { self.now.state.tables.meta.last ≤ self.now.now }
         ensures { IfOk result (λ decision. decision ≡ call_decision self.entry.now) }
     {
         let seen = match self.judge() {
@@ -150,6 +151,7 @@ impl<'a> Call<'a> {
             Wanted::Share(_) => self.offer_room(alloc, offer),
             Wanted::People(ask) => people_limit(alloc, &self.view, ask),
             Wanted::Trash(_)
+            | Wanted::Version(_)
             | Wanted::Get(_)
             | Wanted::Put { .. }
             | Wanted::Mkcol(_)
@@ -200,6 +202,7 @@ impl<'a> Call<'a> {
         self.reached(&asker, link, &ways)?;
         self.named(&asker)?;
         self.allows(&asker, &ways)?;
+        self.lacks_version()?;
         let places = self.places(&ways);
         let offer = self.offer(&ways);
         self.places_fit(&asker, &ways, &places, &offer)?;
@@ -271,7 +274,10 @@ impl<'a> Call<'a> {
         let asked = self.request.wanted.asked();
         match asker.acts(&asked, ways) {
             Some(refusal) => Err(refusal),
-            None => Ok(()),
+            None => match self.version_refused(asker) {
+                Some(refusal) => Err(refusal),
+                None => Ok(()),
+            },
         }
     }
 
@@ -288,7 +294,9 @@ impl<'a> Call<'a> {
             | Making::Copied
             | Making::Shared
             | Making::Told
-            | Making::Restored { .. } => false,
+            | Making::Restored { .. }
+            | Making::Sent { .. }
+            | Making::Refilled { .. } => false,
         };
         if is_taken {
             Err(Denial::Exists(Route::Files))
@@ -330,7 +338,7 @@ impl<'a> Call<'a> {
         let view = &self.view;
         let asked = self.request.wanted.asked();
         match &asked.makes {
-            Making::Nothing | Making::Shared | Making::Told => Ok(None),
+            Making::Nothing | Making::Shared | Making::Told | Making::Sent { .. } => Ok(None),
             Making::File { length } => Ok(limit_there(view, places.target, pieces_of(*length))),
             Making::Folder => Ok(limit_there(view, places.target, 0)),
             Making::Moved => match transfer_of(view.tree(), places) {
@@ -342,6 +350,7 @@ impl<'a> Call<'a> {
                 None => Ok(None),
             },
             Making::Restored { item } => restored_limit(alloc, view, item_row(view, *item)),
+            Making::Refilled { node, at } => Ok(back_limit(view, *node, *at)),
         }
     }
 
@@ -353,11 +362,16 @@ impl<'a> Call<'a> {
         let view = &self.view;
         let asked = self.request.wanted.asked();
         match &asked.makes {
-            Making::Nothing | Making::Folder | Making::Shared | Making::Told => None,
+            Making::Nothing
+            | Making::Folder
+            | Making::Shared
+            | Making::Told
+            | Making::Sent { .. } => None,
             Making::File { length } => excess_there(view, places.target, *length),
             Making::Moved => carry_excess(view, &transfer_of(view.tree(), places)?),
             Making::Copied => copy_excess(view, &transfer_of(view.tree(), places)?),
             Making::Restored { item } => restore_excess(view, item_row(view, *item)?),
+            Making::Refilled { node, at } => back_excess(view, *node, *at),
         }
     }
 
@@ -372,6 +386,7 @@ impl<'a> Call<'a> {
         requires named { IsNamed self.now }
         requires there { IsThere self.now.state.tables seen.now.offer }
         requires few { limited self.now.state.tables (places_of self.now) (asked_by self.now).makes ≡ None }
+        requires late { self.now.state.tables.meta.last ≤ self.now.now }
         ensures { IfOk result (λ allowed. allowed ≡ allowed_of (access_of self.entry.now.state) self.entry.now) }
     {
         let view = &self.view;
@@ -400,6 +415,7 @@ impl<'a> Call<'a> {
             Wanted::Share(ask) => self.about_shares(alloc, seen, ask),
             Wanted::People(ask) => people_done(alloc, view, self.now, ask),
             Wanted::Trash(ask) => self.trash_done(alloc, &self.asker_seen(seen), ask),
+            Wanted::Version(ask) => self.version_done(alloc, ask),
         }
     }
 

@@ -10,6 +10,7 @@ ghost use Rattle.nf_words.specs.declared.answer.Report.TheVariants as report;
 
 use crate::going::{gone_beside, gone_by};
 use crate::homes::{home_of, name_back};
+use crate::settling::{Charged, owner_charged, settle};
 use crate::shared::nothing_done;
 use crate::view::View;
 use nf_base::{ItemRow, Moment, NodeId, NodeRow, Place, UserId, UserRow};
@@ -131,6 +132,8 @@ pub(crate) fn item_restored(
     let mut deeds = Vec::new(alloc);
     deeds.push(deed)?;
     push_purges(&mut deeds, &gone_beside(alloc, view, moment, item)?)?;
+    let charged = owner_charged(view, item.owner, 0, view.size(item.node));
+    settle(alloc, view, &charged, &mut deeds)?;
     Ok(done(deeds, Report::Made))
 }
 
@@ -173,6 +176,12 @@ pub(crate) fn requoted(
     let mut deeds = Vec::new(alloc);
     deeds.push(Deed::Requote(with_quota(row, quota)?))?;
     push_purges(&mut deeds, &gone)?;
+    let charged = Charged {
+        owner: row.id,
+        charge: u128::from(view.charge(row.id)),
+        quota,
+    };
+    settle(alloc, view, &charged, &mut deeds)?;
     Ok(done(deeds, Report::Plain))
 }
 

@@ -3,28 +3,25 @@
 ghost use Rattle.std.specs.Prelude.{◌≡◌, ◌≤◌, ◌==◌, ◌&&◌, true, false, IfOk, None, Some, option_map, if◌then◌else◌};
 ghost use Rattle.std.specs.Option.{ForSome, option_or};
 ghost use Rattle.nf_base.specs.declared.limits.TheConstants.{MAX_BODY};
-ghost use Rattle.nf_base.specs.Content.{content_eq};
 ghost use Rattle.nf_base.specs.declared.rows.NodeKind.TheVariants.{File};
-ghost use Rattle.nf_defs.specs.Tree.{filled, is_file, is_folder_kind, node_row};
-ghost use Rattle.nf_words.specs.declared.answer.Allowed.TheVariants.{Change};
-ghost use Rattle.nf_words.specs.declared.answer.Report.TheVariants.{Done};
-ghost use Rattle.nf_words.specs.Prelude.{access_of, AreSound, blob_for, content_in, end_lost, end_refusal, end_unfit, ends_goal, excess_at, IsGoalSound, IsHeld, IsStorable, limit_at, makes, MayBring, needed_by, new_node, node_of_key, pieces_of, place_of, refilled, stored_at, stores};
+ghost use Rattle.nf_words.specs.Prelude.{access_of, AreSound, blob_for, content_in, end_lost, end_refusal, end_unfit, ends_goal, excess_at, IsGoalSound, IsHeld, IsStorable, limit_at, MayBring, needed_by, new_node, node_of_key, pieces_of, place_of, stored_at, stored_new, stores};
 ghost use Rattle.nf_words.specs.declared.answer.By.{By as TheBy};
 ghost use Rattle.nf_words.specs.declared.answer.Denial.TheVariants.{Limit, NotFound, Quota};
 ghost use Rattle.nf_reach.specs.Asking.{refusal_for};
 ghost use Rattle.nf_decide.specs.Ending.{unreached_unless_owner};
 
-use crate::acting::{makes, new_node, only};
+use crate::acting::{new_node, only};
 use crate::limits::{limit_at, pieces_of};
 use crate::nodes::{is_root, owner_of};
 use crate::quotas::excess_at;
+use crate::refilling::{push_dropped, stored_over};
+use crate::settling::{owner_charged, settled};
 use crate::view::View;
 use nf_base::{
-    Act, BlobId, Changes, Content, Digest, Moment, Name, NodeId, NodeKind, NodeRow, Piece,
+    Act, BlobId, Content, Digest, Moment, Name, NodeId, NodeKind, Piece,
 };
 use nf_defs::Found;
 use nf_reach::Asker;
-use nf_tree::Tree;
 use nf_words::{Allowed, By, Denial, Goal, LockKey, Outcome, Report};
 use std::alloc::{AllocError, Global};
 
@@ -40,6 +37,7 @@ pub fn decide_end(
     requires sound { IsGoalSound view.now.tables goal.now }
     requires held { IsStorable view.now.tables goal.now }
     requires brought { MayBring goal.now outcome.now }
+    requires late { view.now.tables.meta.last ≤ moment }
     ensures { IfOk result (λ decision. decision ≡ ends_goal (access_of view.now) view.now.tables moment outcome.now goal.now) }
 {
     match outcome {
@@ -63,6 +61,7 @@ fn store(
     requires rows { AreSound view.now.tables }
     requires few { length ≤ MAX_BODY }
     requires held { IsHeld view.now.tables key.now }
+    requires late { view.now.tables.meta.last ≤ moment }
     ensures { IfOk result (λ decision. decision ≡ stores (access_of view.now) view.now.tables moment by.now key.now digest.now length) }
 {
     match end_refusal(view, moment, by, key, length) {
@@ -179,6 +178,8 @@ fn stored_at(
 ) -> Result<Allowed, AllocError>
     requires few { length ≤ MAX_BODY }
     requires held { IsHeld view.now.tables key.now }
+    requires sound { AreSound view.now.tables }
+    requires late { view.now.tables.meta.last ≤ moment }
     ensures { IfOk result (λ allowed. allowed ≡ stored_at view.now.tables moment key.now digest.now length) }
 {
     let blob = blob_for(view.meta().next_blob, length);
@@ -191,26 +192,7 @@ fn stored_at(
     }
 }
 
-/// Another content of a file, whose body is in that blob.
-fn stored_over(
-    alloc: Global,
-    view: &View<'_>,
-    moment: Moment,
-    node: NodeId,
-    content: Content,
-    blob: Option<BlobId>,
-) -> Result<Allowed, AllocError>
-    requires { is_file view.now.tables.nodes node ≡ true }
-    ensures { IfOk result (λ allowed. allowed ≡ Change (refilled (node_row view.now.tables.nodes node) moment content) blob Done) }
-{
-    Ok(Allowed::Change {
-        changes: refilled(alloc, view.tree(), node, moment, content)?,
-        blob,
-        report: Report::Done,
-    })
-}
-
-/// A file under a free name, whose body is in that blob.
+/// A file under a free name, whose body is in that blob. Versions go that are beyond their bound then.
 fn stored_under(
     alloc: Global,
     view: &View<'_>,
@@ -220,47 +202,19 @@ fn stored_under(
     content: Content,
     blob: Option<BlobId>,
 ) -> Result<Allowed, AllocError>
-    ensures { IfOk result (λ allowed. allowed ≡ makes (new_node view.now.tables moment folder name.now File content) blob) }
+    requires { AreSound view.now.tables }
+    ensures { IfOk result (λ allowed. allowed ≡ stored_new view.now.tables (new_node view.now.tables moment folder name.now File content) blob) }
 {
     let name = name.copy()?;
+    let charged = owner_charged(view, owner_of(view.tree(), folder), 0, content.size());
+    let gone = settled(alloc, view, &charged)?;
     let row = new_node(view, moment, folder, name, NodeKind::File, content);
-    makes(alloc, row, blob)
-}
-
-/// A node's row with another content, where that is another.
-fn refilled(
-    alloc: Global,
-    tree: &Tree,
-    node: NodeId,
-    moment: Moment,
-    content: Content,
-) -> Result<Changes, AllocError>
-    requires { is_file tree.now.rows node ≡ true }
-    ensures { IfOk result (λ changes. changes ≡ refilled (node_row tree.now.rows node) moment content) }
-{
-    match tree.node(node) {
-        Some(row) if !is_same(row, moment, &content) => only(alloc, filled(row, moment, content)?),
-        Some(_) | None => Ok(Changes::new(alloc)),
-    }
-}
-
-/// Whether a row has that content since that moment.
-fn is_same(row: &NodeRow, moment: Moment, content: &Content) -> bool
-    ensures { result ≡ (content_eq row.now.content content.now && row.now.changed == moment) }
-{
-    row.content == *content && row.changed == moment
-}
-
-/// A row with another content.
-fn filled(row: &NodeRow, moment: Moment, content: Content) -> Result<NodeRow, AllocError>
-    requires { is_folder_kind row.now.kind ≡ false }
-    ensures { IfOk result (λ whole. whole ≡ filled content moment row.now) }
-{
-    Ok(NodeRow {
-        name: row.name.copy()?,
-        content,
-        changed: moment,
-        ..*row
+    let mut changes = only(alloc, row)?;
+    push_dropped(&mut changes, &gone)?;
+    Ok(Allowed::Change {
+        changes,
+        blob,
+        report: Report::Made,
     })
 }
 

@@ -21,6 +21,8 @@ mod nodes;
 mod people;
 mod people_put;
 mod quotas;
+mod refilling;
+mod settling;
 mod shared;
 mod sharing;
 mod state;
@@ -30,6 +32,7 @@ mod telling;
 mod tokens;
 mod transferring;
 mod trash;
+mod versions;
 mod view;
 
 pub use counts::RowCounts;

@@ -4,7 +4,8 @@ ghost use Rattle.std.specs.Prelude.{◌≡◌, ◌+◌, ◌≤◌, ◌||◌, fil
 ghost use Rattle.nf_base.specs.declared.limits.TheConstants.{MAX_DEPTH, MAX_PIECES};
 ghost use Rattle.nf_access.specs.Mounts.{mount_row};
 ghost use Rattle.nf_defs.specs.Tree.{content_of, node_row, walk_of};
-ghost use Rattle.nf_words.specs.Limits.{carry_limit, copy_limit, count_of, deepest, deepest_in, last_number, limit_at, limit_passed, mount_limit, move_limit, pieces_in, pieces_of, restore_limit};
+ghost use Rattle.nf_words.specs.Versions.{version_row};
+ghost use Rattle.nf_words.specs.Limits.{back_limit, carry_limit, copy_limit, count_of, deepest, deepest_in, last_number, limit_at, limit_passed, mount_limit, move_limit, pieces_in, pieces_of, restore_limit, versions_added};
 ghost use Rattle.nf_words.specs.Contents.{stored_pieces};
 ghost use Rattle.nf_words.specs.People.{are_many_groups, are_many_nodes, are_many_tokens, are_many_users, new_user_limit};
 ghost use Rattle.nf_words.specs.Sharing.{offer_limit};
@@ -12,10 +13,12 @@ ghost use Rattle.nf_words.specs.Sound.{AreSound};
 ghost use Rattle.nf_words.specs.declared.answer.Limit.TheVariants.{Members, Pieces, Shares};
 
 use crate::homes::home_of;
+use crate::refilling::becomes_version;
 use crate::shared::mounts_for;
 use crate::transferring::crosses;
+use crate::versions::version_row;
 use crate::view::View;
-use nf_base::{ItemRow, MountRow, NodeId};
+use nf_base::{ItemRow, Moment, MountRow, NodeId};
 use nf_defs::Found;
 use nf_mounts::Mounts;
 use nf_tree::Tree;
@@ -27,10 +30,13 @@ pub(crate) fn limit_at(view: &View<'_>, place: &Found, pieces: u64) -> Option<Li
     ensures { result ≡ limit_at view.now.tables pieces place.now }
 {
     match place {
-        Found::At(_) => limit_passed(view, 0, 0, u128::from(pieces), pieces),
+        Found::At(node) => {
+            let versions = versions_added(view, *node, None);
+            limit_passed(view, 0, 0, versions, u128::from(pieces), pieces)
+        }
         Found::Free { folder } => {
             let deep = view.tree().depth(*folder) + 1;
-            limit_passed(view, 1, deep, u128::from(pieces), pieces)
+            limit_passed(view, 1, deep, 0, u128::from(pieces), pieces)
         }
         Found::Missing { .. } => None,
     }
@@ -61,7 +67,7 @@ fn move_limit(
 {
     let nodes = view.tree().subtree(alloc, transfer.node)?;
     let deep = deepest_in(view.tree(), &nodes, transfer);
-    Ok(limit_passed(view, 0, deep, 0, 0))
+    Ok(limit_passed(view, 0, deep, 0, 0, 0))
 }
 
 /// The limit that is passed by what comes back: it is moved there.
@@ -105,7 +111,7 @@ pub(crate) fn copy_limit(
     let nodes = view.tree().subtree(alloc, transfer.node)?;
     let deep = deepest_in(view.tree(), &nodes, transfer);
     let pieces = pieces_in(view.tree(), &nodes);
-    Ok(limit_passed(view, nodes.len() as u64, deep, pieces, 0))
+    Ok(limit_passed(view, nodes.len() as u64, deep, 0, pieces, 0))
 }
 
 /// The limit that is passed by a new share, and by the mounts that it needs.
@@ -252,9 +258,37 @@ fn pieces_at(tree: &Tree, node: NodeId) -> u32
     }
 }
 
-/// The first limit that is passed by so many nodes more, the deepest of them so deep, so many pieces more, and so many new blobs.
-fn limit_passed(view: &View<'_>, nodes: u64, deep: u32, pieces: u128, blobs: u64) -> Option<Limit>
-    ensures { result ≡ limit_passed view.now.tables nodes deep pieces blobs }
+/// How many versions there are more where the content of a file becomes another.
+fn versions_added(view: &View<'_>, node: NodeId, back: Option<Moment>) -> u64
+    ensures { result ≡ versions_added view.now.tables node back }
+{
+    match view.tree().node(node) {
+        Some(row) if becomes_version(view, row, back) => 1,
+        Some(_) | None => 0,
+    }
+}
+
+/// The limit that is passed by a version that is a file's content again. It still counts as a version.
+pub(crate) fn back_limit(view: &View<'_>, node: NodeId, at: Moment) -> Option<Limit>
+    ensures { result ≡ option_and_then (back_limit view.now.tables node) (version_row view.now.tables.versions node at) }
+{
+    let version = version_row(view, node, at)?;
+    let versions = versions_added(view, node, Some(at));
+    let pieces = version.content.pieces().len() as u128;
+    limit_passed(view, 0, 0, versions, pieces, 0)
+}
+
+/// The first limit that is passed by so many nodes more, the deepest of them so deep, so many versions and pieces more, and so many new
+/// blobs.
+fn limit_passed(
+    view: &View<'_>,
+    nodes: u64,
+    deep: u32,
+    versions: u64,
+    pieces: u128,
+    blobs: u64,
+) -> Option<Limit>
+    ensures { result ≡ limit_passed view.now.tables nodes deep versions pieces blobs }
 {
     let meta = view.meta();
     let all_nodes = view.tree().count() as u128 + u128::from(nodes);
@@ -263,6 +297,10 @@ fn limit_passed(view: &View<'_>, nodes: u64, deep: u32, pieces: u128, blobs: u64
     }
     if passes(u128::from(deep), Limit::Depth) {
         return Some(Limit::Depth);
+    }
+    let all_versions = view.versions().count() as u128 + u128::from(versions);
+    if passes(all_versions, Limit::Versions) {
+        return Some(Limit::Versions);
     }
     if are_many(view, pieces) || meta.next_blob.number() > u64::MAX - blobs {
         return Some(Limit::Pieces);
@@ -274,7 +312,7 @@ fn limit_passed(view: &View<'_>, nodes: u64, deep: u32, pieces: u128, blobs: u64
 fn are_many(view: &View<'_>, pieces: u128) -> bool
     ensures { result ≡ nat_lt (count_of Pieces) (stored_pieces view.now.tables + pieces) }
 {
-    let all_pieces = pieces.saturating_add(view.stored_pieces() as u128);
+    let all_pieces = pieces.saturating_add(view.stored_pieces());
     passes(all_pieces, Limit::Pieces)
 }
 

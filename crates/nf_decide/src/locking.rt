@@ -70,7 +70,9 @@ fn slot_back(alloc: Global, view: &View<'_>, makes: &Making) -> Result<Option<Lo
         | Making::Moved
         | Making::Copied
         | Making::Shared
-        | Making::Told => Ok(None),
+        | Making::Told
+        | Making::Sent { .. }
+        | Making::Refilled { .. } => Ok(None),
     }
 }
 
@@ -118,6 +120,8 @@ fn touches<'a>(
             let transfer = transfer_of(tree, places);
             transfer_touches(alloc, Mode::Shared, target_name(asked), transfer)
         }
+        Making::Sent { node } => only(alloc, Touch::node(node, Mode::Shared)),
+        Making::Refilled { node, .. } => only(alloc, Touch::node(node, Mode::Exclusive)),
         Making::Shared | Making::Told | Making::Restored { .. } => Ok(Vec::new(alloc)),
     }
 }

@@ -1,16 +1,18 @@
 //! The quotas of users.
 
-ghost use Rattle.std.specs.Prelude.{◌≡◌, ◌+◌, ◌-◌, ◌&&◌, nat_lt};
+ghost use Rattle.std.specs.Prelude.{◌≡◌, ◌+◌, ◌-◌, ◌&&◌, nat_lt, option_and_then};
 ghost use Rattle.std.specs.Option.{option_map_or};
-ghost use Rattle.nf_words.specs.Charges.{carry_excess, copy_excess, excess, excess_at, quota_of, restore_excess};
+ghost use Rattle.nf_words.specs.Versions.{version_row};
+ghost use Rattle.nf_words.specs.Charges.{back_excess, carry_excess, copy_excess, excess, excess_at, quota_of, restore_excess};
 ghost use Rattle.nf_words.specs.Listing.{size_of};
 ghost use Rattle.nf_words.specs.Sound.{AreSound};
 
 use crate::listing::bytes_of;
 use crate::nodes::owner_of;
 use crate::transferring::crosses;
+use crate::versions::version_row;
 use crate::view::View;
-use nf_base::{ItemRow, NodeId, UserId};
+use nf_base::{ItemRow, Moment, NodeId, UserId};
 use nf_defs::Found;
 use nf_words::{Excess, Transfer};
 
@@ -60,8 +62,18 @@ pub(crate) fn restore_excess(view: &View<'_>, item: &ItemRow) -> Option<Excess>
     excess(view, item.owner, 0, view.size(item.node))
 }
 
+/// How a version would pass the quota of its file's owner, as the file's content.
+pub(crate) fn back_excess(view: &View<'_>, node: NodeId, at: Moment) -> Option<Excess>
+    requires { AreSound view.now.tables }
+    ensures { result ≡ option_and_then (back_excess view.now.tables node) (version_row view.now.tables.versions node at) }
+{
+    let version = version_row(view, node, at)?;
+    let old = bytes_of(view.tree(), node);
+    excess(view, owner_of(view.tree(), node), old, version.content.size())
+}
+
 /// The bytes of what has to go, if there is something.
-fn size_replaced(view: &View<'_>, replaced: &Option<NodeId>) -> u64
+pub(crate) fn size_replaced(view: &View<'_>, replaced: &Option<NodeId>) -> u64
     requires { AreSound view.now.tables }
     ensures { result ≡ option_map_or (size_of view.now.tables.nodes) replaced.now 0 }
 {

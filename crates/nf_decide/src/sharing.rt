@@ -31,7 +31,7 @@ use nf_words::{Breach, Denial, Offer, PeopleAsk, Receiver, ShareAsk, Sharee, Unt
 // ---- the rules
 
 impl<'a> Call<'a> {
-    /// `not-found`: the user, the group, the share or the item of the trash that is named.
+    /// `not-found`: the user, the group, the share, the item of the trash or the file that is named.
     #[tactic(auto, unfolding(nf_words::specs::Sharing::named_rule))]
     pub(crate) fn named(&self, asker: &Asker<'_>) -> Result<(), Denial>
         requires { asker.now ≡ asking_of self.now }
@@ -51,6 +51,7 @@ impl<'a> Call<'a> {
             Wanted::Share(ask) => self.unnamed(asker, ask),
             Wanted::People(ask) => self.people_unnamed(ask),
             Wanted::Trash(ask) => self.untrashed(asker, ask),
+            Wanted::Version(ask) => self.unversioned(asker, ask),
             Wanted::Get(_)
             | Wanted::Put { .. }
             | Wanted::Mkcol(_)
@@ -112,6 +113,7 @@ impl<'a> Call<'a> {
             Wanted::Share(ask) => self.fault_of_ask(asker, offer, ask),
             Wanted::People(ask) => self.people_fault(ask),
             Wanted::Trash(_)
+            | Wanted::Version(_)
             | Wanted::Get(_)
             | Wanted::Put { .. }
             | Wanted::Mkcol(_)
@@ -386,6 +388,7 @@ impl<'a> Call<'a> {
             Wanted::Share(ask) => self.offer_by(&ways.source, ask),
             Wanted::People(_)
             | Wanted::Trash(_)
+            | Wanted::Version(_)
             | Wanted::Get(_)
             | Wanted::Put { .. }
             | Wanted::Mkcol(_)

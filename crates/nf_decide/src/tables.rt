@@ -1,13 +1,13 @@
 //! The rows of the site in memory.
 
-ghost use Rattle.std.specs.Prelude.{◌≡◌, ◌⊎◌, ℕ, ◌+◌, ◌<◌, ◌≤◌, ◌∷◌, ◌++◌, [], false, is_some, IsTrue, All, AllPairs, length, map, max, slice_get, IfOk, IsSome, OnOk, None, Some};
+ghost use Rattle.std.specs.Prelude.{◌≡◌, ◌≢◌, ◌⊎◌, ℕ, ◌+◌, ◌<◌, ◌≤◌, ◌∷◌, ◌++◌, [], false, is_some, IsTrue, All, AllPairs, length, map, max, slice_get, IfOk, IsSome, OnOk, None, Some};
 ghost use Rattle.nf_base.specs.declared.changes.Change.TheVariants.{Put};
 ghost use Rattle.nf_base.specs.declared.limits.TheConstants.{MAX_NODES};
 ghost use Rattle.nf_base.specs.declared.rows.NodeRow.{NodeRow};
 ghost use Rattle.nf_base.specs.declared.rows.Row.TheVariants as kinds;
 ghost use Rattle.nf_base.specs.declared.rows.MetaRow.{MetaRow};
 ghost use Rattle.nf_defs.specs.Prelude.{drop_row, dropped, item_key, item_row, made, node_key, node_row, put, put_all, rows_of};
-ghost use Rattle.nf_words.specs.Prelude.{above, blob_after, changed, counted, deed_done, deeds_done, discarded, goal_of, joined, last_number, purged, purges, restored};
+ghost use Rattle.nf_words.specs.Prelude.{above, blob_after, changed, counted, deed_done, deeds_done, discarded, forgotten, goal_of, joined, last_number, purged, purges, restored, versions_there};
 ghost use Rattle.nf_words.specs.declared.answer.Report.TheVariants.{Done};
 ghost use Rattle.nf_words.specs.declared.answer.Allowed.TheVariants as allowed;
 ghost use Rattle.nf_decide.specs.Current.{AreBorne, AreGiven, BearsAct, BearsChanges, BearsCopies, BearsDeed, BearsDeeds, BearsPlace, IsBorne, IsCounted, IsDroppedKey, IsNew, IsRefilled, LeadUpBehind, added_by, added_deed, added_deeds, added_of};
@@ -20,12 +20,13 @@ use crate::people_put::{put_group, put_member, put_token, put_user};
 use crate::view::View;
 use nf_base::{
     BlobId, Change, Changes, GroupId, ItemRow, MetaRow, Moment, MountRow, Name, NodeId, NodeRow,
-    Row, RowKey, RowList, ShareId, ShareRow, UserId,
+    Row, RowKey, RowList, ShareId, ShareRow, UserId, VersionRow,
 };
 use nf_mounts::Mounts;
 use nf_opening::Loaded;
 use nf_people::{People, PeopleRows};
 use nf_shares::Shares;
+use nf_table::{Table, VersionKey};
 use nf_trash::Trash;
 use nf_tree::Tree;
 use nf_words::{Allowed, Deed, Deeds, Goal, NodeRows, Ticket};
@@ -40,6 +41,7 @@ pub(crate) struct Tables {
     tree: Tree,
     shares: Shares,
     mounts: Mounts,
+    versions: Table<VersionRow>,
     items: Trash,
 }
 
@@ -49,7 +51,7 @@ impl Model for Tables {
     ghost Value = { Rows };
 
     ghost view = { λ t. record {
-      tables = tables_in t.meta t.people t.tree.rows t.shares.rows t.mounts.rows t.items.rows;
+      tables = tables_in t.meta t.people t.tree.rows t.shares.rows t.mounts.rows t.versions.rows t.items.rows;
       room = record {
         users = t.people.room.users;
         tokens = t.people.room.tokens;
@@ -58,6 +60,7 @@ impl Model for Tables {
         nodes = t.tree.room;
         shares = t.shares.room;
         mounts = t.mounts.room;
+        versions = t.versions.room;
         items = t.items.room;
       };
     } };
@@ -80,6 +83,7 @@ impl Tables {
             tree,
             shares,
             mounts: Mounts::load(alloc, parts.mounts)?,
+            versions: Table::of(parts.versions),
             items: Trash::load(alloc, parts.items)?,
         })
     }
@@ -100,6 +104,7 @@ impl Tables {
             tree: &self.tree,
             shares: &self.shares,
             mounts: &self.mounts,
+            versions: &self.versions,
             items: &self.items,
             tickets,
             seen,
@@ -114,6 +119,7 @@ impl Tables {
         self.tree.keeps();
         self.shares.keeps();
         self.mounts.keeps();
+        let _ = self.versions.count();
         let _ = self.items.count();
     }
 
@@ -130,6 +136,7 @@ impl Tables {
         self.people.reserve(added.people())?;
         self.shares.reserve(added.shares)?;
         self.mounts.reserve(added.mounts)?;
+        self.versions.reserve(added.versions)?;
         self.items.reserve(added.items)
     }
 
@@ -182,7 +189,7 @@ impl Tables {
         }
     }
 
-    /// Makes a change. Only rows of people, of nodes, of shares, of mounts and of the trash are changed yet.
+    /// Makes a change. Only rows of people, of nodes, of shares, of mounts, of versions and of the trash are changed yet.
     fn make(&mut self, change: Change)
         requires room { FitsRows self.old.tables self.old.room (added_of self.old.tables.meta.next_node (change ∷ [])) }
         requires borne { IsBorne self.old.tables.meta.next_node self.old.tables change }
@@ -198,12 +205,13 @@ impl Tables {
             Change::Put(Row::Node(row)) => put_node(&mut self.tree, row),
             Change::Put(Row::Share(row)) => self.shares.put(row),
             Change::Put(Row::Mount(row)) => self.mounts.put(row),
+            Change::Put(Row::Version(row)) => self.versions.put(row),
             Change::Put(Row::Item(row)) => self.items.put(row),
             Change::Put(_) => unreachable!(),
         }
     }
 
-    /// Drops the member or the item of that key; no other row is ever dropped by its key.
+    /// Drops the member, the version or the item of that key; no other row is ever dropped by its key.
     fn drop_row(&mut self, key: &RowKey)
         requires { IsDroppedKey key.now }
         ensures tables { self.new.tables ≡ drop_row self.old.tables key.now }
@@ -213,6 +221,7 @@ impl Tables {
             RowKey::Member { group, user } => {
                 let _ = self.people.drop_member(*group, *user);
             }
+            RowKey::Version { node, at } => self.forget(*node, *at),
             RowKey::Item(node) => {
                 self.items.drop(*node);
             }
@@ -223,7 +232,6 @@ impl Tables {
             | RowKey::Node(_)
             | RowKey::Share(_)
             | RowKey::Mount { .. }
-            | RowKey::Version { .. }
             | RowKey::Upload { .. }
             | RowKey::Chunk { .. } => unreachable!(),
         }
@@ -295,9 +303,25 @@ impl Tables {
         ensures room { self.new.room ≡ self.old.room }
         ensures run { run.new.items ≡ [] }
     {
+        if run.is_empty() {
+            return;
+        }
+        self.purge_run(run);
+    }
+
+    /// The same of a run of some.
+    fn purge_run(&mut self, run: &mut Vec<NodeId>)
+        requires some { run.old.items ≢ [] }
+        requires items { All (λ node. IsSome (item_row self.old.tables.items node)) run.old.items }
+        requires bears { BearsDeeds self.old.tables (purges run.old.items) }
+        ensures tables { self.new.tables ≡ deeds_done self.old.tables (purges run.old.items) }
+        ensures room { self.new.room ≡ self.old.room }
+        ensures run { run.new.items ≡ [] }
+    {
         self.tree.purge_all(run);
         run.sort_unstable();
         self.items.drop_all(run);
+        self.forget_gone();
         run.clear();
     }
 
@@ -314,6 +338,7 @@ impl Tables {
             Deed::Relink { node, folder, name } => self.tree.relink(node, folder, name),
             Deed::Join(rows) => self.join(rows),
             Deed::Requote(row) => put_user(&mut self.people, row),
+            Deed::Forget { node, at } => self.forget(node, at),
         }
     }
 
@@ -347,6 +372,24 @@ impl Tables {
         self.shares.end_under(&self.tree, node);
         self.tree.purge(node);
         self.drop_item(node);
+        self.forget_gone();
+    }
+
+    /// Drops the version of that moment, if there is one.
+    fn forget(&mut self, node: NodeId, at: Moment)
+        ensures tables { self.new.tables ≡ forgotten self.old.tables node at }
+        ensures room { self.new.room ≡ self.old.room }
+    {
+        let _ = self.versions.drop(&VersionKey { node, at });
+    }
+
+    /// Drops the versions of nodes that are there no more.
+    fn forget_gone(&mut self)
+        ensures tables { self.new.tables ≡ record self.old.tables { versions = versions_there self.old.tables.nodes self.old.tables.versions } }
+        ensures room { self.new.room ≡ self.old.room }
+    {
+        let tree = &self.tree;
+        self.versions.keep(|row| has_node(tree, row.node));
     }
 
     /// Drops the item of a node, if there is one.
@@ -383,7 +426,9 @@ impl Tables {
         self.people.push_rows(&mut list)?;
         push_nodes(&mut list, self.tree.nodes())?;
         push_shares(&mut list, self.shares.rows())?;
-        push_mounted(&mut list, self.mounts.rows(), self.items.rows())?;
+        push_mounts(&mut list, self.mounts.rows())?;
+        push_versions(&mut list, self.versions.rows())?;
+        push_items(&mut list, self.items.rows())?;
         Ok(list)
     }
 }
@@ -395,6 +440,7 @@ struct Parts {
     nodes: Vec<NodeRow>,
     shares: Vec<ShareRow>,
     mounts: Vec<MountRow>,
+    versions: Vec<VersionRow>,
     items: Vec<ItemRow>,
 }
 
@@ -406,6 +452,7 @@ fn split(loaded: Loaded) -> Parts
     ensures nodes { result.nodes.items ≡ loaded.nodes }
     ensures shares { result.shares.items ≡ loaded.shares }
     ensures mounts { result.mounts.items ≡ loaded.mounts }
+    ensures versions { result.versions.items ≡ loaded.versions }
     ensures items { result.items.items ≡ loaded.items }
 {
     Parts {
@@ -418,6 +465,7 @@ fn split(loaded: Loaded) -> Parts
         nodes: loaded.nodes,
         shares: loaded.shares,
         mounts: loaded.mounts,
+        versions: loaded.versions,
         items: loaded.items,
     }
 }
@@ -504,16 +552,14 @@ fn push_items(list: &mut RowList, items: &[ItemRow]) -> Result<(), AllocError>
     Ok(())
 }
 
-/// Puts mounts and items of the trash at the end of a list of rows.
-fn push_mounted(
-    list: &mut RowList,
-    mounts: &[MountRow],
-    items: &[ItemRow],
-) -> Result<(), AllocError>
-    ensures { OnOk result (list.new ≡ list.old ++ (map kinds.Mount mounts.now ++ map kinds.Item items.now)) }
+/// Puts versions at the end of a list of rows.
+fn push_versions(list: &mut RowList, versions: &[VersionRow]) -> Result<(), AllocError>
+    ensures { OnOk result (list.new ≡ list.old ++ map kinds.Version versions.now) }
 {
-    push_mounts(list, mounts)?;
-    push_items(list, items)
+    for version in versions {
+        list.push(Row::Version(version.clone()?))?;
+    }
+    Ok(())
 }
 
 /// Puts a node at the end, or another content of a file in the place of the old one.

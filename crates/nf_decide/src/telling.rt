@@ -8,20 +8,23 @@ ghost use Rattle.nf_base.specs.declared.rows.Row.TheVariants as kinds;
 ghost use Rattle.nf_defs.specs.Tree.{is_leaf, is_under, node_row, relinked, trashed};
 ghost use Rattle.nf_words.specs.Limits.{last_number};
 ghost use Rattle.nf_words.specs.Changes.{blob_of, changes_of, hold_of, meta_after, told, with_meta};
+ghost use Rattle.nf_words.specs.Versions.{forgotten_of};
 ghost use Rattle.nf_words.specs.Deeds.{closed_under, dropped_under, ended_row, gone_under, is_closing, told_deed, told_deeds, told_node};
 ghost use Rattle.nf_words.specs.declared.answer.Deed.TheVariants as deeds;
 ghost use Rattle.nf_words.specs.declared.answer.LockKey.TheVariants as lock_keys;
 ghost use Rattle.nf_words.specs.declared.answer.Mode.TheVariants.{Exclusive, Shared};
-ghost use Rattle.nf_decide.specs.Current.{BearsAct, added_by, added_deeds, added_of, discards, is_counted, is_fresh, nodes_joined, puts_group, puts_item, puts_member, puts_mount, puts_share, puts_token, puts_user, requotes, rows_joined};
+ghost use Rattle.nf_decide.specs.Current.{BearsAct, added_by, added_deeds, added_of, discards, is_counted, is_fresh, nodes_joined, puts_group, puts_item, puts_member, puts_mount, puts_share, puts_token, puts_user, puts_version, requotes, rows_joined};
 ghost use Rattle.nf_decide.specs.Gone.{TellsDeeds, told_first, told_gone};
 
 use crate::counts::RowCounts;
 use crate::items::item_row;
+use crate::refilling::dropped;
 use crate::tables::{copy, copy_item, raised};
+use crate::versions::versions_of;
 use crate::view::View;
 use nf_base::{
     BlobId, Change, Changes, ItemRow, MetaRow, Moment, Name, NodeId, NodeRow, Place, Row, RowKey,
-    ShareRow, UserRow,
+    ShareRow, UserRow, VersionRow,
 };
 use nf_tree::Tree;
 use nf_words::{Allowed, Deed, Hold, LockKey, Mode};
@@ -34,6 +37,7 @@ enum Counted {
     Fresh(NodeId),
     Share,
     Mount,
+    Version,
     Item,
     User,
     Token,
@@ -129,6 +133,25 @@ fn drop_all(changes: &mut Changes, nodes: &[NodeId]) -> Result<(), AllocError>
     Ok(())
 }
 
+/// The versions of some nodes are dropped.
+fn forget_all(changes: &mut Changes, view: &View<'_>, nodes: &[NodeId]) -> Result<(), AllocError>
+    ensures { OnOk result (changes.new ≡ changes.old ++ flat_map (forgotten_of view.now.tables.versions) nodes.now) }
+{
+    for node in nodes {
+        forget_of(changes, versions_of(view, *node))?;
+    }
+    Ok(())
+}
+
+fn forget_of(changes: &mut Changes, rows: &[VersionRow]) -> Result<(), AllocError>
+    ensures { OnOk result (changes.new ≡ changes.old ++ map (λ row. change.Drop (keys.Version row.node row.at)) rows.now) }
+{
+    for row in rows {
+        changes.push(dropped(row.node, row.at))?;
+    }
+    Ok(())
+}
+
 fn close_under(changes: &mut Changes, view: &View<'_>, top: NodeId) -> Result<(), AllocError>
     ensures { OnOk result (changes.new ≡ changes.old ++ closed_under view.now.tables.nodes view.now.tables.shares top) }
 {
@@ -218,6 +241,7 @@ fn push_deed(
         Deed::Relink { node, folder, name } => push_relinked(view, *node, *folder, name, changes),
         Deed::Join(rows) => put_all(changes, rows.rows()),
         Deed::Requote(row) => changes.push(Change::Put(Row::User(row.clone()?))),
+        Deed::Forget { node, at } => changes.push(dropped(*node, *at)),
     }
 }
 
@@ -266,6 +290,8 @@ fn push_purged(
 ) -> Result<(), AllocError>
     ensures { OnOk result (changes.new ≡ changes.old ++ told_gone view.now.tables node) }
 {
+    let nodes = view.tree().subtree(alloc, node)?;
+    forget_all(changes, view, &nodes)?;
     match item_row(view, node) {
         Some(_) => push_item_gone(alloc, view, node, changes),
         None => push_gone(alloc, view, node, changes),
@@ -346,7 +372,8 @@ fn rows_joined(deed: &Deed) -> usize
         | Deed::Purge(_)
         | Deed::Restore { .. }
         | Deed::Relink { .. }
-        | Deed::Requote(_) => 0,
+        | Deed::Requote(_)
+        | Deed::Forget { .. } => 0,
     }
 }
 
@@ -398,6 +425,7 @@ fn added_of(next: NodeId, changes: &[Change]) -> RowCounts
         nodes: change_count(&Counted::Fresh(next), changes),
         shares: change_count(&Counted::Share, changes),
         mounts: change_count(&Counted::Mount, changes),
+        versions: change_count(&Counted::Version, changes),
         items: change_count(&Counted::Item, changes),
     }
 }
@@ -423,6 +451,7 @@ fn is_counted(counted: &Counted, change: &Change) -> bool
         Counted::Fresh(next) => is_fresh(*next, change),
         Counted::Share => puts_share(change),
         Counted::Mount => puts_mount(change),
+        Counted::Version => puts_version(change),
         Counted::Item => puts_item(change),
         Counted::User => puts_user(change),
         Counted::Token => puts_token(change),
@@ -451,6 +480,12 @@ fn puts_mount(change: &Change) -> bool
     ensures { result ≡ puts_mount change.now }
 {
     matches!(change, Change::Put(Row::Mount(_)))
+}
+
+fn puts_version(change: &Change) -> bool
+    ensures { result ≡ puts_version change.now }
+{
+    matches!(change, Change::Put(Row::Version(_)))
 }
 
 fn puts_item(change: &Change) -> bool

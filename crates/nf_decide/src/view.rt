@@ -1,6 +1,7 @@
 //! What a decision reads of the site: its parts, lent one by one.
 
-ghost use Rattle.std.specs.Prelude.{◌≡◌, ◌≤◌, sum_by};
+ghost use Rattle.std.specs.Prelude.{◌≡◌, ◌*◌, ◌≤◌, length, sum_by};
+ghost use Rattle.nf_base.specs.declared.limits.TheConstants.{MAX_PIECES};
 ghost use Rattle.nf_tree.specs.Order.{AreRisingNodes};
 ghost use Rattle.nf_access.specs.Shares.{ground_of};
 ghost use Rattle.nf_words.specs.Charges.{charge_of};
@@ -10,12 +11,13 @@ ghost use Rattle.nf_words.specs.Sound.{AreSound};
 ghost use Rattle.nf_words.specs.Prelude.{last_number};
 ghost use Rattle.nf_words.specs.Trash.{item_size, items_of};
 
-use nf_base::{MetaRow, Moment, NodeId, UserId};
+use nf_base::{MetaRow, Moment, NodeId, UserId, VersionRow};
 use nf_defs::Seeker;
 use nf_mounts::Mounts;
 use nf_people::People;
 use nf_reach::Asker;
 use nf_shares::Shares;
+use nf_table::Table;
 use nf_trash::Trash;
 use nf_tree::Tree;
 use nf_words::Ticket;
@@ -29,6 +31,7 @@ pub struct View<'a> {
     pub tree: &'a Tree,
     pub shares: &'a Shares,
     pub mounts: &'a Mounts,
+    pub versions: &'a Table<VersionRow>,
     pub items: &'a Trash,
     pub tickets: &'a [Ticket],
     pub seen: Moment,
@@ -41,7 +44,7 @@ impl<'a> Model for View<'a> {
     ghost Value = { State };
 
     ghost view = { λ v. record {
-      tables = tables_in v.meta.now v.people.now v.tree.now.rows v.shares.now.rows v.mounts.now.rows v.items.now.rows;
+      tables = tables_in v.meta.now v.people.now v.tree.now.rows v.shares.now.rows v.mounts.now.rows v.versions.now.rows v.items.now.rows;
       tickets = v.tickets.now;
       seen = v.seen;
     } };
@@ -97,6 +100,13 @@ impl<'a> View<'a> {
         self.mounts
     }
 
+    /// The versions, by rising node and moment.
+    pub(crate) fn versions(&self) -> &Table<VersionRow>
+        ensures { result.now.rows ≡ self.now.tables.versions }
+    {
+        self.versions
+    }
+
     /// The items of the trash.
     pub(crate) fn items(&self) -> &Trash
         ensures { result.now.rows ≡ self.now.tables.items }
@@ -139,10 +149,10 @@ impl<'a> View<'a> {
     }
 
     /// How many pieces the rows name, with repeats.
-    pub(crate) fn stored_pieces(&self) -> usize
+    pub(crate) fn stored_pieces(&self) -> u128
         ensures { result ≡ stored_pieces self.now.tables }
     {
-        self.tree.pieces()
+        self.tree.pieces() as u128 + pieces_in(self.versions.rows())
     }
 
     /// Tells callers that the nodes are by rising number; it does nothing.
@@ -151,4 +161,16 @@ impl<'a> View<'a> {
     {
         let _ = self.tree.nodes();
     }
+}
+
+/// How many pieces some versions have, with repeats. No sum of these passes a u128.
+fn pieces_in(rows: &[VersionRow]) -> u128
+    ensures count { result ≡ sum_by (λ row. length row.content) rows.now }
+    ensures few { result ≤ MAX_PIECES * length rows.now }
+{
+    let mut count = 0;
+    for row in rows {
+        count += row.content.pieces().len() as u128;
+    }
+    count
 }

@@ -1,16 +1,15 @@
 -- What a DELETE, a MKCOL and a PUT change, a MOVE of a mount, and what is asked about the trash.
-use Rattle.std.proofs.Common.{find, max, ℕ, ◌+◌, ◌≤◌, zero, suc, ◌-◌, option_map, ◌==◌, ◌&&◌, ◌≡◌, ◌<◌, Bool, true, false, not, List, [], ◌∷◌, ◌++◌, Option, None, Some, Result, Ok, if◌then◌else◌, length, get_or, map, slice_get, unwrap_or, inl, inr, refl, sym, ap, subst, ◌∙◌, arith, length-append}
+use Rattle.std.proofs.Common.{find, max, ℕ, ◌+◌, ◌≤◌, zero, suc, ◌-◌, option_map, ◌==◌, ◌≡◌, ◌<◌, Bool, true, false, not, List, [], ◌∷◌, ◌++◌, Option, None, Some, Result, Ok, if◌then◌else◌, length, get_or, map, slice_get, unwrap_or, inl, inr, refl, sym, ap, subst, ◌∙◌, arith, length-append, flat_map}
 use Rattle.std.specs.Prelude.{is_some, IsOk}
 use Rattle.std.specs.List.{All, Contains, flat_map}
 use Rattle.nf_defs.proofs.ByName.{Contains-filter}
 use Rattle.nf_defs.proofs.Walks.{Contains-from_flat}
 use Rattle.std.specs.Option.{IfSome, option_map_or}
 use Rattle.std.proofs.Math.Seq.{get_or-append_seam}
-use Rattle.std.proofs.lemmas.Bool.{and_parts, cases_Bool, eqb-true, ne_eqb, not-true}
+use Rattle.std.proofs.lemmas.Bool.{cases_Bool, eqb-true, ne_eqb, not-true}
 use Rattle.std.proofs.lemmas.List.Elements.{All-cons, All-contains, All-contains_itself, All-weaker, Contains-append_left, Contains-append_right}
 use Rattle.std.proofs.lemmas.Option.{unwrap_or-slice_get}
 use Rattle.nf_access.specs.Mounts.{mount_row}
-use Rattle.nf_base.specs.Content.{content_eq}
 use Rattle.nf_base.specs.declared.changes.Change.{Change}
 use Rattle.nf_base.specs.declared.changes.Change.TheVariants.{Put}
 use Rattle.nf_base.specs.declared.content.Piece.{Piece}
@@ -22,7 +21,7 @@ use Rattle.nf_base.specs.declared.rows.NodeRow.{NodeRow}
 use Rattle.nf_base.specs.declared.rows.Row.TheVariants as rows
 use Rattle.nf_base.specs.declared.rows.UserRow.{UserRow}
 use Rattle.nf_defs.proofs.Climbs.{holds_some}
-use Rattle.nf_defs.specs.Prelude.{child_of, filled, found_from, is_folder, is_folder_kind, item_row, mount_key, node_key, node_row, put, Tables}
+use Rattle.nf_defs.specs.Prelude.{child_of, filled, found_from, is_folder, is_folder_kind, item_row, mount_key, node_key, node_row, put, Tables, put_all, made, owner_of}
 use Rattle.nf_defs.specs.declared.Found.{Found}
 use Rattle.nf_defs.specs.declared.Found.TheVariants.{At, Free, Missing}
 use Rattle.nf_defs.specs.declared.Seeker.{Seeker}
@@ -41,13 +40,12 @@ use Rattle.nf_laws.proofs.Parts.{leaving_stamped}
 use Rattle.nf_laws.proofs.Rows.{finds_none, found_is, row_id, row_is, stamp}
 use Rattle.nf_laws.proofs.Others.{stamp_sound}
 use Rattle.nf_laws.specs.Access.{LeadsBy}
-use Rattle.nf_laws.specs.Acts.{AreTaken, DeletesKeep, DropsKeep, EmptyingKeeps, FoldersAreMade, IsAdded, IsDeleted, IsFolderMade, IsItemOf, IsMountChanged, IsPut, IsRefilled, IsRestored, ItemsComeBack, LeadsToKeyBy, MountsAreLeft, MountsAreRenamed, PutsAreGranted, PutsKeep, SweepsTake}
+use Rattle.nf_laws.specs.Acts.{AreTaken, DeletesKeep, DropsKeep, EmptyingKeeps, FoldersAreMade, IsAdded, IsDeleted, IsFolderMade, IsItemOf, IsMountChanged, IsPut, IsRefilled, IsRestored, ItemsComeBack, LeadsToKeyBy, MountsAreLeft, MountsAreRenamed, PutsAreGranted, PutsKeep, SweepsTake, AreVersionsLeft, IsOldVersion}
 use Rattle.nf_laws.specs.Reads.{LeadsToKey}
 use Rattle.nf_laws.specs.Walks.{LeadsToFree}
 use Rattle.nf_words.proofs.Begins.{delete_leaves, only_at, places_at, wanted_passes, WantedPasses}
-use Rattle.nf_words.proofs.Bodies.{content_decides}
 use Rattle.nf_words.proofs.Ends.{known_change, goal_held}
-use Rattle.nf_words.proofs.Fits.{newest, put_found}
+use Rattle.nf_words.proofs.Fits.{newest, put_found, KnownChange}
 use Rattle.nf_words.proofs.Found.{free_known, last_more, last_of}
 use Rattle.nf_words.proofs.Known.{Known, KnownLeaving}
 use Rattle.nf_words.proofs.Mounting.{IsOwnMount, mount_found, mount_left_so, not_mount, own_known}
@@ -56,7 +54,7 @@ use Rattle.nf_words.proofs.Starts.{has_asker, itself_asker, row_of_caller}
 use Rattle.nf_words.proofs.Sweeping.{gone_owned, swept_goes}
 use Rattle.nf_words.proofs.Trashing.{back_known, dropped_goes, emptied_goes}
 use Rattle.nf_words.proofs.Ways.{way_there}
-use Rattle.nf_words.specs.Prelude.{access_of, allowed_of, answered_by, AreSound, asked_of, asker_of, behind, beside, blob_after, blob_for, by_of, Call, call_decision, call_of, changed, content_in, decision_of, deleted, discard, deeds_done, done, end_refusal, ends_at, exists_rule, found, given, gone_beside, gone_from, IsHeld, IsStorable, item_dropped, item_restored, items_of, last_name, left_row, made_folder, makes, MayAsk, MayEnd, mount_left, mount_of, mount_renamed, moved, named_row, named_rule, new_node, node_at, nothing_done, own_mount, owners_of, purges, refilled, refusal_of, root_of, seeker_of, row_at, source_lost, stored, stored_at, stores, swept, taken, target_lost, transfer_of, unnamed_by, untrashed, user_of, way_by, way_of, with_mount_row}
+use Rattle.nf_words.specs.Prelude.{access_of, allowed_of, answered_by, AreSound, asked_of, asker_of, behind, beside, blob_after, blob_for, by_of, Call, call_decision, call_of, changed, content_in, decision_of, deleted, discard, deeds_done, done, end_refusal, ends_at, exists_rule, found, given, gone_beside, gone_from, IsHeld, IsStorable, item_dropped, item_restored, items_of, last_name, left_row, made_folder, makes, MayAsk, MayEnd, mount_left, mount_of, mount_renamed, moved, named_row, named_rule, new_node, node_at, nothing_done, own_mount, owners_of, purges, refilled, refusal_of, root_of, seeker_of, row_at, source_lost, stored, stored_at, stores, swept, taken, target_lost, transfer_of, unnamed_by, untrashed, user_of, way_by, way_of, with_mount_row, charged, content_size, drop_version, gone_after, is_same, raised, refills, turns_over, unsettled, forgets, item_size, purged_by, restoring}
 use Rattle.nf_words.specs.declared.answer.Allowed.{Allowed}
 use Rattle.nf_words.specs.declared.answer.Allowed.TheVariants as allowed
 use Rattle.nf_words.specs.declared.answer.Deed.{Deed}
@@ -74,6 +72,12 @@ use Rattle.nf_words.specs.declared.request.TrashAsk.{TrashAsk}
 use Rattle.nf_words.specs.declared.request.TrashAsk.TheVariants as trash
 use Rattle.nf_words.specs.declared.request.Wanted.{Wanted}
 use Rattle.nf_words.specs.declared.request.Wanted.TheVariants as wanted
+use Rattle.nf_laws.proofs.Refilled.{added_made, drops_only, IsOfVersions, turned_only, versions_count, versions_only, filled_same}
+use Rattle.nf_laws.proofs.Turning.{added_fewer, altered_old, discard_keeps, KeepsVersions, purges_keep, versions_left, deeds_fewer}
+use Rattle.nf_laws.proofs.InTurn.{deeds_append}
+use Rattle.nf_retention.specs.declared.versions.Version.{Version}
+use Rattle.nf_base.specs.declared.rows.MetaRow.{MetaRow}
+use Rattle.nf_laws.proofs.Behind.{behind_changed, restored_behind}
 
 -- ---- a call that isn't refused
 
@@ -188,6 +192,9 @@ deleted_rows call spot row sound later known led =
       left = unstamped t made call.now call.now (row.id ∷ []) kind.gone (have_left all call.now deeds _ _ _ _ fine kind);
       others = λ node off other.
           others_after all call.now deeds _ _ _ _ fine kind node (λ none. none) (λ one. off (under_alone t.nodes row.id node one)) other;
+      versions = subst (AreVersionsLeft all) (ap (deeds_done all) kind.are ∙ deeds_append all (kind.one ∷ kind.more) (purges kind.gone))
+          (versions_left all deeds fine
+          (All-cons KeepsVersions (discard t call.now row) (beside t call.now row) (discard_keeps t call.now row) (purges_keep _)));
       rest = rest_after all call.now deeds _ _ _ _ fine kind;
     })
   where
@@ -299,11 +306,16 @@ items_come_back s seat now words request user node sound may asked ok =
     let p = subst (WantedPasses call) asked (wanted_passes call may.1 is.1) in
     let back = back_known t sound.rows now (asker_of call) node item own.1 p.few in
     let id = (item_is t node sound.rows item own.2).0 in
+    let first = restoring t now item in
+    let versions = unsettled t (charged t item.owner 0 (item_size t item)) (flat_map purged_by first) in
     subst (λ (made : Tables). IsRestored call node made) (sym (step_changed s seat now (Begin words request) act decides))
     (subst (λ (n : ℕ). IsRestored call n (changed t now act)) id
+    (subst (IsRestored call item.node) (sym (behind_changed t now first versions Made (omega arith)))
+    (restored_behind call item.node (changed t now (done first Made)) (deeds_done t (first ++ forgets versions)).versions
     (restored_rows call item gone sound.rows (ap (item_row t.items) id ∙ own.2) back.restore own.3
     (subst (λ (user : ℕ). All (IsItemOf t user) gone) own.3 (beside_own t now item sound.rows))
-    back.others back.goes.once))
+    back.others back.goes.once)
+    (deeds_fewer t (first ++ forgets versions)))))
 
 -- ---- a sweep
 
@@ -418,14 +430,14 @@ mounts_renamed s seat now words request source target overwrite sound may asked 
 
 -- ---- a node more
 
-pub added_rows : (t : Tables) (now folder : ℕ) (name : List ℕ) (kind : NodeKind) (content : List Piece) (blob : Option ℕ) → AreSound t
+pub added_rows : (t : Tables) (now folder : ℕ) (name : List ℕ) (kind : NodeKind) (content : List Piece) (blob : Option ℕ) (gone : List Version)
+    (report : Report) → AreSound t
     → is_folder t.nodes folder ≡ true → child_of t.nodes folder name ≡ None
     → blob_after t.meta.next_blob blob ≡ t.meta.next_blob + length content
-    → IsAdded t (changed t now (makes (new_node t now folder name kind content) blob)) now folder name kind content
-added_rows t now folder name kind content blob sound folds free counts =
-    let row = new_node t now folder name kind content in
-    let next : max t.meta.next_node (t.meta.next_node + 1) ≡ t.meta.next_node + 1 = omega arith in
-    record {
+    → IsAdded t (changed t now (allowed.Change (Put (rows.Node (new_node t now folder name kind content)) ∷ map drop_version gone) blob report)) now folder
+    name kind content
+added_rows t now folder name kind content blob gone report sound folds free counts =
+    subst (λ (u : Tables). IsAdded t u now folder name kind content) (sym whole) (record {
       folds = folds;
       free = free;
       fresh = finds_none (λ old. old.id == row.id) t.nodes
@@ -433,11 +445,31 @@ added_rows t now folder name kind content blob sound folds free counts =
           (λ old less. ne_eqb old.id row.id (λ e. absurd (omega arith))) t.nodes (newest t sound));
       itself = put_found row t.nodes;
       others = λ node other. put_other row t.nodes node other;
-      rest = λ i. record t {
-        meta = record t.meta { next_node = next i; next_blob = counts i; last = now };
-        nodes = put node_key row t.nodes;
-      };
-    }
+      versions = added_fewer t row gone;
+      rest = refl;
+    })
+  where
+    row : NodeRow
+    row = new_node t now folder name kind content
+
+    changes : List Change
+    changes = Put (rows.Node row) ∷ map drop_version gone
+
+    next : max t.meta.next_node (t.meta.next_node + 1) ≡ t.meta.next_node + 1
+    next = omega arith
+
+    meta : MetaRow
+    meta = record t.meta { next_node = t.meta.next_node + 1; next_blob = t.meta.next_blob + length content; last = now }
+
+    metas : (raised t now changes blob).meta ≡ meta
+    metas = ap (λ (m : MetaRow). record m { next_blob = blob_after t.meta.next_blob blob; last = now })
+        (versions_count (record t.meta { next_node = max t.meta.next_node (t.meta.next_node + 1) }) (map drop_version gone) (drops_only gone))
+        ∙ (λ i. record t.meta { next_node = next i; next_blob = counts i; last = now })
+
+    whole : changed t now (allowed.Change changes blob report)
+        ≡ record t { meta = meta; nodes = put node_key row t.nodes; versions = (put_all t changes).versions }
+    whole = ap (λ (u : Tables). record u { meta = (raised t now changes blob).meta }) (added_made t row gone)
+        ∙ ap (λ (m : MetaRow). record t { meta = m; nodes = put node_key row t.nodes; versions = (put_all t changes).versions }) metas
 
 -- ---- MKCOL
 
@@ -478,7 +510,8 @@ folders_made s seat now words request spot sound may asked ok =
       folder = folder;
       name = last_name spot;
       led = free.0;
-      added = added_rows t now folder (last_name spot) Folder [] None sound.rows free.1 free.2 (omega arith);
+      added = added_rows t now folder (last_name spot) Folder [] None [] Made sound.rows free.1 free.2 (omega arith);
+      versions = refl;
     })
 
 -- ---- the begin of a PUT
@@ -539,31 +572,24 @@ blobs_counted next size digest = here (size == 0)
     here true = omega arith
     here false = omega arith
 
--- a row with the content and the moment that it has is as it was
-filled_same : (row : NodeRow) (content : List Piece) (now : ℕ) → row.content ≡ content → row.changed ≡ now → row ≡ filled content now row
-filled_same row content now same moment = λ i. record row { content = same i; changed = moment i }
-
 over_rows : (t : Tables) (now node : ℕ) (content : List Piece) (blob : Option ℕ) (row : NodeRow) → AreSound t
-    → node_row t.nodes node ≡ Some row → is_folder_kind row.kind ≡ false → (refilled (Some row) now content ≡ [] → blob ≡ None)
-    → blob_after t.meta.next_blob blob ≡ t.meta.next_blob + length content
-    → IsRefilled t (changed t now (allowed.Change (refilled (Some row) now content) blob Done)) now node content
-over_rows t now node content blob row sound there file stored counts =
-    elim (cases_Bool (content_eq row.content content && row.changed == now)) [ inl e ↦ simp e (same e) | inr e ↦ simp e changes ]
+    → node_row t.nodes node ≡ Some row → is_folder_kind row.kind ≡ false → (refilled t now content row ≡ [] → blob ≡ None)
+    → blob_after t.meta.next_blob blob ≡ t.meta.next_blob + length content → All (IsOldVersion t) (put_all t (refilled t now content row)).versions
+    → IsRefilled t (changed t now (allowed.Change (refilled t now content row) blob Done)) now node content
+over_rows t now node content blob row sound there file stored counts old = here (is_same now content row) refl stored old
   where
     IsAfter : List Change → Type 0
     IsAfter changes = IsRefilled t (changed t now (allowed.Change changes blob Done)) now node content
 
-    same : (content_eq row.content content && row.changed == now) ≡ true → IsAfter []
-    same e =
-        let parts = and_parts (content_eq row.content content) (row.changed == now) e in
-        let none : blob ≡ None = stored (rw e refl) in
+    same : is_same now content row ≡ true → blob ≡ None → All (IsOldVersion t) t.versions → IsAfter []
+    same e none old =
         record {
           row = row;
           there = there;
           file = file;
-          itself = there ∙ ap (λ (r : NodeRow). Some r)
-              (filled_same row content now ((content_decides row.content content).0 parts.0) (eqb-true row.changed now parts.1));
+          itself = there ∙ ap (λ (r : NodeRow). Some r) (filled_same row content now e);
           others = λ other differs. refl;
+          versions = old;
           rest = λ i. record t { meta = record t.meta { next_blob = (ap (blob_after t.meta.next_blob) (sym none) ∙ counts) i } };
           moment = inl refl;
         }
@@ -574,21 +600,51 @@ over_rows t now node content blob row sound there file stored counts =
     new : NodeRow
     new = filled content now row
 
-    changes : IsAfter (Put (rows.Node new) ∷ [])
-    changes =
-        let next : max t.meta.next_node (row.id + 1) ≡ t.meta.next_node = omega (arith, id.1) in
-        record {
-          row = row;
-          there = there;
-          file = file;
-          itself = subst (λ (n : ℕ). node_row (put node_key new t.nodes) n ≡ Some new) id.0 (put_found new t.nodes);
-          others = λ other differs. put_other new t.nodes other (λ is. differs (is ∙ id.0));
-          rest = λ i. record t {
-            meta = record t.meta { next_node = next i; next_blob = counts i; last = now };
-            nodes = put node_key new t.nodes;
-          };
-          moment = inr refl;
-        }
+    next : max t.meta.next_node (row.id + 1) ≡ t.meta.next_node
+    next = omega (arith, id.1)
+
+    changes : (more : List Change) → All IsOfVersions more → All (IsOldVersion t) (put_all t (Put (rows.Node new) ∷ more)).versions
+        → IsAfter (Put (rows.Node new) ∷ more)
+    changes more of old = subst (λ (u : Tables). IsRefilled t u now node content) (sym whole) (record {
+      row = row;
+      there = there;
+      file = file;
+      itself = subst (λ (n : ℕ). node_row (put node_key new t.nodes) n ≡ Some new) id.0 (put_found new t.nodes);
+      others = λ other differs. put_other new t.nodes other (λ is. differs (is ∙ id.0));
+      versions = old;
+      rest = refl;
+      moment = inr refl;
+    })
+      where
+        all : List Change
+        all = Put (rows.Node new) ∷ more
+
+        meta : MetaRow
+        meta = record t.meta { next_blob = t.meta.next_blob + length content; last = now }
+
+        metas : (raised t now all blob).meta ≡ meta
+        metas = ap (λ (m : MetaRow). record m { next_blob = blob_after t.meta.next_blob blob; last = now })
+            (versions_count (record t.meta { next_node = max t.meta.next_node (row.id + 1) }) more of)
+            ∙ (λ i. record t.meta { next_node = next i; next_blob = counts i; last = now })
+
+        whole : changed t now (allowed.Change all blob Done)
+            ≡ record t { meta = meta; nodes = put node_key new t.nodes; versions = (put_all t all).versions }
+        whole = ap (λ (u : Tables). record u { meta = (raised t now all blob).meta }) (versions_only (made t (Put (rows.Node new))) more of)
+            ∙ ap (λ (m : MetaRow). record t { meta = m; nodes = put node_key new t.nodes; versions = (put_all t all).versions }) metas
+
+    of : All IsOfVersions (turns_over t now None content row)
+    of =
+        let to = charged t row.owner (content_size row.content) (content_size content) in
+        turned_only t None row (gone_after t now None row to.quota to.charge)
+
+    here : (b : Bool) → is_same now content row ≡ b → ((if b then [] else refills t now None content row) ≡ [] → blob ≡ None)
+        → All (IsOldVersion t) (put_all t (if b then [] else refills t now None content row)).versions
+        → IsAfter (if b then [] else refills t now None content row)
+    here true e stored old = same e (stored refl) old
+    here false e stored old =
+        subst (λ (b : Bool). IsAfter ((if b then [] else Put (rows.Node new) ∷ []) ++ turns_over t now None content row)) (sym e)
+        (changes (turns_over t now None content row) of
+        (subst (λ (b : Bool). All (IsOldVersion t) (put_all t ((if b then [] else Put (rows.Node new) ∷ []) ++ turns_over t now None content row)).versions) e old))
 
 pub put_rows : (t : Tables) (now : ℕ) (key : LockKey) (digest : List ℕ) (size : ℕ) → AreSound t → IsHeld t key
     → Known t now (stored_at t now key digest size)
@@ -597,11 +653,16 @@ put_rows t now (Node node) digest size sound there known =
     let blob = blob_for t.meta.next_blob size in
     let content = content_in blob digest size in
     let file = holds_some (λ row. not (is_folder_kind row.kind)) (node_row t.nodes node) there in
-    subst (λ (o : Option NodeRow). IsRefilled t (changed t now (allowed.Change (refilled o now content) blob Done)) now node content) (sym file.1)
+    let known_at : KnownChange t now (refilled t now content file.0) blob =
+    subst (λ (o : Option NodeRow). KnownChange t now (option_map_or (refilled t now content) o []) blob) file.1 known in
+    subst (λ (o : Option NodeRow). IsRefilled t (changed t now (allowed.Change (option_map_or (refilled t now content) o []) blob Done)) now node content) (sym file.1)
     (over_rows t now node content blob file.0 sound file.1 (not-true (is_folder_kind file.0.kind) file.2)
-    (λ none. known.stored (ap (λ (o : Option NodeRow). refilled o now content) file.1 ∙ none)) (blobs_counted t.meta.next_blob size digest))
+    known_at.stored (blobs_counted t.meta.next_blob size digest)
+    (altered_old t now (allowed.Change (refilled t now content file.0) blob Done) sound known_at))
 put_rows t now (Slot folder name) digest size sound there known =
-    added_rows t now folder name File (content_in (blob_for t.meta.next_blob size) digest size) (blob_for t.meta.next_blob size) sound there.0 there.1
+    let content = content_in (blob_for t.meta.next_blob size) digest size in
+    added_rows t now folder name File content (blob_for t.meta.next_blob size)
+    (unsettled t (charged t (owner_of t.nodes folder) 0 (content_size content)) []) Made sound there.0 there.1
     (blobs_counted t.meta.next_blob size digest)
 
 pub puts_keep : PutsKeep

@@ -1,5 +1,5 @@
 -- What a Begin that no rule refuses may do passes no quota.
-use Rattle.std.proofs.Common.{ℕ, ◌==◌, ◌≡◌, ◌≤◌, Bool, true, false, List, [], ◌∷◌, ◌++◌, map, Option, None, Some, Ok, if◌then◌else◌, inl, refl, sym, ap, subst, ◌∙◌}
+use Rattle.std.proofs.Common.{ℕ, ◌==◌, ◌≡◌, ◌≤◌, Bool, true, false, List, [], ◌∷◌, ◌++◌, map, Option, None, Some, Ok, if◌then◌else◌, inl, refl, sym, ap, subst, ◌∙◌, flat_map}
 use Rattle.std.specs.Option.{option_and_then, option_map_or}
 use Rattle.std.proofs.lemmas.Bool.{cond_both, eqb-true}
 use Rattle.nf_base.specs.declared.rows.ItemRow.{ItemRow}
@@ -18,7 +18,7 @@ use Rattle.nf_words.proofs.Provided.{row_there}
 use Rattle.nf_words.proofs.Starts.{has_asker, IsAsking}
 use Rattle.nf_words.proofs.Transfers.{copies_known, transfer_known}
 use Rattle.nf_words.proofs.Trashing.{own_there}
-use Rattle.nf_words.specs.Prelude.{access_of, AreSound, asked_of, asked_of_trash, asker_of, besides, by_of, Call, call_decision, carry_excess, carry_limit, copied, copy_excess, copy_limit, crosses, crossing, deed_done, deeds_done, deepest_in, deleted, discards, exceeded, found, given, gone_beside, gone_of, home_of, IsSound, item_dropped, item_if_of, item_restored, items_of, last_name, limited, listing_of, made_folder, MayWant, mount_left, mount_renamed, moved, move_limit, moves, name_back, node_at, nothing_done, offered, own_item, people_done, perms_after, purges, quota_rule, requoted, restored, restore_excess, root_of, row_named, served, shared, share_ended, share_made, share_set, share_shown, share_steered, share_told, stored, transfer_of, trash_done, unfit_between, unreached, until_after, way_of}
+use Rattle.nf_words.specs.Prelude.{access_of, AreSound, asked_of, asked_of_trash, asker_of, besides, by_of, Call, call_decision, carry_excess, carry_limit, copied, copy_excess, copy_limit, crosses, crossing, deed_done, deeds_done, deepest_in, deleted, discards, exceeded, found, given, gone_beside, gone_of, home_of, IsSound, item_dropped, item_if_of, item_restored, items_of, last_name, limited, listing_of, made_folder, MayWant, mount_left, mount_renamed, moved, move_limit, moves, name_back, node_at, nothing_done, offered, own_item, people_done, perms_after, purges, quota_rule, requoted, restored, restore_excess, root_of, row_named, served, shared, share_ended, share_made, share_set, share_shown, share_steered, share_told, stored, transfer_of, trash_done, unfit_between, unreached, until_after, way_of, brought_back, charge_of, charged, charged_for, charged_to, item_size, purged_by, requoting, restoring, settled_by, unsettled, version_done, version_row, done, copies}
 use Rattle.nf_words.specs.declared.answer.Allowed.{Allowed}
 use Rattle.nf_words.specs.declared.answer.Allowed.TheVariants as allowed
 use Rattle.nf_words.specs.declared.answer.By.{By}
@@ -37,6 +37,12 @@ use Rattle.nf_words.specs.declared.request.TrashAsk.{TrashAsk}
 use Rattle.nf_words.specs.declared.request.TrashAsk.TheVariants as trash
 use Rattle.nf_words.specs.declared.request.Wanted.{Wanted}
 use Rattle.nf_words.specs.declared.request.Wanted.TheVariants as wanted
+use Rattle.nf_laws.proofs.Behind.{behind_only}
+use Rattle.nf_words.specs.Changes.{Charged}
+use Rattle.nf_base.specs.declared.rows.VersionRow.{VersionRow}
+use Rattle.nf_words.specs.declared.request.VersionAsk.{VersionAsk}
+use Rattle.nf_words.specs.declared.request.VersionAsk.TheVariants as version
+use Rattle.nf_words.specs.declared.answer.Deed.{Deed}
 
 -- no body is stored, and what deeds make of charges passes no quota
 abbrev pub Affords : Tables → Allowed → Type 0
@@ -45,6 +51,12 @@ Affords t (allowed.Deeds deeds report) = (user : ℕ) → KeepsCharge t user (de
 Affords t act = Unit {0}
 
 -- ---- what is moved or copied
+
+-- versions that go behind deeds are charged to nobody
+settled_keeps : (t : Tables) (user : ℕ) (to : Charged) (deeds : List Deed) → KeepsCharge t user (deeds_done t deeds)
+    → KeepsCharge t user (deeds_done t (settled_by t to deeds))
+unfolding charge_of
+settled_keeps t user to deeds keeps = subst (KeepsCharge t user) (sym (behind_only t deeds (unsettled t to (flat_map purged_by deeds)))) keeps
 
 module _ (call : Call) (source target : Spot) (sound : AreSound call.state.tables) (later : call.state.tables.meta.last ≤ call.now) (is : IsAsking call)
     (from_reached : unreached (access_of call.state) call (way_of call source) ≡ None)
@@ -68,18 +80,22 @@ module _ (call : Call) (source target : Spot) (sound : AreSound call.state.table
       here : (o : Option Transfer) → led ≡ o → option_and_then (copy_limit t) o ≡ None → option_and_then (copy_excess t) o ≡ None
           → Affords t (copied t call.now name o)
       here None e few none = tt
-      here (Some transfer) e few none = λ user. copies_keep t call.now user transfer name sound later (copies_are transfer e few) none
+      here (Some transfer) e few none = λ user.
+          settled_keeps t user (charged_for t transfer) (copies t call.now name transfer)
+          (copies_keep t call.now user transfer name sound later (copies_are transfer e few) none)
 
   moved_affords : option_and_then (carry_limit t) led ≡ None → option_and_then (carry_excess t) led ≡ None → Affords t (moved t call.now name led)
   moved_affords few none = here led refl few none
     where
       carried : (user : ℕ) (transfer : Transfer) → led ≡ Some transfer → (across : Bool) → crosses t.nodes transfer ≡ across
           → (if across then copy_limit t transfer else move_limit t transfer) ≡ None → (if across then copy_excess t transfer else None) ≡ None
-          → KeepsCharge t user (deeds_done t (if across then crossing t call.now name transfer else moves t call.now name transfer))
+          → KeepsCharge t user (deeds_done t (if across then settled_by t (charged_for t transfer) (crossing t call.now name transfer)
+          else moves t call.now name transfer))
       carried user transfer e true across few none =
-          crossing_keep t call.now user transfer name sound later (record { copies = copies_are transfer e few; crosses = across }) none
+          settled_keeps t user (charged_for t transfer) (crossing t call.now name transfer)
+          (crossing_keep t call.now user transfer name sound later (record { copies = copies_are transfer e few; crosses = across }) none)
       carried user transfer e false stays few none =
-          let deep = (within t 0 (deepest_in t.nodes transfer.node transfer.folder) 0 0 few).deep in
+          let deep = (within t 0 (deepest_in t.nodes transfer.node transfer.folder) 0 0 0 few).deep in
           moves_keep t call.now user transfer name sound later
           (record { known = transfer_known call source target sound is from_reached to_reached transfer e fits deep; within = stays })
 
@@ -158,10 +174,12 @@ module _ (call : Call) (sound : AreSound call.state.tables) (later : call.state.
   requoted_affords quota row there =
       let gone = gone_of all call.now quota (items_of all row.id) in
       let other = deed.Requote (record row { quota = quota }) in
-      cond_both (row.quota == quota) nothing_done (allowed.Deeds (other ∷ purges gone) report.Plain) IsAfforded (λ same. refl)
+      cond_both (row.quota == quota) nothing_done (done (settled_by all (charged_to all quota row) (requoting all call.now quota row)) report.Plain)
+      IsAfforded (λ same. refl)
       (λ differs user.
-      then_keeps all (deed_done all other) user (purges gone) (purges_lower gone)
-      (inl (requoted_charge all (record row { quota = quota }) row user there refl)))
+      settled_keeps all user (charged_to all quota row) (requoting all call.now quota row)
+      (then_keeps all (deed_done all other) user (purges gone) (purges_lower gone)
+      (inl (requoted_charge all (record row { quota = quota }) row user there refl))))
 
   people_afford : (asked : PeopleAsk) → IsAfforded (people_done all call.now asked)
   people_afford (people.SetQuota name quota) = here (row_named all name) refl
@@ -180,9 +198,10 @@ module _ (call : Call) (sound : AreSound call.state.tables) (later : call.state.
       let there : item_row all.items row.node ≡ Some row =
       ap (item_row all.items) (eqb-true row.node item (found_passes (λ (row : ItemRow). row.node == item) all.items row found)) ∙ found in
       λ of.
-      then_keeps all (restored all row.node (home_of all row) (name_back all row)) of (purges (gone_beside all call.now row))
+      settled_keeps all of (charged all row.owner 0 (item_size all row)) (restoring all call.now row)
+      (then_keeps all (restored all row.node (home_of all row) (name_back all row)) of (purges (gone_beside all call.now row))
       (purges_lower (gone_beside all call.now row))
-      (restored_keeps all row.node (home_of all row) of (name_back all row) row sound there (sym (ap (option_and_then (restore_excess all)) found) ∙ none))
+      (restored_keeps all row.node (home_of all row) of (name_back all row) row sound there (sym (ap (option_and_then (restore_excess all)) found) ∙ none)))
 
   trash_affords : (places : Places) (asked : TrashAsk) → exceeded all places (asked_of_trash asked).makes ≡ None → IsAfforded (trash_done call asked)
   trash_affords places (trash.List user) none = refl
@@ -190,6 +209,13 @@ module _ (call : Call) (sound : AreSound call.state.tables) (later : call.state.
       where_there (item_dropped all call.now) nothing_done (own_item call item) refl (λ row. purged_affords (row.node ∷ gone_beside all call.now row) report.Done)
   trash_affords places (trash.Empty user) none = purged_affords (map (λ item. item.node) (items_of all (asker_of call))) report.Done
   trash_affords places (trash.Restore user item) none = restored_affords (asker_of call) item (own_item call item) refl none
+
+  version_affords : (asked : VersionAsk) → IsAfforded (version_done all call.now asked)
+  version_affords (version.List user node) = refl
+  version_affords (version.Get user node at) =
+      where_there (λ (row : VersionRow). allowed.Get node row.content) nothing_done (version_row all.versions node at) refl (λ row. tt)
+  version_affords (version.Restore user node at) =
+      where_there (brought_back all call.now node) nothing_done (version_row all.versions node at) refl (λ row. refl)
 
   wanted_affords : (wanted : Wanted) → WantedPasses call wanted → exceeded all (places_at call wanted) (asked_of wanted).makes ≡ None
       → IsAfforded (given (access_of call.state) call (places_at call wanted) wanted)
@@ -204,6 +230,7 @@ module _ (call : Call) (sound : AreSound call.state.tables) (later : call.state.
   wanted_affords (wanted.Share asked) p none = shared_affords (places_at call (wanted.Share asked)) asked
   wanted_affords (wanted.People asked) p none = people_afford asked
   wanted_affords (wanted.Trash asked) p none = trash_affords (places_at call (wanted.Trash asked)) asked none
+  wanted_affords (wanted.Version asked) p none = version_affords asked
 
 pub call_affords : (call : Call) (act : Allowed) → IsSound call.state → call.state.tables.meta.last ≤ call.now → MayWant call.request
     → call_decision call ≡ Ok act → Affords call.state.tables act

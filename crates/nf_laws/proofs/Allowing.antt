@@ -1,14 +1,14 @@
 -- Where a step makes a row another, who acts may do all that is needed, and what became of the node follows from it.
-use Rattle.std.proofs.Common.{ℕ, zero, suc, ◌≡◌, ◌≢◌, ◌⊎◌, ◌≤◌, false, List, [], ◌∷◌, Option, None, Some, Ok, inl, inr, refl, sym, ap, subst, ◌∙◌, arith}
+use Rattle.std.proofs.Common.{ℕ, zero, suc, ◌≡◌, ◌≢◌, ◌⊎◌, ◌≤◌, false, List, [], ◌∷◌, Option, None, Some, Ok, inl, inr, refl, sym, ap, subst, ◌∙◌, arith, ◌++◌}
 use Rattle.std.specs.List.{All}
 use Rattle.std.specs.Option.{IfSome, option_and_then, option_map_or}
 use Rattle.nf_access.specs.Shares.{ground_of}
 use Rattle.nf_base.specs.declared.perms.Act.TheVariants as act
-use Rattle.nf_defs.specs.Prelude.{Tables}
+use Rattle.nf_defs.specs.Prelude.{Tables, Access}
 use Rattle.nf_defs.specs.declared.Seeker.{Seeker}
 use Rattle.nf_laws.proofs.Acting.{put_rows}
 use Rattle.nf_laws.proofs.Entries.{entry_has}
-use Rattle.nf_laws.proofs.Fitting.{begin_fits, Fits, is_apart, need_of, OneOther, put_fits}
+use Rattle.nf_laws.proofs.Fitting.{begin_fits, Fits, is_apart, need_of, OneOther, put_fits, versions_fit}
 use Rattle.nf_laws.proofs.Providing.{people_provide}
 use Rattle.nf_laws.proofs.Settling.{beside_settled, same_allowed, same_nodes, sweep_allowed, trash_allowed}
 use Rattle.nf_laws.proofs.Stays.{sound_after}
@@ -16,9 +16,9 @@ use Rattle.nf_laws.specs.Access.{by_asking, by_delete, by_quota, by_sweep, Chang
 use Rattle.nf_words.proofs.Begins.{wanted_passes, WantedPasses}
 use Rattle.nf_words.proofs.Ends.{known_change, goal_held}
 use Rattle.nf_words.proofs.Known.{Known}
-use Rattle.nf_words.proofs.Passing.{acts_pass, call_passes, end_passes, needs_pass, not_refused, Passes}
+use Rattle.nf_words.proofs.Passing.{call_passes, end_passes, needs_pass, not_refused, Passes, all_acts_pass}
 use Rattle.nf_words.proofs.Starts.{has_asker, IsAsking}
-use Rattle.nf_words.specs.Prelude.{access_of, allowed_of, AreSound, blob_for, Call, call_of, call_decision, changed, content_in, decision_of, deeds_done, end_refusal, ends_at, given, goal_at, IsSound, IsStorable, MayAsk, MayEnd, MayWant, Need, needed, needed_by, places_of, purges, seeker_of, State, stored_at, swept}
+use Rattle.nf_words.specs.Prelude.{access_of, allowed_of, AreSound, blob_for, Call, call_of, call_decision, changed, content_in, decision_of, deeds_done, end_refusal, ends_at, given, goal_at, IsSound, IsStorable, MayAsk, MayEnd, MayWant, Need, needed, needed_by, places_of, purges, seeker_of, State, stored_at, swept, forgets, needed_for, mount_by, asker_of}
 use Rattle.nf_words.specs.declared.answer.Allowed.{Allowed}
 use Rattle.nf_words.specs.declared.answer.Allowed.TheVariants as allowed
 use Rattle.nf_words.specs.declared.answer.Goal.{Goal}
@@ -33,7 +33,15 @@ use Rattle.nf_words.specs.declared.request.PeopleAsk.{PeopleAsk}
 use Rattle.nf_words.specs.declared.request.Request.{Request}
 use Rattle.nf_words.specs.declared.request.Wanted.{Wanted}
 use Rattle.nf_words.specs.declared.request.Wanted.TheVariants.{Get, Put, Mkcol, Delete, Move, Copy, People, Share, Trash}
+use Rattle.nf_words.specs.declared.request.Wanted.TheVariants as want
 use Rattle.nf_words.specs.declared.request.Words.{Words}
+use Rattle.nf_words.specs.Needed.{act_asked, node_asked}
+use Rattle.nf_laws.proofs.Behind.{forgets_only, versioned}
+use Rattle.nf_base.specs.declared.rows.VersionRow.{VersionRow}
+use Rattle.nf_words.specs.declared.request.VersionAsk.{VersionAsk}
+use Rattle.std.proofs.lemmas.List.{append-nil}
+use Rattle.std.proofs.lemmas.Bool.{false≢true}
+use Rattle.std.proofs.lemmas.List.Elements.{Contains-append_right}
 
 -- ---- the law
 
@@ -59,7 +67,12 @@ fits_fine s e event seeker Other made at is may fits other fine =
         items = fits.items;
         rest = fits.rest;
       });
-      settled = record { tops = fits.gone; items = beside_settled s e fits.gone fits.beside; gone = fits.made_is };
+      settled = record {
+        tops = fits.gone;
+        items = beside_settled s e fits.gone fits.beside;
+        versions = fits.versions;
+        gone = fits.made_is;
+      };
     }
 
 abbrev nothing : Tables → Type 0
@@ -89,6 +102,19 @@ goal_fine s e outcome goal act ends sound at held is known =
     let closes : allowed.Close ≡ act = cc in
     subst (λ (a : Allowed). IsFine s e (changed s.tables e.moment a)) closes (λ fine. same_allowed s e sound)
 
+-- where nothing is asked about versions, what the paths need is all
+paths_needed : (access : Access) (call : Call) (wanted : Wanted) → is_apart wanted ≡ false → needed call ++ needed_for access call wanted ≡ needed call
+paths_needed access call (want.Version asked) other = absurd (false≢true (sym other))
+paths_needed access call (Get spot) other = append-nil (needed call)
+paths_needed access call (Put spot size) other = append-nil (needed call)
+paths_needed access call (Mkcol spot) other = append-nil (needed call)
+paths_needed access call (Delete spot) other = append-nil (needed call)
+paths_needed access call (Move source target overwrite) other = append-nil (needed call)
+paths_needed access call (Copy source target overwrite) other = append-nil (needed call)
+paths_needed access call (Share asked) other = append-nil (needed call)
+paths_needed access call (People asked) other = append-nil (needed call)
+paths_needed access call (Trash asked) other = append-nil (needed call)
+
 module _ (s : State) (e : Entry) (words : Words) (request : Request) (decided : Allowed) (begins : e.event ≡ Begin words request) (sound : IsSound s)
     (later : s.tables.meta.last ≤ e.moment) (may : MayWant request) (is : call_decision (call_of s e.seat e.moment words request) ≡ Ok decided) where
   abbrev call : Call
@@ -103,14 +129,13 @@ module _ (s : State) (e : Entry) (words : Words) (request : Request) (decided : 
   abbrev asking : IsAsking call
   asking = has_asker call passes.0.token wants.place.linked
 
-  -- what isn't asked about users, groups and the trash
-  plain_fine : is_apart request.wanted ≡ false → IsFine s e (changed s.tables e.moment decided)
-  plain_fine other =
-      let fits = begin_fits call sound.rows later asking request.wanted refl other wants in
+  abbrev all_needs : List Need
+  all_needs = needed call ++ needed_for (access_of s) call request.wanted
+
+  fitting_fine : Fits s.tables e.moment all_needs (OneOther call) (changed s.tables e.moment decided) → IsFine s e (changed s.tables e.moment decided)
+  fitting_fine fits =
       fits_fine s e (Begin words request) (seeker_of call) (OneOther call) (changed s.tables e.moment decided) begins refl
-      (acts_pass (access_of s) call passes.0.acts)
-      (subst (λ (a : Allowed). Fits s.tables e.moment (needed call) (OneOther call) (changed s.tables e.moment a)) passes.1 fits)
-      (λ u made. elim made [
+      (all_acts_pass (access_of s) call passes.0.acts) fits (λ u made. elim made [
         | inl one ↦ inl (record {
           words = words;
           request = request;
@@ -136,11 +161,31 @@ module _ (s : State) (e : Entry) (words : Words) (request : Request) (decided : 
         })
       ])
 
+  -- what isn't asked about users, groups, the trash and versions
+  plain_fine : is_apart request.wanted ≡ false → IsFine s e (changed s.tables e.moment decided)
+  plain_fine other =
+      let fits = begin_fits call sound.rows later asking request.wanted refl other wants in
+      fitting_fine (subst (λ (needs : List Need). Fits s.tables e.moment needs (OneOther call) (changed s.tables e.moment decided))
+      (sym (paths_needed (access_of s) call request.wanted other))
+      (subst (λ (a : Allowed). Fits s.tables e.moment (needed call) (OneOther call) (changed s.tables e.moment a)) passes.1 fits))
+
   abbrev does : (wanted : Wanted) → request.wanted ≡ wanted → given (access_of s) call (places_of call) wanted ≡ decided
   does wanted same = ap (given (access_of s) call (places_of call)) (sym same) ∙ passes.1
 
   plain : (wanted : Wanted) → request.wanted ≡ wanted → is_apart wanted ≡ false → IsFine s e (changed s.tables e.moment decided)
   plain wanted same other = plain_fine (ap is_apart same ∙ other)
+
+  -- what is asked about versions
+  version_fine : (asked : VersionAsk) → request.wanted ≡ want.Version asked → IsFine s e (changed s.tables e.moment decided)
+  version_fine asked same =
+      let t = s.tables in
+      let mount = mount_by (access_of s) t.nodes t.mounts (seeker_of call) (asker_of call) call.now (act_asked asked) (node_asked asked) in
+      let need = need_of (act_asked asked) (node_asked asked) mount in
+      let needed_so : IsNeeded all_needs (act_asked asked) (node_asked asked) =
+      subst (λ (w : Wanted). IsNeeded (needed call ++ needed_for (access_of s) call w) (act_asked asked) (node_asked asked)) (sym same)
+      (mount, Contains-append_right (needed call) (need ∷ []) need (0, omega arith, refl)) in
+      fitting_fine (subst (λ (a : Allowed). Fits t e.moment all_needs (OneOther call) (changed t e.moment a)) (does (want.Version asked) same)
+      (versions_fit call sound.rows later asking asked all_needs needed_so))
 
   -- what is asked about users and groups
   people_fine : (asked : PeopleAsk) → request.wanted ≡ People asked → ChangesAllowed s e (changed s.tables e.moment decided)
@@ -166,6 +211,7 @@ module _ (s : State) (e : Entry) (words : Words) (request : Request) (decided : 
   begin_fine (Copy source target overwrite) is fine = plain (Copy source target overwrite) is refl fine
   begin_fine (Share asked) is fine = plain (Share asked) is refl fine
   begin_fine (People asked) is fine = people_fine asked is
+  begin_fine (want.Version asked) is fine = version_fine asked is fine
   begin_fine (Trash asked) is fine =
       subst (λ (a : Allowed). ChangesAllowed s e (changed s.tables e.moment a)) (does (Trash asked) is)
       (trash_allowed s e sound words request begins asked is)
@@ -215,16 +261,37 @@ end_settles s e outcome _ ends (by_asking words request asked begins wanted) = b
 end_settles s e outcome _ ends (by_sweep user sweeps) = let both : End outcome ≡ Sweep = sym ends ∙ sweeps in cc
 end_settles s e outcome _ ends (by_quota words request user quota row begins wanted named) = both_events outcome words request (sym ends ∙ begins)
 
+-- versions that go make no node another
+forgotten_allowed : (s : State) (e : Entry) (u : Tables) (versions : List VersionRow) (outcome : Outcome) → e.event ≡ End outcome → NodesAllowed s e u
+    → NodesAllowed s e (versioned u versions)
+forgotten_allowed s e u versions outcome ends h = record {
+  nodes = h.nodes;
+  others = elim h.others [
+    | inl keeps ↦ inl (record { shares = keeps.shares; mounts = keeps.mounts })
+    | inr other ↦
+        elim other [
+          | inl one ↦ absurd (both_events outcome one.words one.request (sym ends ∙ one.begins))
+          | inr one ↦ absurd (both_events outcome one.words one.request (sym ends ∙ one.begins))
+        ]
+  ];
+  items = h.items;
+  rest = ap (λ (v : Tables). versioned v versions) h.rest;
+}
+
 -- so the nodes that it makes are allowed as they stand
 pub end_allowed : (s : State) (e : Entry) (made : Tables) (outcome : Outcome) → e.event ≡ End outcome → ChangesAllowed s e made → NodesAllowed s e made
 end_allowed s e made outcome ends changes =
-    subst (NodesAllowed s e) (sym (same changes.settled.tops changes.settled.items changes.settled.gone)) (nodes changes.allowed)
+    let u = changes.between in
+    let versions = changes.settled.versions in
+    subst (NodesAllowed s e) (sym (same changes.settled.tops changes.settled.items changes.settled.gone ∙ forgets_only u versions))
+    (forgotten_allowed s e u (deeds_done u (forgets versions)).versions outcome ends (nodes changes.allowed))
   where
     nodes : NodesAllowed s e changes.between ⊎ (IsProviding s e changes.between ⊎ IsRestoring s e changes.between) → NodesAllowed s e changes.between
     nodes (inl allowed) = allowed
     nodes (inr (inl one)) = absurd (both_events outcome one.words one.request (sym ends ∙ one.begins))
     nodes (inr (inr one)) = absurd (both_events outcome one.words one.request (sym ends ∙ one.begins))
 
-    same : (tops : List ℕ) → All (IsItemSettled s e) tops → made ≡ deeds_done changes.between (purges tops) → made ≡ changes.between
+    same : (tops : List ℕ) → All (IsItemSettled s e) tops → made ≡ deeds_done changes.between (purges tops ++ forgets changes.settled.versions)
+        → made ≡ deeds_done changes.between (forgets changes.settled.versions)
     same [] items gone = gone
     same (top ∷ tops) items gone = let one = items 0 0 (omega arith) in absurd (end_settles s e outcome one.0.owner ends one.2)

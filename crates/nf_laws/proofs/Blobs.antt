@@ -1,9 +1,9 @@
 -- The blob that an act stores, and what an event stores in it. Whole blobs stay whole, and what is stored has the next number.
-use Rattle.std.proofs.Common.{◌≡◌, ℕ, ◌<◌, ◌≤◌, ◌==◌, Bool, true, false, if◌then◌else◌, List, [], ◌∷◌, length, get_or, inl, inr, refl, sym, ap, subst, ◌∙◌, arith, ◌&&◌, Result, Ok, Err, ◌⊎◌}
+use Rattle.std.proofs.Common.{◌≡◌, ℕ, ◌<◌, ◌≤◌, ◌==◌, Bool, true, false, if◌then◌else◌, List, [], ◌∷◌, length, get_or, inl, inr, refl, sym, ap, subst, ◌∙◌, arith, ◌&&◌, Result, Ok, Err, ◌⊎◌, ◌++◌, filter, map, not}
 use Rattle.std.specs.Prelude.{None, Option, option_map, Some}
 use Rattle.std.specs.List.{All}
 use Rattle.std.specs.Option.{IfSome, option_map_or}
-use Rattle.std.proofs.lemmas.List.Elements.{All-append, All-cons, All-filter, All-nil}
+use Rattle.std.proofs.lemmas.List.Elements.{All-append, All-cons, All-filter, All-nil, All-contains, All-weaker}
 use Rattle.std.proofs.lemmas.Option.{none-some, slice_get-get_or}
 use Rattle.std.proofs.lemmas.Bool.{cases_Bool, cond_both}
 use Rattle.sha2.specs.Sha256.{sha256}
@@ -15,7 +15,6 @@ use Rattle.nf_base.specs.declared.rows.MountRow.{MountRow}
 use Rattle.nf_base.specs.declared.rows.NodeRow.{NodeRow}
 use Rattle.nf_base.specs.declared.rows.Row.{Row}
 use Rattle.nf_base.specs.declared.rows.ShareRow.{ShareRow}
-use Rattle.nf_base.specs.Content.{content_eq}
 use Rattle.nf_base.specs.declared.changes.Change.TheVariants.{Drop, Put}
 use Rattle.nf_base.specs.declared.changes.RowKey.TheVariants as keys
 use Rattle.nf_base.specs.declared.rows.Row.TheVariants as rows
@@ -33,7 +32,7 @@ use Rattle.nf_laws.proofs.Lists.{AreBuilt, IsBuilt}
 use Rattle.nf_laws.proofs.OneRow.{with_all}
 use Rattle.nf_laws.proofs.Rows.{content_has, found_is, stamped_has}
 use Rattle.nf_laws.specs.Wholes.{BlobsAreNew, Brings, IsGoalHeld, IsHeld, IsThere, StaysWhole, blob_in, blob_under}
-use Rattle.nf_words.specs.Prelude.{access_of, after_mark, allowed_of, altered, AreSound, blob_after, blob_for, blob_of, by_of, Call, call_of, carries, changed, content_in, contents_of, copies, decision_of, deed_done, deleted, done, end_refusal, ends_at, ends_goal, given, gone_of, goal_at, goal_of, hold_of, IsGoalSound, IsPieceSound, IsSound, IsTicketSound, item_dropped, item_restored, items_of, last_name, left_row, listing_of, made_folder, made_or_done, MayAsk, mount_left, mount_renamed, moved, named_row, node_at, own_item, own_mount, people_done, places_of, purges, raised, refilled, refusal_of, served, stamped, State, stored, stored_at, told, transfer_of, trash_done, unless_refused, way_of, with_goal, with_mount_row, without, is_member, joined_by, left_by, membership, mounts_for, mounts_joined, nothing_done, share_told, shared, share_made, offered, share_shown, share_set, perms_after, people_changed, put_mounts, requoted, row_named, same_end, set_row, share_steered, share_ended, until_after}
+use Rattle.nf_words.specs.Prelude.{access_of, after_mark, allowed_of, altered, AreSound, blob_after, blob_for, blob_of, by_of, Call, call_of, carries, changed, content_in, contents_of, copies, decision_of, deed_done, deleted, done, end_refusal, ends_at, ends_goal, given, goal_at, goal_of, hold_of, IsGoalSound, IsPieceSound, IsSound, IsTicketSound, item_dropped, item_restored, last_name, left_row, listing_of, made_folder, made_or_done, MayAsk, mount_left, mount_renamed, moved, named_row, node_at, own_item, own_mount, people_done, places_of, refilled, refusal_of, served, stamped, State, stored, stored_at, told, transfer_of, trash_done, unless_refused, way_of, with_goal, with_mount_row, without, is_member, joined_by, left_by, membership, mounts_for, mounts_joined, nothing_done, share_told, shared, share_made, offered, share_shown, share_set, perms_after, people_changed, put_mounts, requoted, row_named, same_end, set_row, share_steered, share_ended, until_after, becomes_version, brought_back, charged, charged_to, content_size, copies_settled, drop_version, gone_after, is_same, refills, requoting, settled_by, turned_over, turns_over, version_done, version_row}
 use Rattle.nf_words.specs.declared.answer.Allowed.{Allowed}
 use Rattle.nf_words.specs.declared.answer.Allowed.TheVariants as allowed
 use Rattle.nf_words.specs.declared.answer.Goal.{Goal}
@@ -41,9 +40,9 @@ use Rattle.nf_words.specs.declared.answer.Goal.TheVariants.{Serve, Store}
 use Rattle.nf_words.specs.declared.history.Entry.{Entry}
 use Rattle.nf_words.specs.declared.history.Mark.{Mark}
 use Rattle.nf_words.specs.declared.history.Ticket.{Ticket}
-use Rattle.nf_words.proofs.Bodies.{IsOfBody}
+use Rattle.nf_words.proofs.Bodies.{IsNext}
 use Rattle.nf_words.proofs.Ends.{known_change}
-use Rattle.nf_words.proofs.Fits.{KnownRow, KnownRows, no_more, one_more, user_more}
+use Rattle.nf_words.proofs.Fits.{IsOfVersion}
 use Rattle.nf_words.proofs.Known.{Known}
 use Rattle.nf_words.specs.declared.answer.By.{By}
 use Rattle.nf_words.specs.declared.answer.Deed.{Deed}
@@ -67,41 +66,18 @@ use Rattle.nf_words.specs.declared.request.TrashAsk.{TrashAsk}
 use Rattle.nf_words.specs.declared.request.TrashAsk.TheVariants as trash
 use Rattle.nf_words.specs.declared.request.Wanted.{Wanted}
 use Rattle.nf_words.specs.declared.request.Wanted.TheVariants as wanted
+use Rattle.nf_laws.proofs.Turning.{altered_old}
+use Rattle.nf_base.specs.declared.rows.VersionRow.{VersionRow}
+use Rattle.nf_retention.specs.declared.versions.Version.{Version}
+use Rattle.nf_words.specs.declared.request.VersionAsk.{VersionAsk}
+use Rattle.nf_words.specs.declared.request.VersionAsk.TheVariants as version
+use Rattle.nf_words.specs.Versions.{drop_back, drop_gone, has_already, is_version, put_replaced, stays_version, version_for}
+use Rattle.nf_laws.specs.Acts.{IsOldVersion}
 
 -- ---- a blob that is stored has the next number
 
-abbrev pub IsNext : ℕ → Option ℕ → Type 0
-IsNext next None = Unit {0}
-IsNext next (Some id) = id ≡ next
-
-body_next : (meta : MetaRow) (blob : Option ℕ) (content : List Piece) → IsOfBody meta blob content → IsNext meta.next_blob blob
-body_next meta None content of_body = tt
-body_next meta (Some id) content of_body = of_body.0
-
-none_next : (next : ℕ) (blob : Option ℕ) → blob ≡ None → IsNext next blob
-none_next next blob none = subst (IsNext next) (sym none) tt
-
-row_next : (t u : Tables) (change : Change) (blob : Option ℕ) → KnownRow t blob u change → IsNext t.meta.next_blob blob
-row_next t u (Put (rows.Node row)) blob known =
-    elim known [
-      | inl it ↦ body_next t.meta blob row.content it.body
-      | inr it ↦
-          elim it.body [
-            | inl of ↦ body_next t.meta blob row.content of
-            | inr kept ↦ none_next t.meta.next_blob blob kept.0
-          ]
-    ]
-row_next t u change blob known = none_next t.meta.next_blob blob known.0
-
--- where changes are of bodies, the blob is that of one of them
-changes_next : (t u : Tables) (changes : List Change) (blob : Option ℕ) → KnownRows t blob u changes
-    → (changes ≡ [] → blob ≡ None) → IsNext t.meta.next_blob blob
-changes_next t _ _ blob (no_more u) stored = none_next t.meta.next_blob blob (stored refl)
-changes_next t _ _ blob (one_more u change changes known rest) stored = row_next t u change blob known
-changes_next t _ _ blob (user_more u row root changes known rest) stored = none_next t.meta.next_blob blob known.0
-
 pub act_next : (t : Tables) (now : ℕ) (act : Allowed) → Known t now act → IsNext t.meta.next_blob (blob_of act)
-act_next t now (allowed.Change changes blob report) known = changes_next t (raised t now changes blob) changes blob known.rows known.stored
+act_next t now (allowed.Change changes blob report) known = known.next
 act_next t now act known = tt
 
 -- no deed takes a number of a blob
@@ -112,6 +88,7 @@ deed_next u (deed.Restore node folder name) = refl
 deed_next u (deed.Relink node folder name) = refl
 deed_next u (deed.Join copies) = refl
 deed_next u (deed.Requote row) = refl
+deed_next u (deed.Forget node at) = refl
 
 pub altered_next : (t : Tables) (now : ℕ) (act : Allowed) → (altered t now act).meta.next_blob ≡ blob_after t.meta.next_blob (blob_of act)
 altered_next t now (allowed.Deeds deeds report) =
@@ -135,11 +112,38 @@ abbrev pub AreOf : List Piece → List Change → Type 0
 AreOf content [] = Unit {0}
 AreOf content (change ∷ changes) = IsOf content change × AreOf content changes
 
-pub refilled_of : (o : Option NodeRow) (now : ℕ) (content : List Piece) → AreOf content (refilled o now content)
-refilled_of None now content = tt
-refilled_of (Some row) now content =
-    cond_both (content_eq row.content content && row.changed == now) [] (Put (rows.Node (filled content now row)) ∷ []) (AreOf content)
-    (λ same. tt) (λ other. (refl, tt))
+append_of : (content : List Piece) (xs ys : List Change) → AreOf content xs → AreOf content ys → AreOf content (xs ++ ys)
+append_of content [] ys first second = second
+append_of content (x ∷ xs) ys first second = (first.0, append_of content xs ys first.1 second)
+
+-- versions that go have no content
+drops_of : (content : List Piece) (gone : List Version) → AreOf content (map drop_version gone)
+drops_of content [] = tt
+drops_of content (version ∷ gone) = (tt, drops_of content gone)
+
+turned_of : (content : List Piece) (t : Tables) (back : Option ℕ) (row : NodeRow) (gone : List Version) → AreOf content (turned_over t back row gone)
+turned_of content t back row gone =
+    let stays = stays_version t back row gone in
+    append_of content (put_replaced t row stays) (drop_back back row stays ++ drop_gone (becomes_version t.versions back row) row gone)
+    (cond_both (stays && not (has_already t.versions row)) (Put (rows.Version (version_for row)) ∷ []) [] (AreOf content) (λ e. (tt, tt)) (λ e. tt))
+    (append_of content (drop_back back row stays) (drop_gone (becomes_version t.versions back row) row gone) (here back stays)
+    (drops_of content (filter (λ version. not (becomes_version t.versions back row && is_version row.id row.changed version)) gone)))
+  where
+    here : (o : Option ℕ) (b : Bool) → AreOf content (drop_back o row b)
+    here None b = tt
+    here (Some at) b = cond_both (b && at == row.changed) [] (Drop (keys.Version row.id at) ∷ []) (AreOf content) (λ e. tt) (λ e. (tt, tt))
+
+refills_of : (t : Tables) (now : ℕ) (back : Option ℕ) (content : List Piece) (row : NodeRow) → AreOf content (refills t now back content row)
+refills_of t now back content row =
+    let to = charged t row.owner (content_size row.content) (content_size content) in
+    append_of content (if is_same now content row then [] else Put (rows.Node (filled content now row)) ∷ []) (turns_over t now back content row)
+    (cond_both (is_same now content row) [] (Put (rows.Node (filled content now row)) ∷ []) (AreOf content) (λ e. tt) (λ e. (refl, tt)))
+    (turned_of content t back row (gone_after t now back row to.quota to.charge))
+
+pub refilled_of : (t : Tables) (o : Option NodeRow) (now : ℕ) (content : List Piece) → AreOf content (option_map_or (refilled t now content) o [])
+refilled_of t None now content = tt
+refilled_of t (Some row) now content =
+    cond_both (is_same now content row) [] (refills t now None content row) (AreOf content) (λ same. tt) (λ other. refills_of t now None content row)
 
 of_one : (content : List Piece) (change : Change) → IsOf content change → IsBuilt change
 of_one content (Put (rows.Node row)) of = tt
@@ -149,9 +153,9 @@ pub of_nodes : (content : List Piece) (changes : List Change) → AreOf content 
 of_nodes content [] of = tt
 of_nodes content (change ∷ changes) of = (of_one content change of.0, of_nodes content changes of.1)
 
--- each is of a row without content, or with that of a node that is there
+-- each is of a row without content, or with that of a version
 abbrev pub AreOld : Tables → List Change → Type 0
-AreOld t changes = AreOf [] changes ⊎ ((node : ℕ) × AreOf (content_of t.nodes node) changes)
+AreOld t changes = AreOf [] changes ⊎ ((node : ℕ) × (content : List Piece) × IsOfVersion t node content × AreOf content changes)
 
 -- changes store these bytes, if they store any
 abbrev pub StoreBody : Tables → List ℕ → List Change → Option ℕ → Type 0
@@ -165,11 +169,11 @@ abbrev pub StoresBody : Tables → List ℕ → Allowed → Type 0
 StoresBody t body (allowed.Change changes blob report) = StoreBody t body changes blob
 StoresBody t body act = Unit {0}
 
--- what a request that isn't a GET may do: nothing that stores or shows a content
+-- what a request that is neither a GET nor about versions may do: nothing that stores or shows a content, or gives a file one
 abbrev pub Alters : Tables → Allowed → Type 0
 Alters t (allowed.Get node content) = ⊥
 Alters t (allowed.List listing) = ⊥
-Alters t (allowed.Change changes blob report) = (blob ≡ None) × AreOld t changes
+Alters t (allowed.Change changes blob report) = (blob ≡ None) × AreOf [] changes
 Alters t act = Unit {0}
 
 put_alters : (t : Tables) (by : By) (name : List ℕ) (size : ℕ) (o : Option Found) → Alters t (stored by name size o)
@@ -179,7 +183,7 @@ put_alters t by name size (Some place) = tt
 
 folder_alters : (t : Tables) (now : ℕ) (name : List ℕ) (o : Option Found) → Alters t (made_folder t now name o)
 folder_alters t now name None = tt
-folder_alters t now name (Some (Free folder)) = (refl, inl (refl, tt))
+folder_alters t now name (Some (Free folder)) = (refl, (refl, tt))
 folder_alters t now name (Some place) = tt
 
 -- what is done where something is there
@@ -192,12 +196,12 @@ if_alters t true act other one another = one
 if_alters t false act other one another = another
 
 mount_alters : (t : Tables) (row : Option MountRow) (told : Report) → Alters t (with_mount_row row told)
-mount_alters t None told = (refl, inl tt)
-mount_alters t (Some row) told = (refl, inl (tt, tt))
+mount_alters t None told = (refl, tt)
+mount_alters t (Some row) told = (refl, (tt, tt))
 
 -- what is asked about shares puts rows of shares and mounts alone
 found_alters : {X : Type 0} (t : Tables) (act : X → Allowed) (o : Option X) → ((x : X) → Alters t (act x)) → Alters t (option_map_or act o nothing_done)
-found_alters t act None all = (refl, inl tt)
+found_alters t act None all = (refl, tt)
 found_alters t act (Some x) all = all x
 
 mounts_of : (content : List Piece) (mounts : List MountRow) → AreOf content (put_mounts mounts)
@@ -205,24 +209,24 @@ mounts_of content [] = tt
 mounts_of content (mount ∷ mounts) = (tt, mounts_of content mounts)
 
 set_alters : (t : Tables) (share row : ShareRow) (same : Bool) → Alters t (share_told t (if same then [] else Put (rows.Share share) ∷ []) row)
-set_alters t share row true = (refl, inl tt)
-set_alters t share row false = (refl, inl (tt, tt))
+set_alters t share row true = (refl, tt)
+set_alters t share row false = (refl, (tt, tt))
 
 shared_alters : (call : Call) (places : Places) (asked : ShareAsk) → Alters call.state.tables (shared (access_of call.state) call places asked)
 shared_alters call places (ask.New spot to perms until) =
     let t = call.state.tables in
     found_alters t (share_made (access_of call.state) call) (offered call spot to perms until) (λ offer.
-    (refl, inl (tt, mounts_of [] (mounts_for t offer))))
-shared_alters call places (ask.List spot with_me) = (refl, inl tt)
+    (refl, (tt, mounts_of [] (mounts_for t offer))))
+shared_alters call places (ask.List spot with_me) = (refl, tt)
 shared_alters call places (ask.Show share) =
-    found_alters call.state.tables (share_told call.state.tables []) (share_shown call share) (λ row. (refl, inl tt))
+    found_alters call.state.tables (share_told call.state.tables []) (share_shown call share) (λ row. (refl, tt))
 shared_alters call places (ask.Set share perms until) =
     let t = call.state.tables in
     found_alters t (λ row. share_set t (perms_after t perms row) (until_after until row.until) row) (share_steered call share) (λ row.
     let wanted = perms_after t perms row in
     let end = until_after until row.until in
     let other = set_row wanted end row in set_alters t other other (wanted == row.perms && same_end end row.until))
-shared_alters call places (ask.End share) = found_alters call.state.tables share_ended (share_steered call share) (λ row. (refl, inl (tt, tt)))
+shared_alters call places (ask.End share) = found_alters call.state.tables share_ended (share_steered call share) (λ row. (refl, (tt, tt)))
 
 -- and what is asked about users and groups puts rows without content
 joined_of : (t : Tables) (row : MemberRow) (b : Bool) → AreOf [] (if b then [] else Put (rows.Member row) ∷ put_mounts (mounts_joined t row))
@@ -252,17 +256,17 @@ people_alters call (people.SetQuota user quota) =
     let t = call.state.tables in
     found_alters t (requoted t call.now quota) (row_named t user) (λ row.
     if_alters t (row.quota == quota) nothing_done
-    (done (deed.Requote (record row { quota = quota }) ∷ purges (gone_of t call.now quota (items_of t row.id))) report.Plain) (refl, inl tt) tt)
+    (done (settled_by t (charged_to t quota row) (requoting t call.now quota row)) report.Plain) (refl, tt) tt)
 people_alters call (people.NewUser name token quota) =
-    (refl, inl (people_of call.state.tables call.now (people.NewUser name token quota)))
-people_alters call (people.NewGroup name) = (refl, inl (people_of call.state.tables call.now (people.NewGroup name)))
-people_alters call (people.AddMember user group) = (refl, inl (people_of call.state.tables call.now (people.AddMember user group)))
-people_alters call (people.DropMember user group) = (refl, inl (people_of call.state.tables call.now (people.DropMember user group)))
-people_alters call (people.AddToken user token) = (refl, inl (people_of call.state.tables call.now (people.AddToken user token)))
+    (refl, (people_of call.state.tables call.now (people.NewUser name token quota)))
+people_alters call (people.NewGroup name) = (refl, (people_of call.state.tables call.now (people.NewGroup name)))
+people_alters call (people.AddMember user group) = (refl, (people_of call.state.tables call.now (people.AddMember user group)))
+people_alters call (people.DropMember user group) = (refl, (people_of call.state.tables call.now (people.DropMember user group)))
+people_alters call (people.AddToken user token) = (refl, (people_of call.state.tables call.now (people.AddToken user token)))
 
 -- what is put in the trash, goes or comes back has its content
 trash_alters : (call : Call) (asked : TrashAsk) → Alters call.state.tables (trash_done call asked)
-trash_alters call (trash.List user) = (refl, inl tt)
+trash_alters call (trash.List user) = (refl, tt)
 trash_alters call (trash.Drop user item) =
     found_alters call.state.tables (item_dropped call.state.tables call.now) (own_item call item) (λ item. tt)
 trash_alters call (trash.Empty user) = tt
@@ -270,35 +274,37 @@ trash_alters call (trash.Restore user item) =
     found_alters call.state.tables (item_restored call.state.tables call.now) (own_item call item) (λ item. tt)
 
 pub given_alters : (call : Call) (places : Places) (asked : Wanted)
-    → ((spot : Spot) × (asked ≡ wanted.Get spot)) ⊎ Alters call.state.tables (given (access_of call.state) call places asked)
+    → ((spot : Spot) × (asked ≡ wanted.Get spot))
+    ⊎ (((ask : VersionAsk) × (asked ≡ wanted.Version ask)) ⊎ Alters call.state.tables (given (access_of call.state) call places asked))
 given_alters call places (wanted.Get spot) = inl (spot, refl)
-given_alters call places (wanted.Put spot size) = inr (put_alters call.state.tables (by_of call spot) (last_name spot) size places.target)
-given_alters call places (wanted.Mkcol spot) = inr (folder_alters call.state.tables call.now (last_name spot) places.target)
+given_alters call places (wanted.Put spot size) = inr (inr (put_alters call.state.tables (by_of call spot) (last_name spot) size places.target))
+given_alters call places (wanted.Mkcol spot) = inr (inr (folder_alters call.state.tables call.now (last_name spot) places.target))
 given_alters call places (wanted.Delete spot) =
     let t = call.state.tables in
     let way = way_of call spot in
-    inr (if_alters t way.itself (mount_left call way) (deleted t call.now (node_at places.source))
-    (mount_alters t (option_map left_row (own_mount call way.mount)) report.Done) tt)
+    inr (inr (if_alters t way.itself (mount_left call way) (deleted t call.now (node_at places.source))
+    (mount_alters t (option_map left_row (own_mount call way.mount)) report.Done) tt))
 given_alters call places (wanted.Move source target overwrite) =
     let t = call.state.tables in
     let way = way_of call source in
     let name = last_name target in
-    inr (if_alters t way.itself (mount_renamed call way name) (moved t call.now name (transfer_of t.nodes places))
+    inr (inr (if_alters t way.itself (mount_renamed call way name) (moved t call.now name (transfer_of t.nodes places))
     (mount_alters t (option_map (named_row name) (own_mount call way.mount)) report.Made)
     (either_alters t (λ transfer. done (carries t call.now name transfer) (made_or_done transfer.replaced)) (transfer_of t.nodes places)
-    (λ transfer. tt)))
+    (λ transfer. tt))))
 given_alters call places (wanted.Copy source target overwrite) =
     let t = call.state.tables in
     let name = last_name target in
-    inr (either_alters t (λ transfer. done (copies t call.now name transfer) (made_or_done transfer.replaced)) (transfer_of t.nodes places)
-    (λ transfer. tt))
-given_alters call places (wanted.Share asked) = inr (shared_alters call places asked)
-given_alters call places (wanted.People asked) = inr (people_alters call asked)
-given_alters call places (wanted.Trash asked) = inr (trash_alters call asked)
+    inr (inr (either_alters t (λ transfer. done (copies_settled t call.now name transfer) (made_or_done transfer.replaced)) (transfer_of t.nodes places)
+    (λ transfer. tt)))
+given_alters call places (wanted.Share asked) = inr (inr (shared_alters call places asked))
+given_alters call places (wanted.People asked) = inr (inr (people_alters call asked))
+given_alters call places (wanted.Trash asked) = inr (inr (trash_alters call asked))
+given_alters call places (wanted.Version asked) = inr (inl (asked, refl))
 
 -- so a Begin stores nothing
 alters_stores : (t : Tables) (body : List ℕ) (act : Allowed) → Alters t act → StoresBody t body act
-alters_stores t body (allowed.Change changes blob report) alters = inl alters
+alters_stores t body (allowed.Change changes blob report) alters = inl (alters.0, inl alters.1)
 alters_stores t body act alters = tt
 
 served_stores : (access : Access) (call : Call) (body : List ℕ) (mount o : Option ℕ) → StoresBody call.state.tables body (served access call mount o)
@@ -308,6 +314,24 @@ served_stores access call body mount (Some node) =
     (allowed.Get node (content_of call.state.tables.nodes node))
     (StoresBody call.state.tables body) (λ folder. tt) (λ file. tt)
 
+-- and a version that comes back is its file's content
+pub version_stores : (t : Tables) (now : ℕ) (body : List ℕ) (asked : VersionAsk) → StoresBody t body (version_done t now asked)
+version_stores t now body (version.List user node) = inl (refl, inl tt)
+version_stores t now body (version.Get user node at) = here (version_row t.versions node at)
+  where
+    here : (o : Option VersionRow) → StoresBody t body (option_map_or (λ (row : VersionRow). allowed.Get node row.content) o nothing_done)
+    here None = inl (refl, inl tt)
+    here (Some row) = tt
+version_stores t now body (version.Restore user node at) = here (version_row t.versions node at) refl
+  where
+    of_row : (one : VersionRow) (o : Option NodeRow) → AreOf one.content (option_map_or (refills t now (Some one.at) one.content) o [])
+    of_row one None = tt
+    of_row one (Some row) = refills_of t now (Some one.at) one.content row
+
+    here : (o : Option VersionRow) → version_row t.versions node at ≡ o → StoresBody t body (option_map_or (brought_back t now node) o nothing_done)
+    here None e = inl (refl, inl tt)
+    here (Some one) e = inl (refl, inr (node, one.content, (one, at, e, refl), of_row one (node_row t.nodes node)))
+
 given_stores : (call : Call) (body : List ℕ) (places : Places) (asked : Wanted)
     → StoresBody call.state.tables body (given (access_of call.state) call places asked)
 given_stores call body places asked =
@@ -316,14 +340,16 @@ given_stores call body places asked =
       | inl get ↦
           subst (λ (w : Wanted). StoresBody t body (given (access_of call.state) call places w)) (sym get.1)
           (served_stores (access_of call.state) call body (way_of call get.0).mount (node_at places.source))
-      | inr alters ↦ alters_stores t body (given (access_of call.state) call places asked) alters
+      | inr (inl version) ↦
+          subst (λ (w : Wanted). StoresBody t body (given (access_of call.state) call places w)) (sym version.1) (version_stores t call.now body version.0)
+      | inr (inr alters) ↦ alters_stores t body (given (access_of call.state) call places asked) alters
     ]
 
 -- the End of a PUT stores its body
 key_stores : (t : Tables) (now : ℕ) (key : LockKey) (body : List ℕ)
     → StoresBody t body (stored_at t now key (sha256 body) (length body))
-key_stores t now (Node node) body = inr (refl, refilled_of (node_row t.nodes node) now _)
-key_stores t now (Slot folder name) body = inr (refl, (refl, tt))
+key_stores t now (Node node) body = inr (refl, refilled_of t (node_row t.nodes node) now _)
+key_stores t now (Slot folder name) body = inr (refl, (refl, drops_of _ _))
 
 -- a decision stores these bytes, if it stores any
 abbrev pub Decides : Tables → List ℕ → Result Allowed Denial → Type 0
@@ -396,6 +422,24 @@ contents_kept t opening start blobs more keeps sound held = λ k d within.
 abbrev IsRowHeld : List Row → Blobs → Blobs → NodeRow → Type 0
 IsRowHeld opening start blobs row = All (IsHeld opening start blobs) row.content
 
+-- and what a version's does
+abbrev IsVersionHeld : List Row → Blobs → Blobs → VersionRow → Type 0
+IsVersionHeld opening start blobs row = All (IsHeld opening start blobs) row.content
+
+version_held : (t : Tables) (opening : List Row) (start blobs : Blobs) (node : ℕ) (content : List Piece)
+    → All (IsVersionHeld opening start blobs) t.versions → IsOfVersion t node content → All (IsHeld opening start blobs) content
+version_held t opening start blobs node content versions (version, at, found, same) =
+    subst (All (IsHeld opening start blobs)) (sym same)
+    (found_is (IsVersionHeld opening start blobs) (λ (row : VersionRow). row.node == node && row.at == at) t.versions version versions found).1
+
+-- so of what a version was made
+old_held : (t : Tables) (opening : List Row) (start blobs : Blobs) → All (IsRowHeld opening start blobs) t.nodes
+    → All (IsVersionHeld opening start blobs) t.versions → (version : VersionRow) → IsOldVersion t version → IsVersionHeld opening start blobs version
+old_held t opening start blobs nodes versions version (inl among) = All-contains (IsVersionHeld opening start blobs) t.versions version versions among
+old_held t opening start blobs nodes versions version (inr (was, there, same)) =
+    subst (IsVersionHeld opening start blobs) (sym same)
+    (found_is (IsRowHeld opening start blobs) (λ (row : NodeRow). row.id == version.node) t.nodes was nodes there).1
+
 -- ---- what a body brings
 
 brought : (next : ℕ) (opening : List Row) (start blobs : Blobs) (body : List ℕ)
@@ -455,13 +499,15 @@ deed_held u now (deed.Relink node folder name) opening start blobs fit kept =
 deed_held u now (deed.Join copies) opening start blobs joins kept =
     All-append (IsRowHeld opening start blobs) u.nodes copies kept (copies_held u now copies opening start blobs joins kept)
 deed_held u now (deed.Requote row) opening start blobs fit kept = kept
+deed_held u now (deed.Forget node at) opening start blobs fit kept = kept
 
 -- where the old nodes' pieces are held with the body, the new nodes' are
 altered_held : (t : Tables) (now : ℕ) (act : Allowed) (opening : List Row) (start blobs : Blobs) (body : List ℕ)
     → AreSound t → t.meta.last ≤ now → Known t now act
-    → All (IsRowHeld opening start (with_blob blobs (blob_of act) body)) t.nodes → StoresBody t body act
+    → All (IsRowHeld opening start (with_blob blobs (blob_of act) body)) t.nodes
+    → All (IsVersionHeld opening start (with_blob blobs (blob_of act) body)) t.versions → StoresBody t body act
     → All (IsRowHeld opening start (with_blob blobs (blob_of act) body)) (altered t now act).nodes
-altered_held t now (allowed.Change changes blob report) opening start blobs body sound later known kept stores =
+altered_held t now (allowed.Change changes blob report) opening start blobs body sound later known kept versions stores =
     let more = with_blob blobs blob body in
     let Held : NodeRow → Type 0 = IsRowHeld opening start more in
     elim stores [
@@ -470,20 +516,20 @@ altered_held t now (allowed.Change changes blob report) opening start blobs body
             | inl empty ↦
                 of_have Held t [] changes empty
                 (λ row is. subst (λ (c : List Piece). All (IsHeld opening start more) c) (sym is) (All-nil (IsHeld opening start more))) kept
-            | inr old ↦
-                of_have Held t (content_of t.nodes old.0) changes old.1
+            | inr (node, content, of, are) ↦
+                of_have Held t content changes are
                 (λ row is.
                 subst (λ (c : List Piece). All (IsHeld opening start more) c) (sym is)
-                (content_has (IsHeld opening start more) t.nodes old.0 kept)) kept
+                (version_held t opening start more node content versions of)) kept
           ]
       | inr some ↦
           of_have Held t (content_in (blob_for t.meta.next_blob (length body)) (sha256 body) (length body)) changes some.1
           (λ row is. stored_held t.meta.next_blob opening start blobs body blob row.content some.0 is) kept
     ]
-altered_held t now (allowed.Deeds deeds report) opening start blobs body sound later known kept stores =
+altered_held t now (allowed.Deeds deeds report) opening start blobs body sound later known kept versions stores =
     deeds_known_have (λ (u : Tables). All (IsRowHeld opening start blobs) u.nodes) t now deeds sound later known
     (λ u one fine at fit. deed_held u now one opening start blobs fit) kept
-altered_held t now act opening start blobs body sound later known kept stores = kept
+altered_held t now act opening start blobs body sound later known kept versions stores = kept
 
 changed_held : (t : Tables) (now : ℕ) (act : Allowed) (opening : List Row) (start blobs : Blobs) (body : List ℕ)
     → AreSound t → t.meta.last ≤ now → Known t now act
@@ -495,8 +541,10 @@ changed_held t now act opening start blobs body sound later known kept stores =
     let each = by_kind Held t kept in
     let rest = rest_kept t now act sound known in
     stamped_has (AreHeld opening start more) t (altered t now act) now (told t act) kept
-    (others_have Held t (altered t now act) (ap (λ (u : Tables). u.versions) rest) (ap (λ (u : Tables). u.chunks) rest) each
-    (altered_held t now act opening start blobs body sound later known each.nodes stores))
+    (others_have Held t (altered t now act) (ap (λ (u : Tables). u.chunks) rest) each
+    (altered_held t now act opening start blobs body sound later known each.nodes each.versions stores)
+    (All-weaker (IsOldVersion t) (IsVersionHeld opening start more) (old_held t opening start more each.nodes each.versions) (altered t now act).versions
+    (altered_old t now act sound known)))
 
 -- ---- the tickets
 
@@ -516,8 +564,11 @@ tickets_kept t opening start blobs more tickets keeps sound held = λ k d within
 granted_held : (t : Tables) (now : ℕ) (act : Allowed) (opening : List Row) (start blobs : Blobs) → Known t now act
     → AreHeld opening start blobs t → IfSome (goal_of act) (IsGoalHeld opening start blobs)
 granted_held t now (allowed.Get node content) opening start blobs known all =
-    let nodes = (by_kind (All (IsHeld opening start blobs)) t all).nodes in
-    subst (All (IsHeld opening start blobs)) (sym known.of_node) (content_has (IsHeld opening start blobs) t.nodes node nodes)
+    let each = by_kind (All (IsHeld opening start blobs)) t all in
+    elim known.of_node [
+      | inl same ↦ subst (All (IsHeld opening start blobs)) (sym same) (content_has (IsHeld opening start blobs) t.nodes node each.nodes)
+      | inr of ↦ version_held t opening start blobs node content each.versions of
+    ]
 granted_held t now act opening start blobs known all = tt
 
 -- ---- the state

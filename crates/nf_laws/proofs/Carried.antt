@@ -1,16 +1,16 @@
 -- Of a DELETE, a MOVE, a COPY and a MOVE to another owner: what acts, and what goes for good beside it.
-use Rattle.std.proofs.Common.{◌≡◌, ◌≤◌, ℕ, zero, suc, ◌+◌, ◌==◌, option_map, false, List, [], ◌∷◌, ◌++◌, Option, None, Some, length, refl, sym, ap, subst, ◌∙◌, arith}
+use Rattle.std.proofs.Common.{◌≡◌, ◌≤◌, ℕ, zero, suc, ◌+◌, ◌==◌, option_map, false, List, [], ◌∷◌, ◌++◌, Option, None, Some, length, refl, sym, ap, subst, ◌∙◌, arith, flat_map, bytes_eq, not, inl, inr, true}
 use Rattle.std.specs.Prelude.{option_and_then, slice_get}
 use Rattle.std.specs.List.{All, Contains}
 use Rattle.std.specs.Option.{option_map_or}
-use Rattle.std.proofs.lemmas.Bool.{both_ways, cond_both, eqb-true, false_from_ne_true}
+use Rattle.std.proofs.lemmas.Bool.{both_ways, cond_both, eqb-true, false_from_ne_true, ne_eqb}
 use Rattle.std.proofs.lemmas.List.{map-append}
-use Rattle.std.proofs.lemmas.List.Elements.{All-append, All-nil}
+use Rattle.std.proofs.lemmas.List.Elements.{All-append, All-nil, All-cons, All-filter, All-head, All-tail}
 use Rattle.nf_base.specs.declared.rows.MetaRow.{MetaRow}
 use Rattle.nf_base.specs.declared.rows.NodeRow.{NodeRow}
 use Rattle.nf_defs.proofs.Climbs.{climb_under, under_climb}
-use Rattle.nf_defs.specs.Prelude.{climb, is_under, node_row, parent_of, relinked, Tables}
-use Rattle.nf_laws.proofs.Acted.{Acted, IsNew, join_acted, leave_acted, none_acted, NoNode, relink_acted}
+use Rattle.nf_defs.specs.Prelude.{climb, is_under, node_row, parent_of, relinked, Tables, item_key}
+use Rattle.nf_laws.proofs.Acted.{Acted, IsNew, join_acted, leave_acted, none_acted, NoNode, relink_acted, IsAway}
 use Rattle.nf_laws.proofs.Copied.{copies_there}
 use Rattle.nf_laws.proofs.Going.{under_is}
 use Rattle.nf_laws.proofs.InTurn.{Fit, joined_here, joined_into, Joins, joins_here, joins_into, leaving_fit, move_fits, none_replaced, replaced_is}
@@ -23,7 +23,7 @@ use Rattle.nf_laws.proofs.Parts.{both_go, leaves_in, leaves_joined, no_goes, res
 use Rattle.nf_laws.proofs.Regions.{behind, joined_stays, left_stays, none_given, none_under_both, Stays, stays_same, stays_then}
 use Rattle.nf_laws.proofs.Sources.{under_given}
 use Rattle.nf_laws.proofs.Upwards.{derived, never_climbs}
-use Rattle.nf_laws.specs.Acts.{IsBeside, IsUnderOne}
+use Rattle.nf_laws.specs.Acts.{IsBeside, IsUnderOne, IsGoneWith}
 use Rattle.nf_laws.specs.Transfers.{Mirrors, replaced_by}
 use Rattle.nf_laws.specs.Tree.{Under}
 use Rattle.nf_words.proofs.Found.{child_parent, found_passes}
@@ -31,10 +31,15 @@ use Rattle.nf_words.proofs.Known.{KnownCopies, KnownCross, KnownGoes, KnownLeavi
 use Rattle.nf_words.proofs.Sweeping.{rest_owned}
 use Rattle.nf_words.proofs.Transfers.{replaced_leaves, row_leaves}
 use Rattle.nf_words.proofs.Trashing.{rest_goes}
-use Rattle.nf_words.specs.Prelude.{AreSound, beside, copies, copies_to, crossing, deed_done, deeds_done, discard, goes_itself, item_for, joined, moves, purges, row_at}
+use Rattle.nf_words.specs.Prelude.{AreSound, beside, copies, copies_to, crossing, deed_done, deeds_done, discard, goes_itself, item_for, joined, moves, purges, row_at, purged_by, purged}
 use Rattle.nf_words.specs.declared.answer.Deed.{Deed}
 use Rattle.nf_words.specs.declared.answer.Deed.TheVariants as deed
 use Rattle.nf_words.specs.declared.request.Transfer.{Transfer}
+use Rattle.nf_defs.proofs.Puts.{all_put}
+use Rattle.nf_laws.proofs.Rows.{each_fails, finds_none}
+use Rattle.std.proofs.lemmas.Option.{none-some}
+use Rattle.nf_base.specs.declared.rows.ItemRow.{ItemRow}
+use Rattle.nf_laws.proofs.Others.{item_gone}
 
 -- the deeds are those that act, by which some nodes leave their places and others are put somewhere, and then items go of the owners of
 -- what left. `Put` says of the tables between what is put where
@@ -47,17 +52,79 @@ pub record Kind (t : Tables) (now : ℕ) (deeds : List Deed) (leave : List ℕ) 
   pub acted : Acted t (deeds_done t (one ∷ more)) now leave IsPut
   pub put : Put (deeds_done t (one ∷ more))
   pub goes : KnownGoes t gone
+  pub purged : All (IsGoneWith t.nodes (deeds_done t (one ∷ more)).nodes) (flat_map purged_by (one ∷ more))
   pub beside : All (IsBeside t leave) gone
   pub rest : deeds_done t (one ∷ more) ≡ record t {
     meta = meta;
     nodes = (deeds_done t (one ∷ more)).nodes;
     shares = (deeds_done t (one ∷ more)).shares;
+    versions = (deeds_done t (one ∷ more)).versions;
     items = (deeds_done t (one ∷ more)).items;
   }
 
 -- the rows of the tables that a deed leaves alone
+-- ---- what goes at once
+
+-- the deed makes no item of that node
+abbrev NotItem : ℕ → ItemRow → Type 0
+NotItem top item = (item.node == top) ≡ false
+
+abbrev MakesNone : ℕ → Deed → Type 0
+MakesNone top (deed.Discard item) = NotItem top item
+MakesNone top other = Unit {0}
+
+none_made : (top : ℕ) (v : Tables) (one : Deed) → MakesNone top one → All (NotItem top) v.items → All (NotItem top) (deed_done v one).items
+none_made top v (deed.Discard item) is all = all_put item_key (NotItem top) item v.items is all
+none_made top v (deed.Purge node) is all = All-filter (λ (item : ItemRow). not (bytes_eq (node ∷ []) (item_key item))) (NotItem top) v.items all
+none_made top v (deed.Restore node folder name) is all =
+    All-filter (λ (item : ItemRow). not (bytes_eq (node ∷ []) (item_key item))) (NotItem top) v.items all
+none_made top v (deed.Relink node folder name) is all = all
+none_made top v (deed.Join more) is all = all
+none_made top v (deed.Requote row) is all = all
+none_made top v (deed.Forget node at) is all = all
+
+all_made : (top : ℕ) (v : Tables) (deeds : List Deed) → All (MakesNone top) deeds → All (NotItem top) v.items → All (NotItem top) (deeds_done v deeds).items
+all_made top v [] is all = all
+all_made top v (one ∷ deeds) is all =
+    all_made top (deed_done v one) deeds (All-tail (MakesNone top) one deeds is)
+    (none_made top v one (All-head (MakesNone top) one deeds is) all)
+
+-- what went at once isn't in the trash, so it is gone
+away_purged : (t v : Tables) (now top : ℕ) (more : List Deed) → All (MakesNone top) more → IsAway t (deeds_done (purged v top) more) now top
+    → IsGoneWith t.nodes (deeds_done (purged v top) more).nodes top
+away_purged t v now top more none (inr gone) = gone
+away_purged t v now top more none (inl trash) =
+    let left = each_fails (λ (item : ItemRow). item.node == top) (purged v top).items (item_gone top v.items) in
+    absurd (none-some _ (sym (finds_none (λ (item : ItemRow). item.node == top) (deeds_done (purged v top) more).items
+    (all_made top (purged v top) more none left)) ∙ trash.item))
+
+abbrev ArePurgedBy : Tables → Tables → List Deed → Type 0
+ArePurgedBy t u deeds = All (IsGoneWith t.nodes u.nodes) (flat_map purged_by deeds)
+
+-- a node that leaves its place goes at once, or not
+leave_purged : (t v w : Tables) (now : ℕ) (row : NodeRow) (more : List Deed) → All (MakesNone row.id) more
+    → IsAway t (deeds_done (deed_done v (discard w now row)) more) now row.id
+    → ArePurgedBy t (deeds_done (deed_done v (discard w now row)) more) more
+    → ArePurgedBy t (deeds_done (deed_done v (discard w now row)) more) (discard w now row ∷ more)
+leave_purged t v w now row more none =
+    cond_both (goes_itself w now row) (deed.Purge row.id) (deed.Discard (item_for now row))
+    (λ (one : Deed). IsAway t (deeds_done (deed_done v one) more) now row.id → ArePurgedBy t (deeds_done (deed_done v one) more) more
+    → ArePurgedBy t (deeds_done (deed_done v one) more) (one ∷ more))
+    (λ e away rest.
+    All-cons (IsGoneWith t.nodes (deeds_done (purged v row.id) more).nodes) row.id (flat_map purged_by more)
+    (away_purged t v now row.id more none away) rest)
+    (λ e away rest. rest)
+
+no_purged : (t u : Tables) → ArePurgedBy t u []
+no_purged t u = All-nil (IsGoneWith t.nodes u.nodes)
+
+-- a deed by which a node leaves its place makes no item of another
+leave_none : (w : Tables) (now top : ℕ) (row : NodeRow) → (row.id == top) ≡ false → MakesNone top (discard w now row)
+leave_none w now top row other =
+    cond_both (goes_itself w now row) (deed.Purge row.id) (deed.Discard (item_for now row)) (MakesNone top) (λ e. tt) (λ e. other)
+
 abbrev Rest : Tables → Tables → Type 0
-Rest t u = u ≡ record t { nodes = u.nodes; shares = u.shares; items = u.items }
+Rest t u = u ≡ record t { nodes = u.nodes; shares = u.shares; versions = u.versions; items = u.items }
 
 discard_rest : (t u : Tables) (now : ℕ) (row : NodeRow) → Rest u (deed_done u (discard t now row))
 discard_rest t u now row =
@@ -120,6 +187,8 @@ module _ (t : Tables) (now : ℕ) (sound : AreSound t) (at : t.meta.last ≡ now
     acted = left_acted row known;
     put = tt;
     goes = rest_goes t sound now row known;
+    purged = leave_purged t t t now row [] (All-nil (MakesNone row.id))
+        (All-head (IsAway t (deed_done t (discard t now row)) now) row.id [] (left_acted row known).away) (no_purged t (deed_done t (discard t now row)));
     beside = rest_beside t now row (row.id ∷ []) sound known.there (head row.id []);
     rest = discard_rest t t now row;
   }
@@ -187,6 +256,7 @@ module _ (t : Tables) (now : ℕ) (sound : AreSound t) (at : t.meta.last ≡ now
                 fits move.known.present (none_under t.nodes transfer.node);
             put = relinked_there t t transfer name refl;
             goes = no_goes t;
+            purged = λ k d within. absurd (omega (arith, within));
             beside = All-nil (IsBeside t []);
             rest = refl;
           })
@@ -198,6 +268,12 @@ module _ (t : Tables) (now : ℕ) (sound : AreSound t) (at : t.meta.last ≡ now
           let out = source_out t u row.id sound left transfer name move.known is in
           let source = left.row transfer.node out in
           let folder = left.row transfer.folder (folder_out t u row.id sound left transfer name move.known is) in
+          let acts =
+          relink_acted t u now (row.id ∷ []) transfer.node transfer.folder name own.0 sound (left_acted row leaves)
+          (move_fits u (into transfer) name own.0 left.sound (known_into t u row.id sound left transfer name move.known is) refl (source ∙ own.1)
+          (ap (λ (o : Option NodeRow). option_map_or (λ row. row.owner) o 0) folder ∙ same_owner t.nodes transfer own.0 move.within own.1))
+          (left.leads transfer.node out move.known.present)
+          (λ one. both_ways (is_under t.nodes transfer.node row.id) out (under_is t row.id transfer.node sound (under_alone t.nodes row.id transfer.node one))) in
           subst (λ (leave : List ℕ). Kind t now (discard t now row ∷ relinks ∷ beside t now row) leave (λ node. node ≡ transfer.node) (IsRelinked t transfer name) t.meta)
           (sym (replaced_alone transfer name move.known row e)) (record {
             one = discard t now row;
@@ -205,13 +281,11 @@ module _ (t : Tables) (now : ℕ) (sound : AreSound t) (at : t.meta.last ≡ now
             gone = rest_of t now row;
             are = refl;
             fit = leaving_fit t t now row leaves;
-            acted = relink_acted t u now (row.id ∷ []) transfer.node transfer.folder name own.0 sound (left_acted row leaves)
-                (move_fits u (into transfer) name own.0 left.sound (known_into t u row.id sound left transfer name move.known is) refl (source ∙ own.1)
-                (ap (λ (o : Option NodeRow). option_map_or (λ row. row.owner) o 0) folder ∙ same_owner t.nodes transfer own.0 move.within own.1))
-                (left.leads transfer.node out move.known.present)
-                (λ one. both_ways (is_under t.nodes transfer.node row.id) out (under_is t row.id transfer.node sound (under_alone t.nodes row.id transfer.node one)));
+            acted = acts;
             put = relinked_there t u transfer name source;
             goes = rest_goes t sound now row leaves;
+            purged = leave_purged t t t now row (relinks ∷ []) (All-cons (MakesNone row.id) relinks [] tt (All-nil (MakesNone row.id)))
+                (All-head (IsAway t (deed_done u relinks) now) row.id [] acts.away) (no_purged t (deed_done u relinks));
             beside = rest_beside t now row (row.id ∷ []) sound leaves.there (head row.id []);
             rest = ap (λ (v : Tables). deed_done v relinks) (discard_rest t t now row);
           })
@@ -242,6 +316,7 @@ module _ (t : Tables) (now : ℕ) (sound : AreSound t) (at : t.meta.last ≡ now
             acted = join_acted t t now [] rows sound refl at (none_acted t now sound) joins;
             put = copies_joined t t now rows sound refl joins;
             goes = no_goes t;
+            purged = λ k d within. absurd (omega (arith, within));
             beside = All-nil (IsBeside t []);
             rest = refl;
           })
@@ -250,6 +325,8 @@ module _ (t : Tables) (now : ℕ) (sound : AreSound t) (at : t.meta.last ≡ now
           let u = deed_done t (discard t now row) in
           let left = discard_left t now row sound (omega (arith, at)) leaves in
           let is = replaced_is t transfer.replaced row e in
+          let acts = join_acted t u now (row.id ∷ []) rows sound left.meta (ap (λ (meta : MetaRow). meta.last) left.meta ∙ at) (left_acted row leaves)
+          (joins_into t now transfer name u row.id sound left is known) in
           subst (λ (leave : List ℕ). Kind t now (discard t now row ∷ deed.Join rows ∷ beside t now row) leave (IsNew t) (AreJoined t rows) (meta_with rows))
           (sym (replaced_alone transfer name known.known row e)) (record {
             one = discard t now row;
@@ -257,10 +334,11 @@ module _ (t : Tables) (now : ℕ) (sound : AreSound t) (at : t.meta.last ≡ now
             gone = rest_of t now row;
             are = refl;
             fit = leaving_fit t t now row leaves;
-            acted = join_acted t u now (row.id ∷ []) rows sound left.meta (ap (λ (meta : MetaRow). meta.last) left.meta ∙ at) (left_acted row leaves)
-                (joins_into t now transfer name u row.id sound left is known);
+            acted = acts;
             put = copies_joined t u now rows left.sound left.meta (joins_into t now transfer name u row.id sound left is known);
             goes = rest_goes t sound now row leaves;
+            purged = leave_purged t t t now row (deed.Join rows ∷ []) (All-cons (MakesNone row.id) (deed.Join rows) [] tt (All-nil (MakesNone row.id)))
+                (All-head (IsAway t (joined u rows) now) row.id [] acts.away) (no_purged t (joined u rows));
             beside = rest_beside t now row (row.id ∷ []) sound leaves.there (head row.id []);
             rest = ap (λ (v : Tables). joined v rows) (discard_rest t t now row);
           })
@@ -356,6 +434,9 @@ module _ (t : Tables) (now : ℕ) (sound : AreSound t) (at : t.meta.last ≡ now
               acted = is.0;
               put = is.1;
               goes = rest_goes t sound now from leaving;
+              purged = leave_purged t (joined t rows) t now from [] (All-nil (MakesNone from.id))
+                  (All-head (IsAway t (deed_done (joined t rows) (discard t now from)) now) from.id [] is.0.away)
+                  (no_purged t (deed_done (joined t rows) (discard t now from)));
               beside = rest_beside t now from (from.id ∷ []) sound leaving.there (head from.id []);
               rest = discard_rest t (joined t rows) now from;
             })
@@ -386,6 +467,18 @@ module _ (t : Tables) (now : ℕ) (sound : AreSound t) (at : t.meta.last ≡ now
               acted = acts.0;
               put = acts.1;
               goes = both_go t now transfer name sound at cross row e leaves;
+              purged =
+                  (let made = deed_done (joined u rows) (discard t now from) in
+                  let away = acts.0.away in
+                  let differs : (from.id == row.id) ≡ false = ne_eqb from.id row.id (λ same_id.
+                  both_ways (is_under t.nodes from.id row.id) out
+                  (subst (λ (n : ℕ). is_under t.nodes from.id n ≡ true) same_id (climb_under 0 t.nodes from.id from.id (omega arith) refl))) in
+                  leave_purged t t t now row (deed.Join rows ∷ discard t now from ∷ [])
+                  (All-cons (MakesNone row.id) (deed.Join rows) (discard t now from ∷ []) tt
+                  (All-cons (MakesNone row.id) (discard t now from) [] (leave_none t now row.id from differs) (All-nil (MakesNone row.id))))
+                  (All-head (IsAway t made now) row.id [] (All-tail (IsAway t made now) from.id (row.id ∷ []) away))
+                  (leave_purged t (joined u rows) t now from [] (All-nil (MakesNone from.id))
+                  (All-head (IsAway t made now) from.id (row.id ∷ []) away) (no_purged t made)));
               beside = All-append (IsBeside t (from.id ∷ row.id ∷ [])) (rest_of t now row) (rest_of t now from)
                   (rest_beside t now row (from.id ∷ row.id ∷ []) sound leaves.there (1, omega arith, refl))
                   (rest_beside t now from (from.id ∷ row.id ∷ []) sound leaving.there (head from.id (row.id ∷ [])));
@@ -393,6 +486,7 @@ module _ (t : Tables) (now : ℕ) (sound : AreSound t) (at : t.meta.last ≡ now
                   ∙ ap (λ (v : Tables). record (joined v rows) {
                     nodes = (deed_done (joined u rows) (discard t now from)).nodes;
                     shares = (deed_done (joined u rows) (discard t now from)).shares;
+                    versions = (deed_done (joined u rows) (discard t now from)).versions;
                     items = (deed_done (joined u rows) (discard t now from)).items;
                   }) (discard_rest t t now row);
             })

@@ -81,14 +81,14 @@ module _ (P : List Piece → Type 0) where
         chunks = All-nil (λ (row : ChunkRow). P row.content);
       }))
 
-  -- ---- tables whose versions and chunks aren't others
+  -- ---- tables whose chunks aren't others
 
-  pub others_have : (t made : Tables) → made.versions ≡ t.versions → made.chunks ≡ t.chunks → EachHas t
-      → All (λ (row : NodeRow). P row.content) made.nodes → All P (contents_of made)
-  others_have t made versions chunks each nodes =
+  pub others_have : (t made : Tables) → made.chunks ≡ t.chunks → EachHas t → All (λ (row : NodeRow). P row.content) made.nodes
+      → All (λ (row : VersionRow). P row.content) made.versions → All P (contents_of made)
+  others_have t made chunks each nodes versions =
       all_have made (record {
         nodes = nodes;
-        versions = subst (All (λ (row : VersionRow). P row.content)) (sym versions) each.versions;
+        versions = versions;
         chunks = subst (All (λ (row : ChunkRow). P row.content)) (sym chunks) each.chunks;
       })
 

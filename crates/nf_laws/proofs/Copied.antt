@@ -16,6 +16,7 @@ use Rattle.nf_base.specs.declared.rows.Place.TheVariants.{Inside}
 use Rattle.nf_defs.specs.Prelude.{child_of, climb, content_of, depth, is_folder, is_folder_kind, is_in, is_place_in, node_row, owner_of, piece_count, Tables, walk_of, walk_within}
 use Rattle.nf_laws.proofs.Added.{new_apart}
 use Rattle.nf_laws.proofs.Climbs.{node_row_each, parent_at}
+use Rattle.nf_laws.proofs.Files.{files_kept}
 use Rattle.nf_laws.proofs.Others.{all_off, IsOff, kept_present, new_off, others_still, root_row, Still, trash_kept, was_same, WasThere}
 use Rattle.nf_laws.proofs.Paths.{child_there}
 use Rattle.nf_laws.proofs.Rows.{child_folder, climb_kept, counters_up, folder_kept, folder_there, kept_joined, node_kept, parent_there, pieces_kept, root_kept, row_is, row_joined, stamp, top_kept}
@@ -308,6 +309,7 @@ module _ (t : Tables) (now : ℕ) (transfer : Transfer) (name : List ℕ) (rows 
     of_mounts = λ k d within. left_was (get_or t.mounts k d).node (sound.others.mounts k d within).node;
     present = kept_present t made.nodes sound (kept_joined t.nodes rows);
     off = All-append (IsOff t) t.nodes rows (all_off t sound) copies_off;
+    files = files_kept t made.nodes sound (kept_joined t.nodes rows);
     trashed = trash_kept t.nodes made.nodes (kept_joined t.nodes rows);
   }
 

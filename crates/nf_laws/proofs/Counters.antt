@@ -31,6 +31,7 @@ deed_up first now u (deed.Purge node) h = h
 deed_up first now u (deed.Restore node folder name) h = h
 deed_up first now u (deed.Relink node folder name) h = h
 deed_up first now u (deed.Requote row) h = h
+deed_up first now u (deed.Forget node at) h = h
 
 altered_up : (t : Tables) (now : ℕ) (act : Allowed) → AreHigher t.meta (stamp (altered t now act) now).meta
 altered_up t now (allowed.Change changes blob report) = raised_higher t now changes blob

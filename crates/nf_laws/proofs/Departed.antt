@@ -1,7 +1,7 @@
 -- What left its place in a step, and what goes for good beside it, row by row.
-use Rattle.std.proofs.Common.{◌≡◌, ◌≤◌, ℕ, length, length-append, List, ◌∷◌, ◌++◌, get_or, inl, inr, sym, ap, subst, ◌∙◌, arith}
+use Rattle.std.proofs.Common.{◌≡◌, ◌≤◌, ℕ, length, length-append, List, ◌∷◌, ◌++◌, get_or, inl, inr, sym, ap, subst, ◌∙◌, arith, flat_map}
 use Rattle.std.specs.List.{All, Contains}
-use Rattle.std.proofs.lemmas.List.Elements.{All-contains, All-contains_itself, All-weaker}
+use Rattle.std.proofs.lemmas.List.Elements.{All-contains, All-contains_itself, All-weaker, All-append}
 use Rattle.nf_base.specs.declared.rows.MetaRow.{MetaRow}
 use Rattle.nf_base.specs.declared.rows.ShareRow.{ShareRow}
 use Rattle.nf_defs.specs.Prelude.{node_row, Tables}
@@ -17,10 +17,10 @@ use Rattle.nf_laws.proofs.Rows.{stamp, stamped_some}
 use Rattle.nf_laws.proofs.Sources.{under_given}
 use Rattle.nf_laws.proofs.Trashed.{item_top}
 use Rattle.nf_laws.proofs.Upwards.{climbed}
-use Rattle.nf_laws.specs.Acts.{AreEnded, HaveLeft, IsUnderOne}
+use Rattle.nf_laws.specs.Acts.{AreEnded, HaveLeft, IsUnderOne, IsGoneWith}
 use Rattle.nf_laws.specs.Tree.{Under}
 use Rattle.nf_words.proofs.Known.{IsItem}
-use Rattle.nf_words.specs.Prelude.{AreSound, changed, deed_done, deeds_done, LeadsToRoot, purges, told_deed, told_deeds}
+use Rattle.nf_words.specs.Prelude.{AreSound, changed, deed_done, deeds_done, LeadsToRoot, purges, told_deed, told_deeds, purged_by}
 use Rattle.nf_words.specs.declared.answer.Allowed.TheVariants as allowed
 use Rattle.nf_words.specs.declared.answer.Deed.{Deed}
 use Rattle.nf_words.specs.declared.answer.Deed.TheVariants as deed
@@ -83,14 +83,20 @@ module _ (t : Tables) (now : ℕ) (deeds : List Deed) (leave : List ℕ) (IsPut 
         (are_ended acted.goes (IsUnderOne t.nodes leave) t.shares acted.passes acted.fails);
   }
 
+  -- all that goes for good is gone
+  pub all_gone : All (IsGoneWith t.nodes after.nodes) (flat_map purged_by (kind.one ∷ kind.more) ++ kind.gone)
+  all_gone =
+      All-append (IsGoneWith t.nodes after.nodes) (flat_map purged_by (kind.one ∷ kind.more)) kind.gone
+      (λ k d within node under. purge.no_nodes node (kind.purged k d within node under)) have_left.gone
+
   pub others_after : (node : ℕ) → (IsPut node → ⊥) → (IsUnderOne t.nodes leave node → ⊥) → (IsUnderOne t.nodes kind.gone node → ⊥)
       → node_row after.nodes node ≡ node_row t.nodes node
   others_after node put off other = row_then node other ∙ acted.others node put off
 
-  pub rest_after : after ≡ record t { meta = meta; nodes = after.nodes; shares = after.shares; items = after.items }
+  pub rest_after : after ≡ record t { meta = meta; nodes = after.nodes; shares = after.shares; versions = after.versions; items = after.items }
   rest_after =
       purged_rest u kind.gone
-      ∙ ap (λ (v : Tables). record v { nodes = after.nodes; shares = after.shares; items = after.items }) kind.rest
+      ∙ ap (λ (v : Tables). record v { nodes = after.nodes; shares = after.shares; versions = after.versions; items = after.items }) kind.rest
 
   -- what is present is under none of what goes
   pub present_after : (node : ℕ) → LeadsToRoot t.nodes node → node_row after.nodes node ≡ node_row u.nodes node
@@ -129,14 +135,16 @@ unstamped t after moment now leave tops h = record {
     })
     away top (inr gone) = inr gone
 
--- the tables after a step with such deeds, whose moment is late enough
-pub kind_changed : (t : Tables) (now : ℕ) (deeds : List Deed) (leave : List ℕ) (IsPut : ℕ → Type 0) (Put : Tables → Type 0) (meta : MetaRow)
-    (report : Report) → AreSound t → t.meta.last ≤ now → (kind : Kind (stamp t now) now deeds leave IsPut Put meta)
-    → changed t now (allowed.Deeds deeds report)
-    ≡ deeds_done (deeds_done (stamp t now) (kind.one ∷ kind.more)) (purges kind.gone)
-kind_changed t now deeds leave IsPut Put meta report sound later kind =
-    stamped_some t (deeds_done t deeds) now (told_deeds t deeds) some ∙ sym (deeds_stamped t now deeds)
-    ∙ ap (deeds_done (stamp t now)) kind.are ∙ deeds_append (stamp t now) (kind.one ∷ kind.more) (purges kind.gone)
+-- something is told of such deeds
+pub kind_some : (t : Tables) (now : ℕ) (deeds : List Deed) (leave : List ℕ) (IsPut : ℕ → Type 0) (Put : Tables → Type 0) (meta : MetaRow)
+    → (kind : Kind (stamp t now) now deeds leave IsPut Put meta) → 1 ≤ length (told_deeds t deeds)
+kind_some t now deeds leave IsPut Put meta kind =
+    subst (λ (deeds : List Deed). 1 ≤ length (told_deeds t deeds)) (sym kind.are)
+    (omega (
+      arith,
+      length-append (told_deed t kind.one) (told_deeds (deed_done t kind.one) (kind.more ++ purges kind.gone)),
+      told_at kind.one (deed_told (stamp t now) now kind.one kind.fit),
+    ))
   where
     -- at whatever moment
     told_at : (one : Deed) → 1 ≤ length (told_deed (stamp t now) one) → 1 ≤ length (told_deed t one)
@@ -146,12 +154,13 @@ kind_changed t now deeds leave IsPut Put meta report sound later kind =
     told_at (deed.Relink node folder name) some = some
     told_at (deed.Join rows) some = some
     told_at (deed.Requote row) some = some
+    told_at (deed.Forget node at) some = some
 
-    some : 1 ≤ length (told_deeds t deeds)
-    some =
-        subst (λ (deeds : List Deed). 1 ≤ length (told_deeds t deeds)) (sym kind.are)
-        (omega (
-          arith,
-          length-append (told_deed t kind.one) (told_deeds (deed_done t kind.one) (kind.more ++ purges kind.gone)),
-          told_at kind.one (deed_told (stamp t now) now kind.one kind.fit),
-        ))
+-- the tables after a step with such deeds, whose moment is late enough
+pub kind_changed : (t : Tables) (now : ℕ) (deeds : List Deed) (leave : List ℕ) (IsPut : ℕ → Type 0) (Put : Tables → Type 0) (meta : MetaRow)
+    (report : Report) → AreSound t → t.meta.last ≤ now → (kind : Kind (stamp t now) now deeds leave IsPut Put meta)
+    → changed t now (allowed.Deeds deeds report)
+    ≡ deeds_done (deeds_done (stamp t now) (kind.one ∷ kind.more)) (purges kind.gone)
+kind_changed t now deeds leave IsPut Put meta report sound later kind =
+    stamped_some t (deeds_done t deeds) now (told_deeds t deeds) (kind_some t now deeds leave IsPut Put meta kind) ∙ sym (deeds_stamped t now deeds)
+    ∙ ap (deeds_done (stamp t now)) kind.are ∙ deeds_append (stamp t now) (kind.one ∷ kind.more) (purges kind.gone)

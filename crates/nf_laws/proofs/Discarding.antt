@@ -1,5 +1,5 @@
 -- That a step with a deed tells something, whose the items are that go for good, and what they leave as it was.
-use Rattle.std.proofs.Common.{ℕ, ◌==◌, ◌≡◌, ◌≢◌, ◌≤◌, not, List, ◌∷◌, get_or, length, length-append, map, refl, sym, ap, ◌∙◌, arith}
+use Rattle.std.proofs.Common.{ℕ, ◌==◌, ◌≡◌, ◌≢◌, ◌≤◌, not, List, ◌∷◌, get_or, length, length-append, map, refl, sym, ap, ◌∙◌, arith, ◌++◌}
 use Rattle.std.specs.Prelude.{is_some}
 use Rattle.std.specs.List.{All, Contains}
 use Rattle.std.specs.Option.{option_and_then}
@@ -23,7 +23,7 @@ use Rattle.nf_laws.specs.Tree.{Under}
 use Rattle.nf_words.proofs.Known.{IsItem}
 use Rattle.nf_words.proofs.Trashing.{gone_has, of_user}
 use Rattle.nf_words.specs.Others.{IsItemSound}
-use Rattle.nf_words.specs.Prelude.{AreSound, closed_under, deed_done, dropped_under, gone_beside, gone_under, items_but, items_of, quota_of, told_deed, told_deeds, told_item, told_node}
+use Rattle.nf_words.specs.Prelude.{AreSound, closed_under, deed_done, dropped_under, gone_beside, gone_under, items_but, items_of, quota_of, told_deed, told_deeds, told_item, told_node, forgotten_under}
 use Rattle.nf_words.specs.declared.answer.Deed.{Deed}
 use Rattle.nf_words.specs.declared.answer.Deed.TheVariants as deed
 
@@ -47,7 +47,12 @@ deed_told t now (deed.Discard item) fit =
       length-append (told_node (node_row t.nodes item.node) trashed) (Put (rows.Item item) ∷ closed_under t.nodes t.shares item.node),
     )
 deed_told t now (deed.Purge node) fit =
-    omega (arith, length-append (gone_under t.nodes t.shares node) (told_item t node), some_told t node)
+    omega (
+      arith,
+      length-append (forgotten_under t.nodes t.versions node) (gone_under t.nodes t.shares node ++ told_item t node),
+      length-append (gone_under t.nodes t.shares node) (told_item t node),
+      some_told t node,
+    )
 deed_told t now (deed.Restore node folder name) fit = omega arith
 deed_told t now (deed.Relink node folder name) fit = rw fit.1.there (omega arith)
 deed_told t now (deed.Join copies) fit =
@@ -58,6 +63,7 @@ deed_told t now (deed.Join copies) fit =
       (climbs_walk 0 t.nodes fit.transfer.node fit.transfer.node (omega arith) refl).1,
     )
 deed_told t now (deed.Requote row) fit = omega arith
+deed_told t now (deed.Forget node at) fit = omega arith
 
 pub deeds_told : (t : Tables) (now : ℕ) (one : Deed) (deeds : List Deed) → Fit t now one → 1 ≤ length (told_deeds t (one ∷ deeds))
 deeds_told t now one deeds fit =

@@ -3,6 +3,11 @@ use Rattle.std.proofs.Common.{ℕ, ◌==◌, ◌≡◌, ◌≤◌, not, List, Op
 use Rattle.std.specs.List.{All}
 use Rattle.std.specs.Option.{IfSome}
 use Rattle.std.proofs.lemmas.List.Elements.{All-filter, All-push}
+use Rattle.nf_base.specs.declared.changes.Change.{Change}
+use Rattle.nf_base.specs.declared.changes.Change.TheVariants.{Drop, Put}
+use Rattle.nf_base.specs.declared.changes.RowKey.TheVariants as keys
+use Rattle.nf_base.specs.declared.rows.Row.TheVariants as rows
+use Rattle.nf_words.proofs.Fits.{IsTurned}
 use Rattle.nf_defs.specs.Prelude.{made, Tables}
 use Rattle.nf_laws.proofs.InTurn.{deeds_have, deeds_keep, Fit}
 use Rattle.nf_laws.proofs.Lists.{changes_have, with_born, with_filled, with_remounted, with_share}
@@ -12,7 +17,7 @@ use Rattle.nf_laws.proofs.Peopled.{people_alone, with_rooted}
 use Rattle.nf_laws.proofs.Rows.{stamp, stamped_has}
 use Rattle.nf_laws.specs.Wholes.{blob_under}
 use Rattle.nf_words.proofs.Ends.{known_change}
-use Rattle.nf_words.proofs.Known.{Known, KnownDeeds}
+use Rattle.nf_words.proofs.Known.{Known, KnownSettled}
 use Rattle.nf_words.specs.Prelude.{after, after_mark, altered, AreSound, blob_by, blob_of, changed, decided, decision_of, deed_done, deeds_done, goal_of, hold_of, IsSound, MayCome, State, step, ticket_for, told, with_goal, without}
 use Rattle.nf_words.specs.declared.answer.Allowed.{Allowed}
 use Rattle.nf_words.specs.declared.answer.Allowed.TheVariants as allowed
@@ -76,7 +81,7 @@ step_changed s seat now event act =
     (λ other decides is. let same : other ≡ act = cc in ap (changed s.tables now) same)
 
 -- what the tables have before known deeds, and each deed keeps where it is done, they have after them
-pub deeds_known_have : (P : Tables → Type 0) (t : Tables) (now : ℕ) (deeds : List Deed) → AreSound t → t.meta.last ≤ now → KnownDeeds t now deeds
+pub deeds_known_have : (P : Tables → Type 0) (t : Tables) (now : ℕ) (deeds : List Deed) → AreSound t → t.meta.last ≤ now → KnownSettled t now deeds
     → ((u : Tables) (one : Deed) → AreSound u → u.meta.last ≡ now → Fit u now one → P u → P (deed_done u one))
     → P (stamp t now) → P (stamp (deeds_done t deeds) now)
 deeds_known_have P t now deeds sound later known keeps has =
@@ -115,6 +120,7 @@ RestKept t u =
       nodes = u.nodes;
       shares = u.shares;
       mounts = u.mounts;
+      versions = u.versions;
       items = u.items;
     }
 
@@ -126,6 +132,13 @@ rest_done t u (deed.Restore node folder name) same = ap (λ (v : Tables). deed_d
 rest_done t u (deed.Relink node folder name) same = ap (λ (v : Tables). deed_done v (deed.Relink node folder name)) same
 rest_done t u (deed.Join rows) same = ap (λ (v : Tables). deed_done v (deed.Join rows)) same
 rest_done t u (deed.Requote row) same = ap (λ (v : Tables). deed_done v (deed.Requote row)) same
+rest_done t u (deed.Forget node at) same = ap (λ (v : Tables). deed_done v (deed.Forget node at)) same
+
+-- nor does what becomes of versions
+rest_turned : (t u : Tables) (change : Change) → RestKept t u → IsTurned t u change → RestKept t (made u change)
+rest_turned t u (Put (rows.Version row)) same known = ap (λ (v : Tables). made v (Put (rows.Version row))) same
+rest_turned t u (Drop (keys.Version node at)) same known = ap (λ (v : Tables). made v (Drop (keys.Version node at))) same
+rest_turned t u change same known = absurd known
 
 -- nor does any act
 pub rest_kept : (t : Tables) (now : ℕ) (act : Allowed) → AreSound t → Known t now act
@@ -138,6 +151,7 @@ rest_kept t now (allowed.Change changes blob report) sound known =
     let by = made u change in
     subst (RestKept t) (sym (people_alone u change it))
     (ap (λ (v : Tables). record v { users = by.users; tokens = by.tokens; groups = by.groups; members = by.members }) same))
+    (λ u change same it. rest_turned t u change same it)
     (λ u row root same it. ap (λ (v : Tables). with_rooted v row root) same) refl
 rest_kept t now (allowed.Deeds deeds report) sound known = deeds_keep (RestKept t) (rest_done t) t deeds refl
 rest_kept t now allowed.Close sound known = refl

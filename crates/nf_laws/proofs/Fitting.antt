@@ -1,5 +1,5 @@
 -- What fits what is needed: what becomes of nodes, shares, mounts and items, but by what is asked about users, groups and the trash.
-use Rattle.std.proofs.Common.{ℕ, ◌==◌, ◌≡◌, ◌≢◌, ◌⊎◌, ◌≤◌, suc, Bool, true, false, not, List, [], ◌∷◌, ◌++◌, Option, None, Some, option_map, if◌then◌else◌, map, inl, inr, refl, sym, ap, subst, ◌∙◌, arith}
+use Rattle.std.proofs.Common.{ℕ, ◌==◌, ◌≡◌, ◌≢◌, ◌⊎◌, ◌≤◌, suc, Bool, true, false, not, List, [], ◌∷◌, ◌++◌, Option, None, Some, option_map, if◌then◌else◌, map, inl, inr, refl, sym, ap, subst, ◌∙◌, arith, length, flat_map, ◌+◌}
 use Rattle.std.specs.Prelude.{is_some}
 use Rattle.std.specs.List.{All}
 use Rattle.std.specs.Option.{option_and_then, option_map_or, option_or}
@@ -7,6 +7,7 @@ use Rattle.std.specs.declared.cmp.Ordering.{Ordering}
 use Rattle.std.specs.declared.cmp.Ordering.TheVariants.{Equal, Less}
 use Rattle.std.proofs.lemmas.Bool.{both_ways, cases_Bool, cases_lt, cond_both, eq-eqb, eqb-true, false≢true}
 use Rattle.std.proofs.lemmas.Cmp.{tied_itself}
+use Rattle.std.proofs.lemmas.List.{append_assoc, append-nil}
 use Rattle.std.proofs.lemmas.List.Elements.{All-cons, All-contains, All-head, All-nil, All-tail, Contains-append_right}
 use Rattle.std.proofs.lemmas.Option.{none-some, same_Some}
 use Rattle.nf_access.specs.Mounts.{is_mount_of, mount_at, mount_row}
@@ -20,7 +21,7 @@ use Rattle.nf_base.specs.declared.rows.NodeKind.TheVariants.{File, Folder}
 use Rattle.nf_base.specs.declared.rows.NodeRow.{NodeRow}
 use Rattle.nf_base.specs.declared.rows.Place.{Place}
 use Rattle.nf_defs.proofs.Puts.{below_rest, key_total, tail_rising, turned}
-use Rattle.nf_defs.specs.Prelude.{by_order, child_of, content_of, is_folder, is_under, IsRising, key_cmp, mount_key, node_row, owner_of, parent_of, put, relinked, Tables}
+use Rattle.nf_defs.specs.Prelude.{by_order, child_of, content_of, is_folder, is_under, IsRising, key_cmp, mount_key, node_row, owner_of, parent_of, put, relinked, Tables, put_all}
 use Rattle.nf_defs.specs.declared.Found.{Found}
 use Rattle.nf_defs.specs.declared.Found.TheVariants.{At, Free, Missing}
 use Rattle.nf_defs.specs.declared.Seeker.{Seeker}
@@ -28,7 +29,7 @@ use Rattle.nf_laws.proofs.Acting.{added_rows}
 use Rattle.nf_laws.proofs.Acted.{IsNew, NoNode}
 use Rattle.nf_laws.proofs.Asking.{asks_share, OneShare}
 use Rattle.nf_laws.proofs.Carried.{AreJoined, copying_kind, crossing_kind, IsRelinked, Kind, leaving_kind, meta_with, moving_kind}
-use Rattle.nf_laws.proofs.Following.{AllFollow, added_follow, copy_follows, kept_shares, refilled_follow, shares_gone}
+use Rattle.nf_laws.proofs.Following.{AllFollow, added_follow, copy_follows, kept_shares, filled_follow, shares_gone}
 use Rattle.nf_laws.proofs.InTurn.{deeds_append}
 use Rattle.nf_laws.proofs.Leaving.{acted_follow, acted_items, acted_shares, IsBesideOne, same_items}
 use Rattle.nf_laws.proofs.Mirrored.{mirrored}
@@ -36,7 +37,7 @@ use Rattle.nf_laws.proofs.Others.{stamp_sound}
 use Rattle.nf_laws.proofs.Parts.{deeds_stamped}
 use Rattle.nf_laws.proofs.Parts.{copies_stamped, leaving_stamped, transfer_stamped}
 use Rattle.nf_laws.proofs.Reaching.{way_mount}
-use Rattle.nf_laws.proofs.Remaining.{added_present, gone_present, KeepsPresent, refilled_present}
+use Rattle.nf_laws.proofs.Remaining.{added_present, gone_present, KeepsPresent, filled_present}
 use Rattle.nf_laws.proofs.Rows.{found_is, inside_folder, parent_there, row_id, stamp, stamped_has}
 use Rattle.nf_laws.proofs.Upwards.{climbs_is_under}
 use Rattle.nf_laws.specs.Acts.{IsAdded, IsPut, IsRefilled}
@@ -49,8 +50,8 @@ use Rattle.nf_words.proofs.Mounting.{mounts_differ, own_known, same_key, shown_m
 use Rattle.nf_words.proofs.Starts.{IsAsking, itself_seeks}
 use Rattle.nf_words.proofs.Transfers.{copies_known, no_mount, no_starts, transfer_known, transfer_parts}
 use Rattle.nf_words.proofs.Ways.{free_no_mount, slot_known}
-use Rattle.nf_words.specs.Needed.{source_act, target_needs}
-use Rattle.nf_words.specs.Prelude.{access_of, AreSound, asked_of, asker_of, by_of, beside, Call, carry_limit, changed, copied, copies, copies_to, copy_limit, crosses, crossing, deeds_done, deepest_in, deleted, discard, fault_of_ask, folder_at, found, given, is_itself, is_one, is_start, is_within, last_name, LeadsToRoot, left_row, limited, listing_of, made_folder, made_or_done, mount_for, mount_left, mount_of, mount_renamed, mounted, move_limit, moved, moves, named_row, Need, needed, needed_by, needs, needs_at, needs_between, needs_in, node_at, node_found, own_mount, purges, root_of, row_at, seeker_of, served, shared, stored, told, transfer_of, unfit_between, unreached, Way, way_by, way_of, with_mount_row}
+use Rattle.nf_words.specs.Needed.{source_act, target_needs, act_asked, node_asked}
+use Rattle.nf_words.specs.Prelude.{access_of, AreSound, asked_of, asker_of, by_of, beside, Call, carry_limit, changed, copied, copies, copies_to, copy_limit, crosses, crossing, deeds_done, deepest_in, deleted, discard, fault_of_ask, folder_at, found, given, is_itself, is_one, is_start, is_within, last_name, LeadsToRoot, left_row, limited, listing_of, made_folder, made_or_done, mount_for, mount_left, mount_of, mount_renamed, mounted, move_limit, moved, moves, named_row, Need, needed, needed_by, needs, needs_at, needs_between, needs_in, node_at, node_found, own_mount, purges, root_of, row_at, seeker_of, served, shared, stored, told, transfer_of, unfit_between, unreached, Way, way_by, way_of, with_mount_row, forgets, brought_back, refills, settled_by, charged_for, copies_settled, unsettled, purged_by, version_done, version_row, nothing_done}
 use Rattle.nf_words.specs.declared.answer.Allowed.TheVariants as allowed
 use Rattle.nf_words.specs.declared.answer.By.{By}
 use Rattle.nf_words.specs.declared.answer.Deed.{Deed}
@@ -65,15 +66,29 @@ use Rattle.nf_words.specs.declared.request.Spot.{Spot}
 use Rattle.nf_words.specs.declared.request.Transfer.{Transfer}
 use Rattle.nf_words.specs.declared.request.Wanted.{Wanted}
 use Rattle.nf_words.specs.declared.request.Wanted.TheVariants.{Get, Put, Mkcol, Delete, Move, Copy, People, Share, Trash}
+use Rattle.nf_words.specs.declared.request.Wanted.TheVariants as want
+use Rattle.nf_retention.specs.declared.versions.Version.{Version}
+use Rattle.nf_base.specs.declared.rows.VersionRow.{VersionRow}
+use Rattle.nf_laws.proofs.Refilled.{IsFilledAt, filled_at, changed_rest, nodes_filled, refills_made}
+use Rattle.nf_words.specs.declared.answer.Allowed.{Allowed}
+use Rattle.nf_words.specs.declared.request.VersionAsk.{VersionAsk}
+use Rattle.nf_words.specs.declared.request.VersionAsk.TheVariants as version
 
 -- ---- what fits
 
--- but for the meta row, nodes, shares, mounts and items all is as it was
+-- but for the meta row, nodes, shares, mounts, versions and items all is as it was
 abbrev pub KeepsRest : Tables → Tables → Type 0
-KeepsRest t made = made ≡ record t { meta = made.meta; nodes = made.nodes; shares = made.shares; mounts = made.mounts; items = made.items }
+KeepsRest t made = made ≡ record t {
+  meta = made.meta;
+  nodes = made.nodes;
+  shares = made.shares;
+  mounts = made.mounts;
+  versions = made.versions;
+  items = made.items;
+}
 
 -- between, what became of each node and item whose row is another follows from what is needed. Just the shares end of nodes that aren't
--- present any more, and mounts are as they were, or both are as something else has it. Then items go, of the owners of what is deleted
+-- present any more, and mounts are as they were, or both are as something else has it. Then items go, of the owners of what is deleted, and versions
 pub record Fits (t : Tables) (now : ℕ) (needs : List Need) (Other : Tables → Type 0) (made : Tables) : Type 0 where
   pub between : Tables
   pub follow : AllFollow needs t.nodes between.nodes
@@ -82,7 +97,8 @@ pub record Fits (t : Tables) (now : ℕ) (needs : List Need) (Other : Tables →
   pub rest : KeepsRest t between
   pub gone : List ℕ
   pub beside : All (IsBesideOne t needs) gone
-  pub made_is : made ≡ deeds_done between (purges gone)
+  pub versions : List Version
+  pub made_is : made ≡ deeds_done between (purges gone ++ forgets versions)
 
 -- ---- where nothing leaves its place
 
@@ -92,7 +108,7 @@ record FitsAlone (t : Tables) (needs : List Need) (Other : Tables → Type 0) (m
   follow : AllFollow needs t.nodes made.nodes
   present : KeepsPresent t.nodes made.nodes
   others : ((made.shares ≡ shares_gone t.nodes made.nodes t.shares) × (made.mounts ≡ t.mounts)) ⊎ Other made
-  rest : made ≡ record t { meta = made.meta; nodes = made.nodes; shares = made.shares; mounts = made.mounts }
+  rest : made ≡ record t { meta = made.meta; nodes = made.nodes; shares = made.shares; mounts = made.mounts; versions = made.versions }
 
 alone_fits : (t made : Tables) (now : ℕ) (needs : List Need) (Other : Tables → Type 0) → AreSound t → FitsAlone t needs Other made
     → Fits t now needs Other made
@@ -107,6 +123,7 @@ alone_fits t made now needs Other sound alone = record {
   rest = subst (KeepsRest t) (sym alone.rest) refl;
   gone = [];
   beside = All-nil (IsBesideOne t needs);
+  versions = [];
   made_is = refl;
 }
 
@@ -131,7 +148,7 @@ added_fits t made now folder name kind content needs Other sound is needed =
       follow = added_follow t made now folder name kind content needs is needed;
       present = added_present t made now folder name kind content sound is;
       others = inl (ap (λ (u : Tables). u.shares) is.rest ∙ kept_shares t.nodes made.nodes t.shares stay, ap (λ (u : Tables). u.mounts) is.rest);
-      rest = subst (λ (u : Tables). u ≡ record t { meta = u.meta; nodes = u.nodes; shares = u.shares; mounts = u.mounts }) (sym is.rest) refl;
+      rest = subst (λ (u : Tables). u ≡ record t { meta = u.meta; nodes = u.nodes; shares = u.shares; mounts = u.mounts; versions = u.versions }) (sym is.rest) refl;
     })
   where
     stay : (node : ℕ) → is_some (node_row t.nodes node) ≡ true → is_some (node_row made.nodes node) ≡ true
@@ -141,22 +158,52 @@ added_fits t made now folder name kind content needs Other sound is needed =
           | inr other ↦ ap is_some (is.others node (λ e. both_ways (node == t.meta.next_node) other (eq-eqb node t.meta.next_node e))) ∙ there
         ]
 
+-- where a file is filled
+filled_fits : (t : Tables) (nodes : List NodeRow) (meta : MetaRow) (versions : List VersionRow) (now node : ℕ) (content : List Piece) (needs : List Need)
+    (Other : Tables → Type 0) → AreSound t → IsFilledAt t.nodes nodes now node content → IsNeeded needs act.Update node
+    → Fits t now needs Other (record t { meta = meta; nodes = nodes; versions = versions })
+filled_fits t nodes meta versions now node content needs Other sound is needed =
+    alone_fits t (record t { meta = meta; nodes = nodes; versions = versions }) now needs Other sound (record {
+      follow = filled_follow t.nodes nodes now node content needs is needed;
+      present = filled_present t.nodes nodes now node content is;
+      others = inl (kept_shares t.nodes nodes t.shares stay, refl);
+      rest = refl;
+    })
+  where
+    stay : (other : ℕ) → is_some (node_row t.nodes other) ≡ true → is_some (node_row nodes other) ≡ true
+    stay other there =
+        elim (cases_Bool (other == node)) [
+          | inl same ↦ ap is_some (ap (node_row nodes) (eqb-true other node same) ∙ is.itself)
+          | inr differs ↦ ap is_some (is.others other (λ e. both_ways (other == node) differs (eq-eqb other node e))) ∙ there
+        ]
+
 refilled_fits : (t made : Tables) (now node : ℕ) (content : List Piece) (needs : List Need) (Other : Tables → Type 0) → AreSound t
     → IsRefilled t made now node content → IsNeeded needs act.Update node → Fits t now needs Other made
 refilled_fits t made now node content needs Other sound is needed =
-    alone_fits t made now needs Other sound (record {
-      follow = refilled_follow t made now node content needs is needed;
-      present = refilled_present t made now node content is;
-      others = inl (ap (λ (u : Tables). u.shares) is.rest ∙ kept_shares t.nodes made.nodes t.shares stay, ap (λ (u : Tables). u.mounts) is.rest);
-      rest = subst (λ (u : Tables). u ≡ record t { meta = u.meta; nodes = u.nodes; shares = u.shares; mounts = u.mounts }) (sym is.rest) refl;
-    })
+    let meta = record t.meta { next_blob = t.meta.next_blob + length content; last = made.meta.last } in
+    subst (Fits t now needs Other) (sym is.rest)
+    (filled_fits t made.nodes meta made.versions now node content needs Other sound
+    (record { row = is.row; there = is.there; itself = is.itself; others = is.others }) needed)
+
+-- where a version is its file's content again
+back_fits : (t : Tables) (now node : ℕ) (version : VersionRow) (needs : List Need) (Other : Tables → Type 0) → AreSound t
+    → IsNeeded needs act.Update node → Fits t now needs Other (changed t now (brought_back t now node version))
+back_fits t now node version needs Other sound needed = here (node_row t.nodes node) refl
   where
-    stay : (other : ℕ) → is_some (node_row t.nodes other) ≡ true → is_some (node_row made.nodes other) ≡ true
-    stay other there =
-        elim (cases_Bool (other == node)) [
-          | inl same ↦ ap is_some (ap (node_row made.nodes) (eqb-true other node same) ∙ is.itself)
-          | inr differs ↦ ap is_some (is.others other (λ e. both_ways (other == node) differs (eq-eqb other node e))) ∙ there
-        ]
+    act_of : Option NodeRow → Allowed
+    act_of o = allowed.Change (option_map_or (refills t now (Some version.at) version.content) o []) None report.Done
+
+    here : (o : Option NodeRow) → node_row t.nodes node ≡ o → Fits t now needs Other (changed t now (act_of o))
+    here None there = same_fits t now needs Other sound
+    here (Some row) there =
+        let changes = refills t now (Some version.at) version.content row in
+        let made = changed t now (act_of (Some row)) in
+        let whole : made ≡ record t { meta = made.meta; nodes = nodes_filled t now version.content row; versions = (put_all t changes).versions } =
+        changed_rest t now changes None report.Done
+        ∙ ap (λ (u : Tables). record u { meta = made.meta }) (refills_made t now (Some version.at) version.content row) in
+        subst (Fits t now needs Other) (sym whole)
+        (filled_fits t (nodes_filled t now version.content row) made.meta (put_all t changes).versions now node version.content needs Other sound
+        (filled_at t now node version.content row sound there) needed)
 
 -- ---- where nodes leave their places
 
@@ -166,14 +213,17 @@ module _ (t : Tables) (now : ℕ) (deeds : List Deed) (leave : List ℕ) (IsPut 
   abbrev acts : Tables
   acts = deeds_done (stamp t now) (kind.one ∷ kind.more)
 
-  then_goes : stamp (deeds_done t deeds) now ≡ deeds_done acts (purges kind.gone)
-  then_goes =
-      sym (deeds_stamped t now deeds) ∙ ap (deeds_done (stamp t now)) kind.are ∙ deeds_append (stamp t now) (kind.one ∷ kind.more) (purges kind.gone)
+  then_goes : (gone : List Version) → stamp (deeds_done t (deeds ++ forgets gone)) now ≡ deeds_done acts (purges kind.gone ++ forgets gone)
+  then_goes gone =
+      sym (deeds_stamped t now (deeds ++ forgets gone)) ∙ ap (λ (first : List Deed). deeds_done (stamp t now) (first ++ forgets gone)) kind.are
+      ∙ ap (deeds_done (stamp t now)) (append_assoc (kind.one ∷ kind.more) (purges kind.gone) (forgets gone))
+      ∙ deeds_append (stamp t now) (kind.one ∷ kind.more) (purges kind.gone ++ forgets gone)
 
   -- where what becomes of what is put somewhere follows from what is needed
-  kind_fits : ((node : ℕ) → (IsPut node → ⊥) ⊎ (node_row acts.nodes node ≢ node_row t.nodes node → Follows needs t.nodes acts.nodes node))
-      → Fits t now needs Other (stamp (deeds_done t deeds) now)
-  kind_fits puts =
+  kind_fits : (versions : List Version)
+      → ((node : ℕ) → (IsPut node → ⊥) ⊎ (node_row acts.nodes node ≢ node_row t.nodes node → Follows needs t.nodes acts.nodes node))
+      → Fits t now needs Other (stamp (deeds_done t (deeds ++ forgets versions)) now)
+  kind_fits versions puts =
       let fine = stamp_sound t now sound later in
       record {
         between = acts;
@@ -188,7 +238,8 @@ module _ (t : Tables) (now : ℕ) (deeds : List Deed) (leave : List ℕ) (IsPut 
         beside = λ k d within.
             let one = kind.beside k d within in
             (one.0, All-contains (IsNeeded needs act.Delete) leave one.0 needed one.1, one.2);
-        made_is = then_goes;
+        versions = versions;
+        made_is = then_goes versions;
       }
 
 -- the first of what is needed
@@ -342,10 +393,11 @@ within_owner t transfer row sound there above =
 
 -- ---- a Begin
 
--- something is asked about users, groups or the trash
+-- something is asked about users, groups, the trash or versions
 abbrev pub is_apart : Wanted → Bool
 is_apart (People asked) = true
 is_apart (Trash asked) = true
+is_apart (want.Version asked) = true
 is_apart wanted = false
 
 -- that who is there makes
@@ -412,15 +464,26 @@ module _ (call : Call) (sound : AreSound call.state.tables) (later : call.state.
   fine : AreSound dated
   fine = stamp_sound t call.now sound later
 
-  kinds_fit : (deeds : List Deed) (answered : Report) (leave : List ℕ) (IsThere : ℕ → Type 0) (Holds : Tables → Type 0) (meta : MetaRow)
+  kinds_fit : (deeds : List Deed) (gone : List Version) (answered : Report) (leave : List ℕ) (IsThere : ℕ → Type 0) (Holds : Tables → Type 0)
+      (meta : MetaRow) (asked : List Need) (kind : Kind dated call.now deeds leave IsThere Holds meta) → All (IsNeeded asked act.Delete) leave
+      → ((node : ℕ) → (IsThere node → ⊥) ⊎ (node_row (deeds_done dated (kind.one ∷ kind.more)).nodes node ≢ node_row t.nodes node
+      → Follows asked t.nodes (deeds_done dated (kind.one ∷ kind.more)).nodes node))
+      → FitsCall asked (changed t call.now (allowed.Deeds (deeds ++ forgets gone) answered))
+  kinds_fit deeds gone answered leave IsThere Holds meta asked kind deleted_so puts =
+      let all = deeds ++ forgets gone in
+      stamped_has (FitsCall asked) t (deeds_done t all) call.now (told t (allowed.Deeds all answered))
+      (same_fits t call.now asked (OneOther call) sound)
+      (kind_fits t call.now deeds leave IsThere Holds meta sound later kind asked deleted_so (OneOther call) gone puts)
+
+  -- where no version goes
+  kinds_fit_alone : (deeds : List Deed) (answered : Report) (leave : List ℕ) (IsThere : ℕ → Type 0) (Holds : Tables → Type 0) (meta : MetaRow)
       (asked : List Need) (kind : Kind dated call.now deeds leave IsThere Holds meta) → All (IsNeeded asked act.Delete) leave
       → ((node : ℕ) → (IsThere node → ⊥) ⊎ (node_row (deeds_done dated (kind.one ∷ kind.more)).nodes node ≢ node_row t.nodes node
       → Follows asked t.nodes (deeds_done dated (kind.one ∷ kind.more)).nodes node))
       → FitsCall asked (changed t call.now (allowed.Deeds deeds answered))
-  kinds_fit deeds answered leave IsThere Holds meta asked kind deleted_so puts =
-      stamped_has (FitsCall asked) t (deeds_done t deeds) call.now (told t (allowed.Deeds deeds answered))
-      (same_fits t call.now asked (OneOther call) sound)
-      (kind_fits t call.now deeds leave IsThere Holds meta sound later kind asked deleted_so (OneOther call) puts)
+  kinds_fit_alone deeds answered leave IsThere Holds meta asked kind deleted_so puts =
+      subst (λ (all : List Deed). FitsCall asked (changed t call.now (allowed.Deeds all answered))) (append-nil deeds)
+      (kinds_fit deeds [] answered leave IsThere Holds meta asked kind deleted_so puts)
 
   -- ---- MOVE and COPY
 
@@ -455,7 +518,7 @@ module _ (call : Call) (sound : AreSound call.state.tables) (later : call.state.
         → FitsCall (moved_needs b from to transfer) (changed t call.now (allowed.Deeds (moves t call.now name transfer) answered))
     moved_fits b answered within stays =
         let kind = moving_kind dated call.now fine refl transfer name (record { known = transfer_stamped t call.now transfer name known; within = stays }) in
-        kinds_fit (moves t call.now name transfer) answered (replaced_by transfer) (λ node. node ≡ transfer.node) (IsRelinked dated transfer name) dated.meta
+        kinds_fit_alone (moves t call.now name transfer) answered (replaced_by transfer) (λ node. node ≡ transfer.node) (IsRelinked dated transfer name) dated.meta
         (moved_needs b from to transfer) kind (moved_gone b) (λ node.
         elim (cases_Bool (node == transfer.node)) [
           | inl same ↦
@@ -479,8 +542,8 @@ module _ (call : Call) (sound : AreSound call.state.tables) (later : call.state.
 
   -- ---- what each may ask for
 
-  abbrev pub needed_for : Wanted → List Need
-  needed_for wanted =
+  abbrev pub asked_for : Wanted → List Need
+  asked_for wanted =
       let asked = asked_of wanted in
       needs_between t.nodes root asked (option_map (way_of call) asked.source) (option_map (way_of call) asked.target)
 
@@ -509,7 +572,7 @@ module _ (call : Call) (sound : AreSound call.state.tables) (later : call.state.
       let asked : needs_in t.nodes root way ≡ need ∷ [] = rw (free_no_mount call spot sound is folder leads, leads) refl in
       subst (λ (needs : List Need). FitsCall needs made) (sym asked)
       (added_fits t made call.now folder name Folder [] (need ∷ []) (OneOther call) sound
-      (added_rows t call.now folder name Folder [] None sound slot.folds slot.free (omega arith)) (first_needed need []))
+      (added_rows t call.now folder name Folder [] None [] report.Made sound slot.folds slot.free (omega arith)) (first_needed need []))
   made_fits spot nowhere reached leads = same_fits t call.now (needs_in t.nodes root (way_of call spot)) (OneOther call) sound
 
   -- a DELETE of a node, if it is there
@@ -528,7 +591,7 @@ module _ (call : Call) (sound : AreSound call.state.tables) (later : call.state.
       here (Some row) e =
           let known = leaving_stamped t call.now row (leaves row e) in
           let needed = subst (IsNeeded (need ∷ []) act.Delete) (sym (row_id t.nodes top row e)) (first_needed need []) in
-          kinds_fit (discard t call.now row ∷ beside t call.now row) report.Done (row.id ∷ []) NoNode (λ u. Unit {0}) dated.meta (need ∷ [])
+          kinds_fit_alone (discard t call.now row ∷ beside t call.now row) report.Done (row.id ∷ []) NoNode (λ u. Unit {0}) dated.meta (need ∷ [])
           (leaving_kind dated call.now fine refl row known)
           (All-cons (IsNeeded (need ∷ []) act.Delete) row.id [] needed (All-nil (IsNeeded (need ∷ []) act.Delete))) (λ node. inl (λ none. none))
 
@@ -566,8 +629,12 @@ module _ (call : Call) (sound : AreSound call.state.tables) (later : call.state.
     abbrev meta_then : Transfer → MetaRow
     meta_then transfer = meta_with dated call.now fine refl (copies_to t call.now transfer name)
 
+    -- the versions that go for them
+    abbrev leave_for : Transfer → List Deed → List Version
+    leave_for transfer deeds = unsettled t (charged_for t transfer) (flat_map purged_by deeds)
+
     copied_fits : (transfer : Transfer) (answered : Report) → transfer_of t.nodes places ≡ Some transfer → copy_limit t transfer ≡ None
-        → FitsCall (copied_needs from to transfer) (changed t call.now (allowed.Deeds (copies t call.now name transfer) answered))
+        → FitsCall (copied_needs from to transfer) (changed t call.now (allowed.Deeds (copies_settled t call.now name transfer) answered))
     copied_fits transfer answered e some =
         let known = copies_are transfer e some in
         let first = need_of act.Read transfer.node from in
@@ -575,14 +642,14 @@ module _ (call : Call) (sound : AreSound call.state.tables) (later : call.state.
         let going = needs act.Delete transfer.replaced to in
         let rows = copies_to t call.now transfer name in
         let kind = copying_kind dated call.now fine refl transfer name (copies_stamped t call.now transfer name known) in
-        kinds_fit (copies t call.now name transfer) answered (replaced_by transfer) (IsNew dated) (AreJoined dated rows) (meta_then transfer)
+        kinds_fit (copies t call.now name transfer) (leave_for transfer (copies t call.now name transfer)) answered (replaced_by transfer) (IsNew dated) (AreJoined dated rows) (meta_then transfer)
         (copied_needs from to transfer) kind (replaced_needed (first ∷ second ∷ []) transfer.replaced to)
         (joined_follow transfer name known.known from to (copied_needs from to transfer) (deeds_done dated (kind.one ∷ kind.more))
         (second_needed first second going) kind.put)
 
     crossed_fits : (transfer : Transfer) (answered : Report) → transfer_of t.nodes places ≡ Some transfer → crosses t.nodes transfer ≡ true
         → copy_limit t transfer ≡ None
-        → FitsCall (moved_needs false from to transfer) (changed t call.now (allowed.Deeds (crossing t call.now name transfer) answered))
+        → FitsCall (moved_needs false from to transfer) (changed t call.now (allowed.Deeds (settled_by t (charged_for t transfer) (crossing t call.now name transfer)) answered))
     crossed_fits transfer answered e across some =
         let known = copies_are transfer e some in
         let first = need_of act.Delete transfer.node from in
@@ -592,7 +659,7 @@ module _ (call : Call) (sound : AreSound call.state.tables) (later : call.state.
         let rows = copies_to t call.now transfer name in
         let kind = crossing_kind dated call.now fine refl transfer name
         (record { copies = copies_stamped t call.now transfer name known; crosses = across }) in
-        kinds_fit (crossing t call.now name transfer) answered (transfer.node ∷ replaced_by transfer) (IsNew dated) (AreJoined dated rows)
+        kinds_fit (crossing t call.now name transfer) (leave_for transfer (crossing t call.now name transfer)) answered (transfer.node ∷ replaced_by transfer) (IsNew dated) (AreJoined dated rows)
         (meta_then transfer) asked kind
         (All-cons (IsNeeded asked act.Delete) transfer.node (replaced_by transfer) (first_needed first (second ∷ going))
         (replaced_needed (first ∷ second ∷ []) transfer.replaced to))
@@ -604,9 +671,10 @@ module _ (call : Call) (sound : AreSound call.state.tables) (later : call.state.
         → is_within t.nodes root (Some (way_of call source)) (Some (way_of call target)) ≡ b → crosses t.nodes transfer ≡ across
         → (if across then copy_limit t transfer else move_limit t transfer) ≡ None
         → FitsCall (moved_needs b from to transfer)
-        (changed t call.now (allowed.Deeds (if across then crossing t call.now name transfer else moves t call.now name transfer) answered))
+        (changed t call.now (allowed.Deeds (if across then settled_by t (charged_for t transfer) (crossing t call.now name transfer)
+        else moves t call.now name transfer) answered))
     carried_fits transfer answered b false other e inside owner some =
-        let deep = (within t 0 (deepest_in t.nodes transfer.node transfer.folder) 0 0 some).deep in
+        let deep = (within t 0 (deepest_in t.nodes transfer.node transfer.folder) 0 0 0 some).deep in
         let known = transfer_known call source target sound is from_reached to_reached transfer e fits deep in
         let it = between t.nodes (found call source) (found call target) transfer e in
         moved_fits transfer name known from to b answered (λ same.
@@ -645,12 +713,12 @@ module _ (call : Call) (sound : AreSound call.state.tables) (later : call.state.
             (carried_fits transfer (made_or_done transfer.replaced) within (crosses t.nodes transfer) other e refl refl some)
 
     copies_fit : (overwrite : Bool) → option_and_then (copy_limit t) (transfer_of t.nodes places) ≡ None
-        → FitsCall (needed_for (Copy source target overwrite)) (changed t call.now (copied t call.now name (transfer_of t.nodes places)))
+        → FitsCall (asked_for (Copy source target overwrite)) (changed t call.now (copied t call.now name (transfer_of t.nodes places)))
     copies_fit overwrite some = here (transfer_of t.nodes places) refl some
       where
         here : (o : Option Transfer) → transfer_of t.nodes places ≡ o → option_and_then (copy_limit t) o ≡ None
-            → FitsCall (needed_for (Copy source target overwrite)) (changed t call.now (copied t call.now name o))
-        here None e some = same_fits t call.now (needed_for (Copy source target overwrite)) (OneOther call) sound
+            → FitsCall (asked_for (Copy source target overwrite)) (changed t call.now (copied t call.now name o))
+        here None e some = same_fits t call.now (asked_for (Copy source target overwrite)) (OneOther call) sound
         here (Some transfer) e some =
             let it = between t.nodes (found call source) (found call target) transfer e in
             subst (λ (needs : List Need). FitsCall needs (changed t call.now (copied t call.now name (Some transfer))))
@@ -685,15 +753,15 @@ module _ (call : Call) (sound : AreSound call.state.tables) (later : call.state.
           follow = λ node differs. absurd (differs (ap (λ (rows : List NodeRow). node_row rows node) one.nodes));
           present = λ node up there. subst (λ (rows : List NodeRow). LeadsToRoot rows node) (sym one.nodes) up;
           others = inr (inr one);
-          rest = one.rest;
+          rest = subst (λ (u : Tables). u ≡ record t { meta = u.meta; nodes = u.nodes; shares = u.shares; mounts = u.mounts; versions = u.versions }) (sym one.rest) refl;
         })
       ]
 
-  -- what isn't asked about users, groups and the trash
+  -- what isn't asked about users, groups, the trash and versions
   pub begin_fits : (wanted : Wanted) → call.request.wanted ≡ wanted → is_apart wanted ≡ false → WantedPasses call wanted
-      → FitsCall (needed_for wanted) (changed t call.now (given (access_of call.state) call (places_at call wanted) wanted))
-  begin_fits (Get spot) asked other p = served_fits (way_of call spot).mount (found call spot) (needed_for (Get spot))
-  begin_fits (Put spot size) asked other p = stored_fits (by_of call spot) (last_name spot) size (found call spot) (needed_for (Put spot size))
+      → FitsCall (asked_for wanted) (changed t call.now (given (access_of call.state) call (places_at call wanted) wanted))
+  begin_fits (Get spot) asked other p = served_fits (way_of call spot).mount (found call spot) (asked_for (Get spot))
+  begin_fits (Put spot size) asked other p = stored_fits (by_of call spot) (last_name spot) size (found call spot) (asked_for (Put spot size))
   begin_fits (Mkcol spot) asked other p = made_fits spot (found call spot) p.place.target refl
   begin_fits (Delete spot) asked other p =
       deletes_fit spot (way_of call spot).itself asked refl (delete_leaves call sound is spot (way_of call spot).itself p.place.source p.fits)
@@ -701,9 +769,26 @@ module _ (call : Call) (sound : AreSound call.state.tables) (later : call.state.
       move_fits source target overwrite (way_of call source).itself asked refl p.place.source p.place.target p.fits p.few
   begin_fits (Copy source target overwrite) asked other p =
       copies_fit source target (p.place.source refl) p.place.target p.fits overwrite p.few
-  begin_fits (Share asks) asked other p = asks_fit (places_at call (Share asks)) asks (needed_for (Share asks)) asked p.sharing
+  begin_fits (Share asks) asked other p = asks_fit (places_at call (Share asks)) asks (asked_for (Share asks)) asked p.sharing
   begin_fits (People asks) asked other p = absurd (false≢true (sym other))
   begin_fits (Trash asks) asked other p = absurd (false≢true (sym other))
+  begin_fits (want.Version asks) asked other p = absurd (false≢true (sym other))
+
+  -- what is asked about versions
+  pub versions_fit : (ask : VersionAsk) (needs : List Need) → IsNeeded needs (act_asked ask) (node_asked ask)
+      → FitsCall needs (changed t call.now (version_done t call.now ask))
+  versions_fit (version.List user node) needs needed = same_fits t call.now needs (OneOther call) sound
+  versions_fit (version.Get user node at) needs needed = here (version_row t.versions node at)
+    where
+      here : (o : Option VersionRow)
+          → FitsCall needs (changed t call.now (option_map_or (λ (row : VersionRow). allowed.Get node row.content) o nothing_done))
+      here None = same_fits t call.now needs (OneOther call) sound
+      here (Some row) = same_fits t call.now needs (OneOther call) sound
+  versions_fit (version.Restore user node at) needs needed = here (version_row t.versions node at)
+    where
+      here : (o : Option VersionRow) → FitsCall needs (changed t call.now (option_map_or (brought_back t call.now node) o nothing_done))
+      here None = same_fits t call.now needs (OneOther call) sound
+      here (Some row) = back_fits t call.now node row needs (OneOther call) sound needed
 
 -- ---- an End
 

@@ -11,10 +11,11 @@ use Rattle.nf_base.specs.declared.rows.ShareRow.{ShareRow}
 use Rattle.nf_defs.specs.Prelude.{folder_of, node_row, Tables}
 use Rattle.nf_laws.proofs.Regions.{none_given}
 use Rattle.nf_laws.specs.Access.{Follows, IsMadeIn, IsNeeded, in_it, in_made, is_made, is_updated}
-use Rattle.nf_laws.specs.Acts.{IsAdded, IsRefilled}
+use Rattle.nf_laws.specs.Acts.{IsAdded}
 use Rattle.nf_laws.specs.Transfers.{IsPlacedCopy, Mirrors}
 use Rattle.nf_words.specs.Prelude.{AreSound, ended_row, Need}
 use Rattle.nf_words.specs.declared.request.Transfer.{Transfer}
+use Rattle.nf_laws.proofs.Refilled.{IsFilledAt}
 
 -- what becomes of each node whose row is another
 abbrev pub AllFollow : List Need → List NodeRow → List NodeRow → Type 0
@@ -37,10 +38,10 @@ added_follow t made now folder name kind content needs is needed =
     (is_made folder needed (in_it t.meta.next_node is.fresh (rw is.itself refl)))
     (λ node other differs. absurd (differs (is.others node other)))
 
-pub refilled_follow : (t made : Tables) (now node : ℕ) (content : List Piece) (needs : List Need)
-    → IsRefilled t made now node content → IsNeeded needs Update node → AllFollow needs t.nodes made.nodes
-refilled_follow t made now node content needs is needed =
-    one_follows needs t.nodes made.nodes node
+pub filled_follow : (before after : List NodeRow) (now node : ℕ) (content : List Piece) (needs : List Need)
+    → IsFilledAt before after now node content → IsNeeded needs Update node → AllFollow needs before after
+filled_follow before after now node content needs is needed =
+    one_follows needs before after node
     (is_updated is.row (record is.row { content = content; changed = now }) needed is.there is.itself refl)
     (λ other differs changes. absurd (changes (is.others other differs)))
 

@@ -45,6 +45,18 @@ clash_stores node (Node other) Shared is = absurd (never (node == other) is)
     never false h = cc
 clash_stores node (Slot folder name) mode is = absurd (cc)
 
+-- what is read alone isn't stored over by others
+pub read_free : (call : Call) (node : ℕ) → touches call.state.tables (asked_by call) (places_of call) ≡ touch_key (Node node) Shared ∷ []
+    → locked_rule (access_of call.state) call ≡ None → IsFreeToRead call.state call.seat node
+unfolding locked_rule
+read_free call node alone passes k d within other holds =
+    let rows = call.state.tables.nodes in
+    let ticket : Ticket = get_or call.state.tickets k d in
+    let clear = subst (λ (some : List Touch). All (λ (ticket : Ticket). blocks rows call.seat some ticket ≡ false) call.state.tickets) alone
+    (none_blocks rows call.seat (touches call.state.tables (asked_by call) (places_of call)) call.state.tickets (no_key _ passes)) k d within in
+    absurd (both_ways (blocks rows call.seat (touch_key (Node node) Shared ∷ []) ticket) clear
+    (simp (ne_eqb ticket.seat call.seat other, holds, same_self (Node node)) refl))
+
 module _ (call : Call) (spot : Spot) (node : ℕ) (wanted : call.request.wanted ≡ Get spot) (at : found call spot ≡ At node) where
   abbrev rows : List NodeRow
   rows = call.state.tables.nodes
@@ -103,10 +115,4 @@ module _ (call : Call) (spot : Spot) (node : ℕ) (wanted : call.request.wanted 
           (sym (one_touch file)) (λ k d within. not_stored (get_or call.state.tickets k d) (free file k d within)))
 
   pub unlocked_free : locked_rule (access_of call.state) call ≡ None → is_folder rows node ≡ false → IsFreeToRead call.state call.seat node
-  unfolding locked_rule
-  unlocked_free passes file k d within other holds =
-      let ticket : Ticket = get_or call.state.tickets k d in
-      let clear = subst (λ (some : List Touch). All (λ (ticket : Ticket). blocks rows call.seat some ticket ≡ false) call.state.tickets) (one_touch file)
-      (none_blocks rows call.seat all call.state.tickets (no_key _ passes)) k d within in
-      absurd (both_ways (blocks rows call.seat (touch_key (Node node) Shared ∷ []) ticket) clear
-      (simp (ne_eqb ticket.seat call.seat other, holds, same_self (Node node)) refl))
+  unlocked_free passes file = read_free call node (one_touch file) passes

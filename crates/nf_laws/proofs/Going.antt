@@ -155,7 +155,12 @@ purged_before t after top tops sound apart h = record {
 
 -- and no other row of the tables is another
 pub purged_rest : (t : Tables) (tops : List ℕ)
-    → deeds_done t (purges tops) ≡ record t { nodes = (deeds_done t (purges tops)).nodes; shares = (deeds_done t (purges tops)).shares; items = (deeds_done t (purges tops)).items }
+    → deeds_done t (purges tops) ≡ record t {
+      nodes = (deeds_done t (purges tops)).nodes;
+      shares = (deeds_done t (purges tops)).shares;
+      versions = (deeds_done t (purges tops)).versions;
+      items = (deeds_done t (purges tops)).items;
+    }
 purged_rest t [] = refl
 purged_rest t (top ∷ tops) = purged_rest (purged t top) tops
 

@@ -1,5 +1,5 @@
 -- The tables without what is removed are sound.
-use Rattle.std.proofs.Common.{inl, inr, ℕ, suc, ◌==◌, ◌≡◌, ◌<◌, ◌≤◌, Bool, true, false, not, List, Option, None, Some, length, refl, sym, ap, subst, ◌∙◌, arith, le_refl}
+use Rattle.std.proofs.Common.{inl, inr, ℕ, suc, ◌==◌, ◌≡◌, ◌<◌, ◌≤◌, Bool, true, false, not, List, Option, None, Some, filter, get_or, length, refl, sym, ap, subst, ◌∙◌, arith, le_refl}
 use Rattle.std.proofs.lemmas.Bool.{both_ways, cases_Bool, false_from_ne_true, ne_eqb, not-true, not_from_false}
 use Rattle.std.proofs.lemmas.List.Elements.{All-filter, All-weaker, filter_passes}
 use Rattle.std.proofs.lemmas.List.Filters.{length-filter_both, sum_by-filter_both}
@@ -10,9 +10,15 @@ use Rattle.nf_base.specs.declared.rows.NodeRow.{NodeRow}
 use Rattle.nf_base.specs.declared.rows.Place.{Place}
 use Rattle.nf_base.specs.declared.rows.Place.TheVariants.{Inside, Root, Trash}
 use Rattle.nf_base.specs.declared.rows.UserRow.{UserRow}
+use Rattle.nf_base.specs.declared.rows.VersionRow.{VersionRow}
+use Rattle.std.specs.Prelude.{is_some}
+use Rattle.std.specs.List.{All}
+use Rattle.std.specs.Option.{option_map_or}
+use Rattle.std.specs.declared.cmp.Ordering.TheVariants.{Less}
+use Rattle.nf_words.specs.Others.{IsVersionSound}
 use Rattle.nf_defs.proofs.Climbs.{climb_under, under_climb}
-use Rattle.nf_defs.specs.Prelude.{child_of, climb, folder_of, is_root, is_root_place, is_under, node_row, parent_of, piece_count, Tables, without_under}
-use Rattle.nf_laws.proofs.Climbs.{climb_passes, climb_those, climbs_no_further, IsClosed, node_row_each, parent_at, row_of_those, those}
+use Rattle.nf_defs.specs.Prelude.{child_of, climb, folder_of, is_file, is_folder_kind, is_root, is_root_place, is_under, node_row, parent_of, piece_count, Tables, version_key, without_under, key_cmp}
+use Rattle.nf_laws.proofs.Climbs.{climb_passes, climb_those, climbs_no_further, IsClosed, node_row_each, parent_at, row_of_those, some_there, those}
 use Rattle.nf_laws.proofs.Others.{all_off, IsOff, items_left, ItemsLeft, others_ended, those_were, was_same, without}
 use Rattle.nf_laws.proofs.Paths.{child_is, child_there}
 use Rattle.nf_laws.proofs.Present.{those_leads}
@@ -58,6 +64,18 @@ module _ (t : Tables) (gone : ℕ → Bool) (items : List ItemRow) (sound : AreS
       root_still t (without t gone items) user root
       (kept_row (those (stays gone) t.nodes) user.root root.row (row_of_those (stays gone) t.nodes user.root passes ∙ root.there))
 
+  -- a version is of a node that is there
+  abbrev is_there : VersionRow → Bool
+  is_there version = is_some (node_row (those (stays gone) t.nodes) version.node)
+
+  files_left : All (λ (version : VersionRow). is_file (those (stays gone) t.nodes) version.node ≡ true) (filter is_there t.versions)
+  files_left k d within =
+      let version = get_or (filter is_there t.versions) k d in
+      let row = some_there (node_row (those (stays gone) t.nodes) version.node) (filter_passes is_there t.versions k d within) in
+      let was = those_were (stays gone) t.nodes version.node row.0 row.1 in
+      ap (λ (o : Option NodeRow). option_map_or (λ row. not (is_folder_kind row.kind)) o false) (row.1 ∙ sym was.1)
+      ∙ (All-filter is_there (IsVersionSound t) t.versions sound.others.versions k d within).file
+
   pub those_sound : ((user : UserRow) → HasRoot t user → stays gone user.root ≡ true) → AreSound (without t gone items)
   those_sound roots =
       let passes : NodeRow → Bool = λ row. stays gone row.id in
@@ -79,12 +97,16 @@ module _ (t : Tables) (gone : ℕ → Bool) (items : List ItemRow) (sound : AreS
           arith,
           sound.few_pieces,
           sum_by-filter_both passes (λ row. not (passes row)) (λ row. refl) (λ row. length row.content) t.nodes,
+          sum_by-filter_both is_there (λ row. not (is_there row)) (λ row. refl) (λ row. length row.content) t.versions,
         );
         later = sound.later;
-        others = others_ended t gone made.nodes items sound
+        others = others_ended t gone made.nodes made.versions items sound
             (λ n row there. was_same t.nodes n row (those_were (stays gone) t.nodes n row there).1)
             (λ n passes up. those_leads (stays gone) t.nodes n closed (ap not passes) up)
             (All-filter passes (IsOff t) t.nodes (all_off t sound))
+            (All-filter is_there (IsVersionSound t) t.versions sound.others.versions) files_left
+            (AllPairs-filter (λ a b. key_cmp (version_key a) (version_key b) ≡ Less) is_there t.versions sound.others.versions_rise)
+            (omega (arith, sound.others.few_versions, length-filter_both is_there (λ row. not (is_there row)) (λ row. refl) t.versions))
             (items_left t made gone items (le_refl _) (row_of_those (stays gone) t.nodes) left) left.rise;
       }
 

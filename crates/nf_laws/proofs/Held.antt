@@ -27,11 +27,11 @@ use Rattle.nf_laws.proofs.Upwards.{never_climbs}
 use Rattle.nf_laws.specs.Locks.{IsFree, KeyStays}
 use Rattle.nf_laws.specs.Transfers.{IsPlacedCopy}
 use Rattle.nf_words.proofs.Fits.{KnownFilled}
-use Rattle.nf_words.proofs.Known.{IsItem, Known, KnownDeeds}
+use Rattle.nf_words.proofs.Known.{IsItem, Known, KnownDeeds, KnownSettled}
 use Rattle.nf_words.proofs.Known.KnownDeeds.{by_copying, by_crossing, by_going, by_leaving, by_moving, by_requoting, by_restoring}
 use Rattle.nf_words.proofs.Spared.{Spares, SparesChange, SparesDeed, SparesRow, SparesUnder}
 use Rattle.nf_words.proofs.Ways.{HasRow, present_row}
-use Rattle.nf_words.specs.Prelude.{altered, AreSound, beside, besides, changed, copies_to, copies_within, deed_done, deeds_done, discard, discards, goes_itself, IsHeld, item_for, LeadsToRoot, node_of_key, purges, row_at, told}
+use Rattle.nf_words.specs.Prelude.{altered, AreSound, beside, besides, changed, copies_to, copies_within, deed_done, deeds_done, discard, discards, goes_itself, IsHeld, item_for, LeadsToRoot, node_of_key, purges, row_at, told, forgets}
 use Rattle.nf_words.specs.declared.answer.Allowed.{Allowed}
 use Rattle.nf_words.specs.declared.answer.Allowed.TheVariants as allowed
 use Rattle.nf_words.specs.declared.answer.Deed.{Deed}
@@ -40,6 +40,7 @@ use Rattle.nf_words.specs.declared.answer.Hold.{Hold}
 use Rattle.nf_words.specs.declared.answer.LockKey.{LockKey}
 use Rattle.nf_words.specs.declared.answer.LockKey.TheVariants.{Node, Slot}
 use Rattle.nf_words.specs.declared.request.Transfer.{Transfer}
+use Rattle.nf_retention.specs.declared.versions.Version.{Version}
 
 -- ---- free names
 
@@ -329,6 +330,7 @@ module _ (t : Tables) (hold : Hold) (sound : AreSound t) (held : IsHeld t hold.k
     IsApart (deed.Relink top folder name) = SparesUnder t key top × key ≢ Slot folder name
     IsApart (deed.Join rows) = All (Spared key) rows
     IsApart (deed.Requote row) = Unit {0}
+    IsApart (deed.Forget other at) = Unit {0}
 
     deed_apart : (now : ℕ) (one : Deed) → IsBack t now one → SparesDeed t now key one → IsApart one
     deed_apart now (deed.Discard item) back spares = spares
@@ -338,6 +340,7 @@ module _ (t : Tables) (hold : Hold) (sound : AreSound t) (held : IsHeld t hold.k
     deed_apart now (deed.Relink top folder name) back spares = spares
     deed_apart now (deed.Join rows) back (transfer, name, are, other) = subst (All (Spared key)) (sym are) (copies_spared now transfer name other)
     deed_apart now (deed.Requote row) back spares = tt
+    deed_apart now (deed.Forget other at) back spares = tt
 
     deed_stands : (u : Tables) (one : Deed) → IsApart one → Stands u.nodes → Stands (deed_done u one).nodes
     deed_stands u (deed.Discard item) outside stands =
@@ -351,15 +354,22 @@ module _ (t : Tables) (hold : Hold) (sound : AreSound t) (held : IsHeld t hold.k
     deed_stands u (deed.Relink top folder name) apart stands = relinked_stands u.nodes top folder name apart.0 apart.1 stands
     deed_stands u (deed.Join rows) spared stands = joined_stands u.nodes rows spared stands
     deed_stands u (deed.Requote row) apart stands = stands
+    deed_stands u (deed.Forget other at) apart stands = stands
 
     deeds_stand : (u : Tables) (deeds : List Deed) → All IsApart deeds → Stands u.nodes → Stands (deeds_done u deeds).nodes
     deeds_stand u [] apart stands = stands
     deeds_stand u (one ∷ deeds) apart stands =
         deeds_stand (deed_done u one) deeds (All-tail IsApart one deeds apart) (deed_stands u one (All-head IsApart one deeds apart) stands)
 
-    step_stands : (now : ℕ) (deeds : List Deed) → KnownDeeds t now deeds → All (SparesDeed t now key) deeds → Stands (deeds_done t deeds).nodes
+    step_stands : (now : ℕ) (deeds : List Deed) → KnownSettled t now deeds → All (SparesDeed t now key) deeds → Stands (deeds_done t deeds).nodes
     step_stands now deeds known spares =
-        deeds_stand t deeds (λ k d within. deed_apart now (get_or deeds k d) (known_back t now deeds known k d within) (spares k d within)) first_stands
+        deeds_stand t deeds (λ k d within. deed_apart now (get_or deeds k d) (back deeds known k d within) (spares k d within)) first_stands
+      where
+        back : (deeds : List Deed) → KnownSettled t now deeds → All (IsBack t now) deeds
+        back deeds known =
+            subst (All (IsBack t now)) (sym known.are)
+            (All-append (IsBack t now) known.first (forgets known.gone) (known_back t now known.first known.known)
+            (All-map (IsBack t now) (λ (version : Version). deed.Forget version.node version.at) known.gone (λ k d within. tt)))
 
   -- ---- every act
 

@@ -21,6 +21,7 @@ use Rattle.nf_laws.proofs.Moved.{deep_below, Fits, relinked_sound}
 use Rattle.nf_laws.proofs.Others.{item_other, items_all}
 use Rattle.nf_laws.proofs.Peopled.{people_sound}
 use Rattle.nf_laws.proofs.Present.{never_trash}
+use Rattle.nf_laws.proofs.Turned.{forgotten_sound}
 use Rattle.nf_laws.proofs.Trashed.{discarded_sound, Goes, item_top, purged_sound}
 use Rattle.nf_laws.proofs.Walked.{walks_take}
 use Rattle.nf_laws.proofs.Upwards.{climbs_is_under}
@@ -56,6 +57,7 @@ Fit t now (deed.Restore node folder name) = (row : NodeRow) × Fits t (dropped i
 Fit t now (deed.Relink node folder name) = (row : NodeRow) × Fits t t.items node folder name row
 Fit t now (deed.Join copies) = Joins t now copies
 Fit t now (deed.Requote row) = IsRequoted t row
+Fit t now (deed.Forget node at) = Unit {0}
 
 abbrev pub InTurn : Tables → ℕ → List Deed → Type 0
 InTurn t now [] = Unit {0}
@@ -69,6 +71,7 @@ deed_moment t (deed.Restore node folder name) = refl
 deed_moment t (deed.Relink node folder name) = refl
 deed_moment t (deed.Join copies) = refl
 deed_moment t (deed.Requote row) = refl
+deed_moment t (deed.Forget node at) = refl
 
 -- what is done at the moment of sound tables leaves them sound
 pub fit_sound : (t : Tables) (now : ℕ) (one : Deed) → AreSound t → t.meta.last ≡ now → Fit t now one → AreSound (deed_done t one)
@@ -84,6 +87,7 @@ fit_sound t now (deed.Join copies) sound at joins =
     (joined_sound t now joins.transfer joins.name copies joins.mirrors sound joins.known joins.alone (omega (arith, at))
     (walks_take.once t joins.transfer.node sound) joins.nodes joins.pieces)
 fit_sound t now (deed.Requote row) sound at known = people_sound t (Put (rows.User row)) sound known
+fit_sound t now (deed.Forget node moment) sound at known = forgotten_sound t node moment sound
 
 -- what each deed keeps of a property of sound tables, all of them keep
 pub deeds_have : (P : Tables → Type 0) (now : ℕ)

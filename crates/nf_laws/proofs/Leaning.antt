@@ -1,9 +1,9 @@
 -- A lean list of changed rows that isn't empty makes other tables.
 use Rattle.std.proofs.Common.{◌≡◌, ◌≢◌, inl, inr, ℕ, suc, ◌==◌, ◌&&◌, ◌||◌, ◌<◌, not, Bool, true, false, List, [], ◌∷◌, Option, Some, bytes_eq, filter, find, if◌then◌else◌, option_map, refl, sym, ap, subst, ◌∙◌, arith}
-use Rattle.std.specs.Prelude.{is_some}
+use Rattle.std.specs.Prelude.{is_some, None}
 use Rattle.std.specs.List.{All, list_any}
 use Rattle.std.proofs.lemmas.Bool.{and_from, and_parts, both_ways, cases_Bool, cond_both, eq-eqb, eqb-true, false_from_ne_true, not_from_false}
-use Rattle.std.proofs.lemmas.List.Elements.{All-head, All-tail}
+use Rattle.std.proofs.lemmas.List.Elements.{All-head, All-tail, All-cons, All-weaker}
 use Rattle.std.proofs.lemmas.Option.{same_Some, none-some}
 use Rattle.std.proofs.lemmas.Slice.Eq.{bytes_eq-Decides}
 use Rattle.nf_access.specs.Mounts.{mount_row}
@@ -21,7 +21,7 @@ use Rattle.nf_base.specs.declared.rows.Row.TheVariants as rows
 use Rattle.nf_base.specs.declared.rows.ShareRow.{ShareRow}
 use Rattle.nf_base.specs.declared.rows.TokenRow.{TokenRow}
 use Rattle.nf_base.specs.declared.rows.UserRow.{UserRow}
-use Rattle.nf_defs.specs.Prelude.{dropped, group_row, made, member_key, node_key, node_row, put, put_all, Tables, token_key, user_row, with_node}
+use Rattle.nf_defs.specs.Prelude.{dropped, group_row, made, member_key, node_key, node_row, put, put_all, Tables, token_key, user_row, with_node, by_order, IsRising, key_cmp, version_key}
 use Rattle.nf_laws.proofs.Lists.{AreBuilt, IsBuilt, IsMounting, KnownShare, Rising, only_built}
 use Rattle.nf_laws.proofs.Puts.{number_found, other_number, put_changed, put_other}
 use Rattle.nf_laws.proofs.Rows.{found_is}
@@ -30,7 +30,14 @@ use Rattle.nf_words.proofs.Fits.{KnownRow, KnownRows, no_more, one_more, put_fou
 use Rattle.nf_words.proofs.Found.{put_is_found, put_leaves}
 use Rattle.nf_words.proofs.Mounting.{mount_found, mount_left_so, not_mount}
 use Rattle.nf_words.proofs.Provided.{none_left}
-use Rattle.nf_words.specs.Prelude.{changed_key, IsLean, IsNewGroup, IsNewUser, IsOfPeople}
+use Rattle.nf_words.specs.Prelude.{changed_key, IsLean, IsNewGroup, IsNewUser, IsOfPeople, version_row}
+use Rattle.nf_base.specs.declared.rows.VersionRow.{VersionRow}
+use Rattle.nf_defs.proofs.Puts.{below_rest, key_total, tail_rising}
+use Rattle.nf_defs.proofs.Lookups.{equal_bytes}
+use Rattle.std.proofs.lemmas.Cmp.{tied_itself}
+use Rattle.std.specs.declared.cmp.Ordering.{Ordering}
+use Rattle.std.specs.declared.cmp.Ordering.TheVariants.{Equal, Greater, Less}
+use Rattle.nf_words.proofs.Forgetting.{version_gone}
 
 -- ---- rows of other keys
 
@@ -174,6 +181,100 @@ member_left group user t (Drop (keys.Member of who)) built differs =
     differs (ap (λ (n : ℕ). keys.Member n user) (sym (two_first keyed)) ∙ ap (keys.Member of) (sym (two_second keyed))))))
 member_left group user t change built differs = refl
 
+-- ---- versions
+
+abbrev is_version_of : ℕ → ℕ → VersionRow → Bool
+is_version_of node at row = row.node == node && row.at == at
+
+version_keyed : (row : VersionRow) (node at : ℕ) → is_version_of node at row ≡ true → version_key row ≡ node ∷ at ∷ []
+version_keyed row node at is =
+    let parts = and_parts (row.node == node) (row.at == at) is in
+    ap (λ (n : ℕ). n ∷ row.at ∷ []) (eqb-true row.node node parts.0) ∙ ap (λ (n : ℕ). node ∷ n ∷ []) (eqb-true row.at at parts.1)
+
+is_itself : (row : VersionRow) → is_version_of row.node row.at row ≡ true
+is_itself row = and_from (row.node == row.node) (row.at == row.at) (eq-eqb row.node row.node refl) (eq-eqb row.at row.at refl)
+
+version_found : (row : VersionRow) (versions : List VersionRow) → version_row (put version_key row versions) row.node row.at ≡ Some row
+version_found row versions =
+    put_is_found version_key (is_version_of row.node row.at) row versions (is_itself row) (λ x same. version_keyed x row.node row.at same)
+
+version_left : (node at : ℕ) (t : Tables) (change : Change) → IsBuilt change → keys.Version node at ≢ changed_key change
+    → version_row (made t change).versions node at ≡ version_row t.versions node at
+version_left node at t (Put (rows.Version row)) built differs =
+    put_leaves version_key (is_version_of node at) row t.versions (off row refl) (λ x same. off x same)
+  where
+    off : (x : VersionRow) → version_key row ≡ version_key x → is_version_of node at x ≡ false
+    off x same =
+        false_from_ne_true (is_version_of node at x) (λ is.
+        let keyed = same ∙ version_keyed x node at is in
+        differs (ap (λ (n : ℕ). keys.Version n at) (sym (two_first keyed)) ∙ ap (keys.Version row.node) (sym (two_second keyed))))
+version_left node at t (Drop (keys.Version of moment)) built differs =
+    find_kept (is_version_of node at) (λ row. not (bytes_eq (of ∷ moment ∷ []) (version_key row))) t.versions (λ row is.
+    not_from_false (bytes_eq (of ∷ moment ∷ []) (version_key row)) (false_from_ne_true (bytes_eq (of ∷ moment ∷ []) (version_key row)) (λ same.
+    let keyed = (bytes_eq-Decides (of ∷ moment ∷ []) (version_key row)).0 same ∙ version_keyed row node at is in
+    differs (ap (λ (n : ℕ). keys.Version n at) (sym (two_first keyed)) ∙ ap (keys.Version of) (sym (two_second keyed))))))
+version_left node at t change built differs = refl
+
+-- one that is there already changes nothing where it is put
+version_same : (row : VersionRow) (versions : List VersionRow) → IsRising version_key versions → version_row versions row.node row.at ≡ Some row
+    → put version_key row versions ≡ versions
+version_same row [] rising there = absurd (none-some row there)
+version_same row (x ∷ versions) rising there =
+    here (key_cmp (version_key row) (version_key x)) refl (is_version_of row.node row.at x) refl there
+    (λ found. version_same row versions (tail_rising version_key x versions rising) found)
+  where
+    never : key_cmp (version_key row) (version_key x) ≡ Less → ⊥
+    never less =
+        let Above : VersionRow → Type 0 = λ y. key_cmp (version_key row) (version_key y) ≡ Less in
+        let all : All Above (x ∷ versions) =
+        All-cons Above x versions less
+        (All-weaker (λ (y : VersionRow). key_cmp (version_key x) (version_key y) ≡ Less) Above
+        (λ y below. key_total.trans (version_key row) (version_key x) (version_key y) less below) versions (below_rest version_key x versions rising)) in
+        let equal = tied_itself key_total (version_key row) in
+        let itself = (found_is Above (is_version_of row.node row.at) (x ∷ versions) row all there).1 in cc
+
+    here : (o : Ordering) → key_cmp (version_key row) (version_key x) ≡ o → (b : Bool) → is_version_of row.node row.at x ≡ b
+        → (if b then Some x else version_row versions row.node row.at) ≡ Some row
+        → (version_row versions row.node row.at ≡ Some row → put version_key row versions ≡ versions)
+        → by_order o (row ∷ x ∷ versions) (row ∷ versions) (x ∷ put version_key row versions) ≡ x ∷ versions
+    here Less e b is found rest = absurd (never e)
+    here Equal e true is found rest = ap (λ (y : VersionRow). y ∷ versions) (sym (same_Some x row found))
+    here Equal e false is found rest =
+        let key : version_key row ≡ version_key x = (bytes_eq-Decides (version_key row) (version_key x)).0 (equal_bytes (version_key row) (version_key x) Equal e) in
+        absurd (both_ways (is_version_of row.node row.at x) is
+        (and_from (x.node == row.node) (x.at == row.at) (eq-eqb x.node row.node (sym (two_first key))) (eq-eqb x.at row.at (sym (two_second key)))))
+    here Greater e true is found rest =
+        let equal = ap (key_cmp (version_key row)) (version_keyed x row.node row.at is) ∙ tied_itself key_total (version_key row) in absurd (cc)
+    here Greater e false is found rest = ap (λ (all : List VersionRow). x ∷ all) (rest found)
+
+version_moved : (t : Tables) (row : VersionRow) → IsRising version_key t.versions → made t (Put (rows.Version row)) ≢ t
+    → version_row (put version_key row t.versions) row.node row.at ≢ version_row t.versions row.node row.at
+version_moved t row rising differs same =
+    differs (ap (λ (all : List VersionRow). record t { versions = all })
+    (version_same row t.versions rising (sym same ∙ version_found row t.versions)))
+
+-- where there is none of a key, nothing is dropped
+version_none : (versions : List VersionRow) (node at : ℕ) → version_row versions node at ≡ None
+    → dropped version_key (node ∷ at ∷ []) versions ≡ versions
+version_none [] node at none = refl
+version_none (x ∷ versions) node at none =
+    elim (cases_Bool (is_version_of node at x)) [
+      | inl e ↦ absurd (none-some x (sym none ∙ simp e refl))
+      | inr e ↦
+          (let off : bytes_eq (node ∷ at ∷ []) (version_key x) ≡ false =
+          false_from_ne_true (bytes_eq (node ∷ at ∷ []) (version_key x)) (λ same.
+          let key = sym ((bytes_eq-Decides (node ∷ at ∷ []) (version_key x)).0 same) in
+          both_ways (is_version_of node at x) e
+          (and_from (x.node == node) (x.at == at) (eq-eqb x.node node (two_first key)) (eq-eqb x.at at (two_second key)))) in
+          simp off (ap (λ (all : List VersionRow). x ∷ all) (version_none versions node at (simp e at none))))
+    ]
+
+version_dropped : (t : Tables) (node at : ℕ) → made t (Drop (keys.Version node at)) ≢ t
+    → version_row (dropped version_key (node ∷ at ∷ []) t.versions) node at ≢ version_row t.versions node at
+version_dropped t node at differs same =
+    differs (ap (λ (all : List VersionRow). record t { versions = all })
+    (version_none t.versions node at (sym same ∙ version_gone t.versions node at)))
+
 -- ---- what is known wasn't there so
 
 same_rows : (nodes : List NodeRow) (node : ℕ) → with_node nodes node (λ row. row) ≡ nodes
@@ -207,7 +308,7 @@ user_anew t row root is = λ same.
 
 -- ---- a list
 
-module _ (t : Tables) (changes : List Change) (rising : Rising t.nodes) (built : AreBuilt changes) where
+module _ (t : Tables) (changes : List Change) (rising : Rising t.nodes) (versions : IsRising version_key t.versions) (built : AreBuilt changes) where
   abbrev IsMoved : Change → Type 0
   IsMoved change = IsLean t (change ∷ changes) → put_all t (change ∷ changes) ≢ t
 
@@ -245,15 +346,21 @@ module _ (t : Tables) (changes : List Change) (rising : Rising t.nodes) (built :
   one_moves blob meta (Put (rows.Share row)) known lean =
       seen_moves (λ (u : Tables). share_row u.shares row.id) t (Put (rows.Share row)) changes (share_left row.id) built lean
       (λ same. share_anew t (record t { meta = meta }) row known.1 (sym same ∙ share_found row t.shares))
+  one_moves blob meta (Put (rows.Version row)) known lean =
+      seen_moves (λ (u : Tables). version_row u.versions row.node row.at) t (Put (rows.Version row)) changes (version_left row.node row.at) built lean
+      (version_moved t row versions (All-head (λ (c : Change). made t c ≢ t) (Put (rows.Version row)) changes lean.differ))
+  one_moves blob meta (Drop (keys.Version node at)) known lean =
+      seen_moves (λ (u : Tables). version_row u.versions node at) t (Drop (keys.Version node at)) changes (version_left node at) built lean
+      (version_dropped t node at (All-head (λ (c : Change). made t c ≢ t) (Drop (keys.Version node at)) changes lean.differ))
   one_moves blob meta change known lean = people_move meta change known.1 lean
 
 -- so a lean list that isn't empty makes other tables
-pub lean_moves : (t up : Tables) (blob : Option ℕ) (changes : List Change) → Rising t.nodes → up ≡ record t { meta = up.meta }
+pub lean_moves : (t up : Tables) (blob : Option ℕ) (changes : List Change) → Rising t.nodes → IsRising version_key t.versions → up ≡ record t { meta = up.meta }
     → KnownRows t blob up changes → IsLean t changes → changes ≢ [] → put_all t changes ≢ t
-lean_moves t _ blob _ rising same (no_more up) lean some = absurd (some refl)
-lean_moves t _ blob _ rising same (one_more up change changes known rest) lean some =
-    one_moves t changes rising (only_built t blob (made up change) changes rest) blob up.meta change
+lean_moves t _ blob _ rising versions same (no_more up) lean some = absurd (some refl)
+lean_moves t _ blob _ rising versions same (one_more up change changes known rest) lean some =
+    one_moves t changes rising versions (only_built t blob (made up change) changes rest) blob up.meta change
     (subst (λ (u : Tables). KnownRow t blob u change) same known) lean
-lean_moves t _ blob _ rising same (user_more up row root changes known rest) lean some =
-    user_moves t (Put (rows.Node root) ∷ changes) rising (tt, only_built t blob _ changes rest) row
+lean_moves t _ blob _ rising versions same (user_more up row root changes known rest) lean some =
+    user_moves t (Put (rows.Node root) ∷ changes) rising versions (tt, only_built t blob _ changes rest) row
     (λ there. user_anew up row root known.1 (ap (λ (u : Tables). user_row u.users row.id) same ∙ there)) lean

@@ -1,5 +1,5 @@
 -- What tables have in common with those before a node left its place, whether it was put in the trash or went for good.
-use Rattle.std.proofs.Common.{◌≡◌, ◌≢◌, ◌≤◌, ℕ, zero, suc, ◌-◌, ◌==◌, true, false, not, List, Option, None, Some, length, inl, inr, refl, sym, ap, ◌∙◌, arith, option_map, ne_eqb, filter, get_or}
+use Rattle.std.proofs.Common.{Bool, ◌≡◌, ◌≢◌, ◌≤◌, ℕ, zero, suc, ◌-◌, ◌==◌, true, false, not, List, Option, None, Some, length, inl, inr, refl, sym, ap, ◌∙◌, arith, option_map, ne_eqb, filter, get_or}
 use Rattle.std.specs.Prelude.{is_some, option_and_then}
 use Rattle.std.proofs.lemmas.Bool.{both_ways, cases_Bool, cases_lt, cond_both, eq-eqb, eqb-true, false_from_ne_true, not-false}
 use Rattle.std.proofs.lemmas.Option.{none-some, same_Some}
@@ -7,7 +7,9 @@ use Rattle.nf_base.specs.declared.rows.NodeRow.{NodeRow}
 use Rattle.nf_base.specs.declared.rows.Place.TheVariants.{Inside, Trash}
 use Rattle.nf_defs.proofs.Climbs.{under_climb}
 use Rattle.nf_defs.proofs.Walks.{inside_of}
-use Rattle.nf_defs.specs.Prelude.{child_of, climb, folder_of, is_in, is_under, node_row, parent_of, Tables}
+use Rattle.std.proofs.lemmas.List.Filters.{sum_by-filter_both}
+use Rattle.nf_base.specs.declared.rows.VersionRow.{VersionRow}
+use Rattle.nf_defs.specs.Prelude.{child_of, climb, folder_of, is_in, is_under, node_row, parent_of, Tables, without_under}
 use Rattle.nf_defs.specs.Tree.{trashed}
 use Rattle.nf_laws.proofs.Climbs.{climb_on, node_row_each, parent_at}
 use Rattle.nf_laws.proofs.Gone.{climb_left, counts_left, free_left, kept_left, left_leads, row_left}
@@ -61,6 +63,7 @@ in_none t top folder row sound there outside other under =
 pub purged_left : (t : Tables) (row : NodeRow) → AreSound t → KnownLeaving t row → Left t (purged t row.id) row.id
 purged_left t row sound known =
     let counts = counts_left t.nodes row.id in
+    let is_there : VersionRow → Bool = λ version. is_some (node_row (without_under t.nodes row.id) version.node) in
     record {
       sound = purged_sound t row.id sound (inr (row, refl, known));
       row = row_left t.nodes row.id;
@@ -74,7 +77,11 @@ purged_left t row sound known =
           let one = get_or t.nodes k d in
           in_none t row.id folder one sound (node_row_each t.nodes sound.rising k d within) outside other (not-false (is_under t.nodes one.id row.id) goes));
       few = counts.0;
-      few_pieces = omega (arith, counts.1);
+      few_pieces = omega (
+        arith,
+        counts.1,
+        sum_by-filter_both is_there (λ row. not (is_there row)) (λ row. refl) (λ row. length row.content) t.versions,
+      );
       meta = refl;
       users = refl;
       mounts = refl;

@@ -16,6 +16,9 @@ pub mod Counters
 pub mod Departed
 pub mod Discarding
 pub mod Ended
+pub mod Turning
+pub mod Behind
+pub mod Refilled
 pub mod Entries
 pub mod Exceeding
 pub mod Fitting
@@ -41,7 +44,9 @@ pub mod Moved
 pub mod Numbers
 pub mod OneRow
 pub mod Opening
+pub mod Files
 pub mod Others
+pub mod Turned
 pub mod Peopled
 pub mod Owned
 pub mod Parts
@@ -50,6 +55,7 @@ pub mod Presence
 pub mod Present
 pub mod Providing
 pub mod Purged
+pub mod Forgotten
 pub mod Puts
 pub mod Quotas
 pub mod Reached
@@ -75,3 +81,4 @@ pub mod Trashing
 pub mod Upwards
 pub mod Walked
 pub mod Weighing
+pub mod Behaving

@@ -8,7 +8,7 @@ use Rattle.nf_base.specs.declared.rows.NodeRow.{NodeRow}
 use Rattle.nf_base.specs.declared.rows.ShareRow.{ShareRow}
 use Rattle.nf_defs.specs.Prelude.{is_under, made, put, share_key, Tables}
 use Rattle.nf_laws.proofs.InTurn.{deeds_keep}
-use Rattle.nf_laws.proofs.Lists.{changes_have, KnownShare}
+use Rattle.nf_laws.proofs.Lists.{changes_have, KnownShare, turned_only}
 use Rattle.nf_laws.proofs.Others.{row_ended, same_field, unless_gone}
 use Rattle.nf_laws.proofs.Peopled.{people_shares}
 use Rattle.nf_laws.proofs.Puts.{other_number}
@@ -108,13 +108,15 @@ deed_shares t u (deed.Restore node folder name) keeps = keeps
 deed_shares t u (deed.Relink node folder name) keeps = keeps
 deed_shares t u (deed.Join rows) keeps = keeps
 deed_shares t u (deed.Requote row) keeps = keeps
+deed_shares t u (deed.Forget node at) keeps = keeps
 
 altered_shares : (t : Tables) (now : ℕ) (act : Allowed) → AreSound t → Known t now act → KeepsShares t (altered t now act)
 altered_shares t now (allowed.Change changes blob report) sound known =
     changes_have (KeepsShares t) t now changes blob report sound.rising known (λ u row keeps it. keeps) (λ u row keeps it. keeps)
     (λ u row keeps it. keeps)
     (λ u row keeps it. then_shares t.shares u.shares (put share_key row u.shares) keeps (known_share_keeps t u row it))
-    (λ u change keeps it. subst (AreSameShares t.shares) (sym (people_shares u change it)) keeps) (λ u row root keeps it. keeps)
+    (λ u change keeps it. subst (AreSameShares t.shares) (sym (people_shares u change it)) keeps)
+    (λ u change keeps it. subst (AreSameShares t.shares) (sym (ap (λ (v : Tables). v.shares) (turned_only t u change it))) keeps) (λ u row root keeps it. keeps)
     (all_shares t.shares)
 altered_shares t now (allowed.Deeds deeds report) sound known =
     deeds_keep (KeepsShares t) (deed_shares t) t deeds (all_shares t.shares)

@@ -9,7 +9,7 @@ use Rattle.nf_base.specs.declared.changes.RowKey.TheVariants as keys
 use Rattle.nf_base.specs.declared.rows.MetaRow.{MetaRow}
 use Rattle.nf_base.specs.declared.rows.MountRow.{MountRow}
 use Rattle.nf_base.specs.declared.rows.NodeRow.{NodeRow}
-use Rattle.nf_base.specs.declared.rows.Row.TheVariants.{Group, Member, Mount, Node, Share, Token, User}
+use Rattle.nf_base.specs.declared.rows.Row.TheVariants.{Group, Member, Mount, Node, Share, Token, User, Version}
 use Rattle.nf_defs.specs.Prelude.{filled, IsDroppable, made, mount_key, node_key, put, put_all, Tables, with_node, share_key}
 use Rattle.nf_laws.proofs.Added.{born_sound}
 use Rattle.nf_laws.proofs.Mounted.{mounted_sound}
@@ -17,11 +17,13 @@ use Rattle.nf_laws.proofs.Sharing.{new_share_sound, other_share_sound}
 use Rattle.nf_laws.proofs.Puts.{put_changed, put_new}
 use Rattle.nf_laws.proofs.Replaced.{filled_sound}
 use Rattle.nf_laws.proofs.Others.{meta_sound}
-use Rattle.nf_laws.proofs.Rows.{blob_up}
+use Rattle.nf_laws.proofs.Rows.{blob_up, row_is}
+use Rattle.nf_laws.proofs.Turned.{forgotten_sound, version_sound}
+use Rattle.nf_base.specs.declared.rows.VersionRow.{VersionRow}
 use Rattle.nf_laws.specs.Numbers.{AreHigher}
 use Rattle.nf_laws.proofs.OneRow.{rising_with}
 use Rattle.nf_laws.proofs.Peopled.{new_user_sound, people_nodes, people_sound, rooted_made, with_rooted}
-use Rattle.nf_words.proofs.Fits.{KnownBorn, KnownChange, KnownFilled, KnownRow, KnownRows, KnownUser, no_more, one_more, user_more, with_user}
+use Rattle.nf_words.proofs.Fits.{IsTurned, KnownBorn, KnownChange, KnownFilled, KnownRow, KnownRows, KnownUser, KnownVersion, no_more, one_more, user_more, with_user}
 use Rattle.nf_words.specs.Prelude.{above, altered, AreSound, counted, IsBorn, IsFilled, IsNewMount, IsNewShare, IsOfPeople, IsOtherShare, IsRemounted, raised}
 use Rattle.nf_words.specs.declared.answer.Allowed.TheVariants as allowed
 use Rattle.nf_words.specs.declared.answer.Report.{Report}
@@ -102,9 +104,21 @@ filled_made t row rising is =
     (ap (λ (r : NodeRow). put node_key r t.nodes) is.same
     ∙ put_changed t.nodes row.id (filled row.content row.changed) is.old refl rising is.there)
 
+-- what becomes of versions touches nothing else
+pub turned_only : (first t : Tables) (change : Change) → IsTurned first t change → made t change ≡ record t { versions = (made t change).versions }
+turned_only first t (Put (Version row)) known = refl
+turned_only first t (Drop (keys.Version node at)) known = refl
+turned_only first t change known = absurd known
+
+-- nor a node
+pub turned_nodes : (first t : Tables) (change : Change) → IsTurned first t change → (made t change).nodes ≡ t.nodes
+turned_nodes first t (Put (Version row)) known = refl
+turned_nodes first t (Drop (keys.Version node at)) known = refl
+turned_nodes first t change known = absurd known
+
 -- ---- lists of changed rows
 
--- what may be in a list: all but the meta row and kinds that aren't built yet, and no drop but that of a member
+-- what may be in a list: all but the meta row and kinds that aren't built yet, and no drop but that of a member or a version
 abbrev pub IsBuilt : Change → Type 0
 IsBuilt (Put (Node row)) = Unit {0}
 IsBuilt (Put (Mount row)) = Unit {0}
@@ -113,7 +127,9 @@ IsBuilt (Put (User row)) = Unit {0}
 IsBuilt (Put (Token row)) = Unit {0}
 IsBuilt (Put (Group row)) = Unit {0}
 IsBuilt (Put (Member row)) = Unit {0}
+IsBuilt (Put (Version row)) = Unit {0}
 IsBuilt (Drop (keys.Member group user)) = Unit {0}
+IsBuilt (Drop (keys.Version node at)) = Unit {0}
 IsBuilt change = ⊥
 
 abbrev pub AreBuilt : List Change → Type 0
@@ -130,7 +146,9 @@ meta_one t meta (Put (User row)) built = refl
 meta_one t meta (Put (Token row)) built = refl
 meta_one t meta (Put (Group row)) built = refl
 meta_one t meta (Put (Member row)) built = refl
+meta_one t meta (Put (Version row)) built = refl
 meta_one t meta (Drop (keys.Member group user)) built = refl
+meta_one t meta (Drop (keys.Version node at)) built = refl
 meta_one t meta change built = absurd built
 
 pub meta_first : (t : Tables) (meta : MetaRow) (changes : List Change) → AreBuilt changes
@@ -142,6 +160,7 @@ meta_first t meta (change ∷ changes) built =
 droppable_one : (change : Change) → IsBuilt change → IsDroppable change
 droppable_one (Put row) built = tt
 droppable_one (Drop (keys.Member group user)) built = λ is. cc
+droppable_one (Drop (keys.Version node at)) built = λ is. cc
 droppable_one (Drop key) built = absurd built
 
 pub built_droppable : (changes : List Change) → AreBuilt changes → All IsDroppable changes
@@ -161,22 +180,26 @@ module _ (first : Tables) (blob : Option ℕ) where
       → ((row : NodeRow) → KnownFilled first blob t row → Q (Put (Node row)) → P (with_filled t row))
       → ((row : MountRow) → IsMounting t row → Q (Put (Mount row)) → P (with_remounted t row))
       → ((row : ShareRow) → KnownShare first t row → Q (Put (Share row)) → P (with_share t row))
-      → ((change : Change) → IsOfPeople t change → P (made t change)) → Q change → P (made t change)
-  row_has P Q t (Put (Node row)) rising known born fills mounts shares people has =
+      → ((change : Change) → IsOfPeople t change → P (made t change)) → ((change : Change) → IsTurned first t change → P (made t change))
+      → Q change → P (made t change)
+  row_has P Q t (Put (Node row)) rising known born fills mounts shares people turns has =
       elim known [
         | inl it ↦ subst P (sym (born_made t row it.born)) (born row it has)
         | inr it ↦ subst P (sym (filled_made t row rising it.filled)) (fills row it has)
       ]
-  row_has P Q t (Put (Mount row)) rising known born fills mounts shares people has = mounts row known.1 has
-  row_has P Q t (Put (Share row)) rising known born fills mounts shares people has = shares row known.1 has
-  row_has P Q t change rising known born fills mounts shares people has = people change known.1
+  row_has P Q t (Put (Mount row)) rising known born fills mounts shares people turns has = mounts row known.1 has
+  row_has P Q t (Put (Share row)) rising known born fills mounts shares people turns has = shares row known.1 has
+  row_has P Q t (Put (Version row)) rising known born fills mounts shares people turns has = turns (Put (Version row)) known
+  row_has P Q t (Drop (keys.Version node at)) rising known born fills mounts shares people turns has = turns (Drop (keys.Version node at)) known
+  row_has P Q t change rising known born fills mounts shares people turns has = people change known.1
 
   pub rising_row : (t : Tables) (change : Change) → Rising t.nodes → KnownRow first blob t change → Rising (made t change).nodes
   rising_row t change rising known =
       row_has (λ (u : Tables). Rising u.nodes) (λ change. Unit {0}) t change rising known
       (λ row it any. all_pairs_push (λ (a b : NodeRow). a.id < b.id) t.nodes row rising it.born.newest)
       (λ row it any. rising_with t.nodes row.id (filled row.content row.changed) (λ r. refl) rising) (λ row it any. rising)
-      (λ row it any. rising) (λ change is. subst Rising (sym (people_nodes t change is)) rising) tt
+      (λ row it any. rising) (λ change is. subst Rising (sym (people_nodes t change is)) rising)
+      (λ change is. subst Rising (sym (turned_nodes first t change is)) rising) tt
 
   -- and all of them; a new user comes with its root
   rows_have : (P : Tables → Type 0) (Q : Change → Type 0)
@@ -185,17 +208,19 @@ module _ (first : Tables) (blob : Option ℕ) where
       → ((t : Tables) (row : MountRow) → P t → IsMounting t row → Q (Put (Mount row)) → P (with_remounted t row))
       → ((t : Tables) (row : ShareRow) → P t → KnownShare first t row → Q (Put (Share row)) → P (with_share t row))
       → ((t : Tables) (change : Change) → P t → IsOfPeople t change → P (made t change))
+      → ((t : Tables) (change : Change) → P t → IsTurned first t change → P (made t change))
       → ((t : Tables) (row : UserRow) (root : NodeRow) → P t → KnownUser first blob t row root → P (with_rooted t row root))
       → (t : Tables) (changes : List Change) → Rising t.nodes → P t → KnownRows first blob t changes → All Q changes → P (put_all t changes)
-  rows_have P Q born fills mounts shares people users _ _ rising has (no_more t) each = has
-  rows_have P Q born fills mounts shares people users _ _ rising has (one_more t change changes known rest) each =
-      rows_have P Q born fills mounts shares people users (made t change) changes (rising_row t change rising known)
+  rows_have P Q born fills mounts shares people turns users _ _ rising has (no_more t) each = has
+  rows_have P Q born fills mounts shares people turns users _ _ rising has (one_more t change changes known rest) each =
+      rows_have P Q born fills mounts shares people turns users (made t change) changes (rising_row t change rising known)
       (row_has P Q t change rising known (λ row it is. born t row has it is) (λ row it is. fills t row has it is)
-      (λ row it is. mounts t row has it is) (λ row it is. shares t row has it is) (λ change is. people t change has is) (All-head Q change changes each))
+      (λ row it is. mounts t row has it is) (λ row it is. shares t row has it is) (λ change is. people t change has is)
+      (λ change is. turns t change has is) (All-head Q change changes each))
       rest (All-tail Q change changes each)
-  rows_have P Q born fills mounts shares people users _ _ rising has (user_more t row root changes known rest) each =
+  rows_have P Q born fills mounts shares people turns users _ _ rising has (user_more t row root changes known rest) each =
       let made = rooted_made t row root known.1 in
-      rows_have P Q born fills mounts shares people users (with_user t row root) changes
+      rows_have P Q born fills mounts shares people turns users (with_user t row root) changes
       (subst (λ (u : Tables). Rising u.nodes) (sym made)
       (all_pairs_push (λ (a b : NodeRow). a.id < b.id) t.nodes root rising known.1.newest_node))
       (subst P (sym made) (users t row root has known)) rest
@@ -210,7 +235,9 @@ module _ (first : Tables) (blob : Option ℕ) where
   one_built t (Put (Token row)) known = tt
   one_built t (Put (Group row)) known = tt
   one_built t (Put (Member row)) known = tt
+  one_built t (Put (Version row)) known = tt
   one_built t (Drop (keys.Member group user)) known = tt
+  one_built t (Drop (keys.Version node at)) known = tt
   one_built t change known = absurd known.1
 
   pub only_built : (t : Tables) (changes : List Change) → KnownRows first blob t changes → AreBuilt changes
@@ -226,12 +253,13 @@ pub changes_all : (P : Tables → Type 0) (Q : Change → Type 0) (t : Tables) (
     → ((u : Tables) (row : MountRow) → P u → IsMounting u row → Q (Put (Mount row)) → P (with_remounted u row))
     → ((u : Tables) (row : ShareRow) → P u → KnownShare t u row → Q (Put (Share row)) → P (with_share u row))
     → ((u : Tables) (change : Change) → P u → IsOfPeople u change → P (made u change))
+    → ((u : Tables) (change : Change) → P u → IsTurned t u change → P (made u change))
     → ((u : Tables) (row : UserRow) (root : NodeRow) → P u → KnownUser t blob u row root → P (with_rooted u row root))
     → P (raised t now changes blob) → P (altered t now (allowed.Change changes blob report))
-changes_all P Q t now changes blob report rising known each born fills mounts shares people users has =
+changes_all P Q t now changes blob report rising known each born fills mounts shares people turns users has =
     let up = raised t now changes blob in
     subst P (meta_first t up.meta changes (only_built t blob up changes known.rows))
-    (rows_have t blob P Q born fills mounts shares people users up changes rising has known.rows each)
+    (rows_have t blob P Q born fills mounts shares people turns users up changes rising has known.rows each)
 
 -- where they have none
 pub changes_have : (P : Tables → Type 0) (t : Tables) (now : ℕ) (changes : List Change) (blob : Option ℕ) (report : Report)
@@ -241,12 +269,13 @@ pub changes_have : (P : Tables → Type 0) (t : Tables) (now : ℕ) (changes : L
     → ((u : Tables) (row : MountRow) → P u → IsMounting u row → P (with_remounted u row))
     → ((u : Tables) (row : ShareRow) → P u → KnownShare t u row → P (with_share u row))
     → ((u : Tables) (change : Change) → P u → IsOfPeople u change → P (made u change))
+    → ((u : Tables) (change : Change) → P u → IsTurned t u change → P (made u change))
     → ((u : Tables) (row : UserRow) (root : NodeRow) → P u → KnownUser t blob u row root → P (with_rooted u row root))
     → P (raised t now changes blob) → P (altered t now (allowed.Change changes blob report))
-changes_have P t now changes blob report rising known born fills mounts shares people users has =
+changes_have P t now changes blob report rising known born fills mounts shares people turns users has =
     changes_all P (λ change. Unit {0}) t now changes blob report rising known (λ k d within. tt)
     (λ u row h it any. born u row h it) (λ u row h it any. fills u row h it) (λ u row h it any. mounts u row h it)
-    (λ u row h it any. shares u row h it) people users has
+    (λ u row h it any. shares u row h it) people turns users has
 
 -- of the nodes alone: no change but those of nodes, and a new user's root, touches them
 pub nodes_have : (P : List NodeRow → Type 0) (Q : Change → Type 0) (t : Tables) (now : ℕ) (changes : List Change) (blob : Option ℕ)
@@ -257,18 +286,54 @@ pub nodes_have : (P : List NodeRow → Type 0) (Q : Change → Type 0) (t : Tabl
     → P t.nodes → P (altered t now (allowed.Change changes blob report)).nodes
 nodes_have P Q t now changes blob report rising known each born fills users has =
     changes_all (λ (u : Tables). P u.nodes) Q t now changes blob report rising known each born fills (λ u row h it is. h) (λ u row h it is. h)
-    (λ u change h is. subst P (sym (people_nodes u change is)) h) users has
+    (λ u change h is. subst P (sym (people_nodes u change is)) h) (λ u change h is. subst P (sym (turned_nodes t u change is)) h) users has
 
--- so they stay sound
+-- ---- so they stay sound
+
+-- a version that is put is of a moment that was
+version_at : (first u : Tables) (row : VersionRow) → AreSound first → KnownVersion first u row → row.at ≤ first.meta.last
+version_at first u row sound known =
+    let is = (row_is first row.node known.was sound known.there).1 in
+    subst (λ (n : ℕ). n ≤ first.meta.last) (sym (ap (λ (one : VersionRow). one.at) known.of_was)) is.changed
+
+versions_sound : (first u : Tables) (change : Change) → AreSound first → AreSound u → first.meta.last ≤ u.meta.last → IsTurned first u change
+    → AreSound (made u change)
+versions_sound first u (Put (Version row)) sound fine later known =
+    version_sound first u row fine (omega (arith, version_at first u row sound known, later)) known
+versions_sound first u (Drop (keys.Version node at)) sound fine later known = forgotten_sound u node at fine
+versions_sound first u change sound fine later known = absurd known
+
+-- no change of people or versions touches the moment
+people_last : (u : Tables) (change : Change) → IsOfPeople u change → (made u change).meta ≡ u.meta
+people_last u (Put (User row)) known = refl
+people_last u (Put (Token row)) known = refl
+people_last u (Put (Group row)) known = refl
+people_last u (Put (Member row)) known = refl
+people_last u (Drop (keys.Member group user)) known = refl
+people_last u change known = absurd known
+
+turned_last : (first u : Tables) (change : Change) → IsTurned first u change → (made u change).meta ≡ u.meta
+turned_last first u (Put (Version row)) known = refl
+turned_last first u (Drop (keys.Version node at)) known = refl
+turned_last first u change known = absurd known
+
 pub changes_sound : (t : Tables) (now : ℕ) (changes : List Change) (blob : Option ℕ) (report : Report)
     → AreSound t → t.meta.last ≤ now → KnownChange t now changes blob → AreSound (altered t now (allowed.Change changes blob report))
 changes_sound t now changes blob report sound later known =
-    changes_have AreSound t now changes blob report sound.rising known
-    (λ u row s it. born_sound u row s it.born) (λ u row s it. filled_sound u row s it.filled) (λ u row s it. mounted_sound u row s it)
-    (λ u row s it. elim it [
-      | inl new ↦ new_share_sound u row s new.0 (omega (arith, sound.counters.shares, new.1))
-      | inr other ↦ other_share_sound u row s other.0
-    ])
-    (λ u change s it. people_sound u change s it)
-    (λ u row root s it. new_user_sound u row root s it.1 (omega (arith, sound.counters.nodes, it.2)))
-    (raised_sound t now changes blob sound later)
+    (changes_have (λ (u : Tables). AreSound u × (t.meta.last ≤ u.meta.last)) t now changes blob report sound.rising known
+    (λ u row s it. (born_sound u row s.0 it.born, s.1)) (λ u row s it. (filled_sound u row s.0 it.filled, s.1))
+    (λ u row s it. (mounted_sound u row s.0 it, s.1))
+    (λ u row s it. (
+      elim it [
+        | inl new ↦ new_share_sound u row s.0 new.0 (omega (arith, sound.counters.shares, new.1))
+        | inr other ↦ other_share_sound u row s.0 other.0
+      ],
+      s.1,
+    ))
+    (λ u change s it. (people_sound u change s.0 it, subst (λ (meta : MetaRow). t.meta.last ≤ meta.last) (sym (people_last u change it)) s.1))
+    (λ u change s it. (
+      versions_sound t u change sound s.0 s.1 it,
+      subst (λ (meta : MetaRow). t.meta.last ≤ meta.last) (sym (turned_last t u change it)) s.1,
+    ))
+    (λ u row root s it. (new_user_sound u row root s.0 it.1 (omega (arith, sound.counters.nodes, it.2)), s.1))
+    (raised_sound t now changes blob sound later, later)).0

@@ -16,6 +16,7 @@ use Rattle.nf_base.specs.declared.rows.Place.TheVariants.{Inside, Root, Trash}
 use Rattle.nf_base.specs.declared.rows.ShareRow.{ShareRow}
 use Rattle.nf_defs.proofs.Puts.{all_put, put_rising, put_length}
 use Rattle.nf_defs.specs.Prelude.{by_order, key_cmp, mount_key, node_row, put, Tables, user_row}
+use Rattle.nf_laws.proofs.Files.{all_files, versions_still}
 use Rattle.nf_laws.proofs.Others.{items_still, kind_still, others_from, trash_kept}
 use Rattle.nf_laws.proofs.Rows.{each_fails, found_is, kept_row, no_value, node_still, row_is}
 use Rattle.nf_words.proofs.Mounting.{same_key}
@@ -147,7 +148,8 @@ module _ (t : Tables) (row : MountRow) (sound : AreSound t) where
       (all_put mount_key (IsMountSound made) row t.mounts (mount_beside t t.shares (put mount_key row t.mounts) row fine)
       (All-weaker (IsMountSound t) (IsMountSound made) (mount_beside t t.shares (put mount_key row t.mounts)) t.mounts sound.others.mounts))
       (put_rising mount_key row t.mounts sound.others.mounts_rise)
-      (put_apart row t.mounts (new_apart_mount apart) sound.others.mounts_apart) few (items_beside t t.shares (put mount_key row t.mounts) sound.others.items)
+      (put_apart row t.mounts (new_apart_mount apart) sound.others.mounts_apart) few
+      (versions_still t made t.versions (le_refl _) (le_refl _) sound.others.versions (all_files t sound)) sound.others.versions_rise sound.others.few_versions (items_beside t t.shares (put mount_key row t.mounts) sound.others.items)
       sound.others.items_rise)
 
   pub mounted_sound : IsRemounted t row ⊎ IsNewMount t row → AreSound (record t { mounts = put mount_key row t.mounts })

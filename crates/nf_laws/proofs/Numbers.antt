@@ -55,6 +55,7 @@ numbers_done first u now (deed.Join copies) joins (more, all) = (
       (λ row new. inr (omega (arith, more, new))) copies (copies_new u now copies joins)),
 )
 numbers_done first u now (deed.Requote row) fit has = has
+numbers_done first u now (deed.Forget node at) fit has = has
 
 numbers_changed : (first t : Tables) (now : ℕ) (act : Allowed) → AreSound t → t.meta.last ≤ now → first.meta.next_node ≤ t.meta.next_node
     → AreOldOrNew first t → Known t now act → AreOldOrNew first (altered t now act)

@@ -10,7 +10,7 @@ use Rattle.std.proofs.lemmas.Slice.Eq.{bytes_eq-Decides}
 use Rattle.std.proofs.lemmas.Option.{none-some}
 use Rattle.nf_access.specs.Mounts.{is_shown_to, mount_at, root_folder}
 use Rattle.nf_access.specs.Shares.{chain_within, perms_of_share, share_row}
-use Rattle.nf_base.specs.declared.limits.TheConstants.{MAX_CHAIN, MAX_MOUNTS, MAX_SHARES}
+use Rattle.nf_base.specs.declared.limits.TheConstants.{MAX_CHAIN, MAX_MOUNTS, MAX_SHARES, MAX_VERSIONS}
 use Rattle.nf_base.specs.declared.rows.GroupRow.{GroupRow}
 use Rattle.nf_base.specs.declared.rows.ItemRow.{ItemRow}
 use Rattle.nf_base.specs.declared.rows.MetaRow.{MetaRow}
@@ -22,23 +22,26 @@ use Rattle.nf_base.specs.declared.rows.ShareKind.{ShareKind}
 use Rattle.nf_base.specs.declared.rows.ShareKind.TheVariants as to
 use Rattle.nf_base.specs.declared.rows.ShareRow.{ShareRow}
 use Rattle.nf_base.specs.declared.rows.UserRow.{UserRow}
+use Rattle.nf_base.specs.declared.rows.VersionRow.{VersionRow}
 use Rattle.nf_defs.proofs.Puts.{dropped_rising}
-use Rattle.nf_defs.specs.Prelude.{child_of, dropped, is_in, is_place_in, is_root, is_root_place, IsRising, item_key, item_row, key_cmp, mount_key, node_row, owner_of, share_key, Tables, user_row, with_node}
+use Rattle.nf_defs.specs.Prelude.{child_of, dropped, is_in, is_place_in, is_root, is_root_place, IsRising, item_key, item_row, key_cmp, mount_key, node_row, owner_of, share_key, Tables, user_row, version_key, with_node, is_file}
 use Rattle.nf_laws.proofs.Chained.{AreLinked, still_chained}
 use Rattle.nf_laws.proofs.Climbs.{map_some, row_of_those, some_there, those}
+use Rattle.nf_laws.proofs.Files.{all_files, AreFiles, files_kept, files_with, versions_still}
 use Rattle.nf_laws.proofs.OneRow.{KeepsId, row_with, with_each}
 use Rattle.nf_laws.proofs.Present.{kept_leads}
 use Rattle.nf_laws.proofs.Rows.{AreKept, counters_up, each_fails, finds_none, found_is, Kept, kept_joined, kept_row, no_value, node_kept, none_higher, root_kept, row_is, row_joined, stamp, with_nodes}
 use Rattle.nf_laws.specs.Numbers.{AreHigher}
 use Rattle.nf_words.specs.Others.{AreMountsApart, AreOthersSound, IsChunkSound, IsItemSound, IsKindSound, IsMountSound, IsOfNode, IsShareSound, IsUploadSound, IsVersionSound}
-use Rattle.nf_words.specs.Prelude.{AreSound, ended_row, HasNoLater, HasRoot, IsBorn, IsNodeSound, IsPlaceSound, IsUnmounted, LeadsToRoot}
+use Rattle.nf_words.specs.Prelude.{AreSound, ended_row, HasNoLater, HasRoot, IsBorn, IsNodeSound, IsPlaceSound, IsUnmounted, LeadsToRoot, versions_there}
 
 -- ---- what there is none of keeps its rules
 
 pub others_from : (t : Tables) → HasNoLater t → All (IsShareSound t) t.shares → IsRising share_key t.shares → length t.shares ≤ MAX_SHARES
     → All (IsMountSound t) t.mounts → IsRising mount_key t.mounts → AllPairs AreMountsApart t.mounts → length t.mounts ≤ MAX_MOUNTS
+    → All (IsVersionSound t) t.versions → IsRising version_key t.versions → length t.versions ≤ MAX_VERSIONS
     → All (IsItemSound t) t.items → IsRising item_key t.items → AreOthersSound t
-others_from t (versions, (uploads, (chunks, end))) shares shares_rise few_shares mounts mounts_rise mounts_apart few_mounts items items_rise = record {
+others_from t (uploads, (chunks, end)) shares shares_rise few_shares mounts mounts_rise mounts_apart few_mounts versions versions_rise few_versions items items_rise = record {
   shares = shares;
   shares_rise = shares_rise;
   few_shares = few_shares;
@@ -46,7 +49,9 @@ others_from t (versions, (uploads, (chunks, end))) shares shares_rise few_shares
   mounts_rise = mounts_rise;
   mounts_apart = mounts_apart;
   few_mounts = few_mounts;
-  versions = subst (All (IsVersionSound t)) (sym versions) (All-nil (IsVersionSound t));
+  versions = versions;
+  versions_rise = versions_rise;
+  few_versions = few_versions;
   items = items;
   items_rise = items_rise;
   uploads = subst (All (IsUploadSound t)) (sym uploads) (All-nil (IsUploadSound t));
@@ -309,6 +314,7 @@ pub record Seen (t : Tables) (nodes : List NodeRow) : Type 0 where
   pub of_mounts : OfMounts t (WasThere t.nodes nodes)
   pub present : All (λ (share : ShareRow). share.ended ≡ false → LeadsToRoot nodes share.node) t.shares
   pub off : All (IsOff t) nodes
+  pub files : AreFiles t nodes
 
 -- what all of them need of them
 pub record Still (t : Tables) (nodes : List NodeRow) : Type 0 where
@@ -316,6 +322,7 @@ pub record Still (t : Tables) (nodes : List NodeRow) : Type 0 where
   pub of_mounts : OfMounts t (WasThere t.nodes nodes)
   pub present : All (λ (share : ShareRow). share.ended ≡ false → LeadsToRoot nodes share.node) t.shares
   pub off : All (IsOff t) nodes
+  pub files : AreFiles t nodes
   pub trashed : IsTrashKept t.nodes nodes
 
 mounts_still : (t made : Tables) → made.users ≡ t.users → t.meta.next_node ≤ made.meta.next_node → AreSound t
@@ -342,13 +349,14 @@ others_seen t meta nodes items sound up later seen fine rise =
     (λ k d within. share_still t meta nodes items (get_or t.shares k d) up.shares up.nodes later (seen.of_shares k d within) (seen.present k d within)
     (sound.others.shares k d within))
     sound.others.shares_rise sound.others.few_shares (mounts_still t made refl up.nodes sound seen.of_mounts seen.off) sound.others.mounts_rise
-    sound.others.mounts_apart sound.others.few_mounts fine rise
+    sound.others.mounts_apart sound.others.few_mounts
+    (versions_still t made t.versions later up.blobs sound.others.versions seen.files) sound.others.versions_rise sound.others.few_versions fine rise
 
 pub others_still : (t : Tables) (meta : MetaRow) (nodes : List NodeRow) → AreSound t → AreHigher t.meta meta → t.meta.last ≤ meta.last
     → Still t nodes → AreOthersSound (with_nodes t meta nodes)
 others_still t meta nodes sound up later still =
     others_seen t meta nodes t.items sound up later
-    (record { of_shares = still.of_shares; of_mounts = still.of_mounts; present = still.present; off = still.off })
+    (record { of_shares = still.of_shares; of_mounts = still.of_mounts; present = still.present; off = still.off; files = still.files })
     (items_still t (with_nodes t meta nodes) later still.trashed sound.others.items) sound.others.items_rise
 
 -- nodes that are as they were are still so
@@ -358,6 +366,7 @@ still_same t sound = record {
   of_mounts = λ k d within row there. was_same t.nodes _ row there;
   present = λ k d within. (sound.others.shares k d within).present;
   off = all_off t sound;
+  files = all_files t sound;
   trashed = trash_kept t.nodes t.nodes (kept_row t.nodes);
 }
 
@@ -374,6 +383,7 @@ still_more t row sound born = record {
   of_mounts = λ k d within. was (get_or t.mounts k d).node (born.unused k d within);
   present = kept_present t (t.nodes ++ row ∷ []) sound (kept_joined t.nodes (row ∷ []));
   off = All-push (IsOff t) t.nodes row (all_off t sound) (new_off t row born.folder sound born.place born.unmounted);
+  files = files_kept t (t.nodes ++ row ∷ []) sound (kept_joined t.nodes (row ∷ []));
   trashed = trash_kept t.nodes (t.nodes ++ row ∷ []) (kept_joined t.nodes (row ∷ []));
 }
   where
@@ -418,6 +428,7 @@ seen_with t node change sound seen present = record {
   of_mounts = λ k d within. was_with t node change seen (get_or t.mounts k d).node;
   present = λ k d within unended. present (get_or t.shares k d).node ((sound.others.shares k d within).present unended);
   off = off_with t node change sound seen;
+  files = files_with t node change sound seen.id seen.kind;
 }
 
 -- ---- shares that end
@@ -460,13 +471,14 @@ module _ (gone : ℕ → Bool) where
     owner = same_field (λ s. s.owner) (λ s. refl) old;
   }
 
--- the tables with other nodes and items, and with the shares of the nodes that go ended
-abbrev pub ending : Tables → (ℕ → Bool) → List NodeRow → List ItemRow → Tables
-ending t gone nodes items = record t { nodes = nodes; shares = map (unless_gone gone) t.shares; items = items }
+-- the tables with other nodes, versions and items, and with the shares of the nodes that go ended
+abbrev pub ending : Tables → (ℕ → Bool) → List NodeRow → List VersionRow → List ItemRow → Tables
+ending t gone nodes versions items = record t { nodes = nodes; shares = map (unless_gone gone) t.shares; versions = versions; items = items }
 
--- those without the nodes that go
+-- those without the nodes that go, and their versions
 abbrev pub without : Tables → (ℕ → Bool) → List ItemRow → Tables
-without t gone items = ending t gone (those (λ node. not (gone node)) t.nodes) items
+without t gone items =
+    let nodes = those (λ node. not (gone node)) t.nodes in ending t gone nodes (versions_there nodes t.versions) items
 
 -- what is there after is what was
 pub those_were : (test : ℕ → Bool) (rows : List NodeRow) (node : ℕ) (row : NodeRow) → node_row (those test rows) node ≡ Some row
@@ -476,13 +488,13 @@ those_were test rows node row is =
     let passes = subst (λ (n : ℕ). test n ≡ true) (eqb-true row.id node found.0) found.1 in
     (passes, sym (row_of_those test rows node passes) ∙ is)
 
-share_ended : (t : Tables) (gone : ℕ → Bool) (nodes : List NodeRow) (items : List ItemRow) (share : ShareRow) → WasThere t.nodes nodes share.node
+share_ended : (t : Tables) (gone : ℕ → Bool) (nodes : List NodeRow) (versions : List VersionRow) (items : List ItemRow) (share : ShareRow) → WasThere t.nodes nodes share.node
     → (gone share.node ≡ false → share.ended ≡ false → LeadsToRoot nodes share.node) → IsShareSound t share
-    → IsShareSound (ending t gone nodes items) (unless_gone gone share)
-share_ended t gone nodes items share was still is = here (gone share.node) refl
+    → IsShareSound (ending t gone nodes versions items) (unless_gone gone share)
+share_ended t gone nodes versions items share was still is = here (gone share.node) refl
   where
     made : Tables
-    made = ending t gone nodes items
+    made = ending t gone nodes versions items
 
     chained : (row : ShareRow) → row.id ≡ share.id → is_some (chain_within MAX_CHAIN made.shares row.id) ≡ true
     chained row same = ap (λ (n : ℕ). is_some (chain_within MAX_CHAIN made.shares n)) same
@@ -529,21 +541,24 @@ ended_rising t gone rise i j d before within =
     ∙ rise i j d before few
 
 -- where what shares and mounts are of is as it was or gone, and what else is shared is present
-pub others_ended : (t : Tables) (gone : ℕ → Bool) (nodes : List NodeRow) (items : List ItemRow) → AreSound t → ((n : ℕ) → WasThere t.nodes nodes n)
-    → ((n : ℕ) → gone n ≡ false → LeadsToRoot t.nodes n → LeadsToRoot nodes n) → All (IsOff t) nodes
-    → All (IsItemSound (ending t gone nodes items)) items → IsRising item_key items → AreOthersSound (ending t gone nodes items)
-others_ended t gone nodes items sound was present off fine rise =
-    let made = ending t gone nodes items in
+pub others_ended : (t : Tables) (gone : ℕ → Bool) (nodes : List NodeRow) (versions : List VersionRow) (items : List ItemRow) → AreSound t
+    → ((n : ℕ) → WasThere t.nodes nodes n) → ((n : ℕ) → gone n ≡ false → LeadsToRoot t.nodes n → LeadsToRoot nodes n) → All (IsOff t) nodes
+    → All (IsVersionSound t) versions → All (λ (version : VersionRow). is_file nodes version.node ≡ true) versions → IsRising version_key versions
+    → length versions ≤ MAX_VERSIONS
+    → All (IsItemSound (ending t gone nodes versions items)) items → IsRising item_key items → AreOthersSound (ending t gone nodes versions items)
+others_ended t gone nodes versions items sound was present off all files versions_rise few_versions fine rise =
+    let made = ending t gone nodes versions items in
     others_from made sound.later
     (All-map (IsShareSound made) (unless_gone gone) t.shares
     (λ k d within.
     let share = get_or t.shares k d in
     let is = sound.others.shares k d within in
-    share_ended t gone nodes items share (was share.node) (λ stays unended. present share.node stays (is.present unended)) is))
+    share_ended t gone nodes versions items share (was share.node) (λ stays unended. present share.node stays (is.present unended)) is))
     (ended_rising t gone sound.others.shares_rise)
     (omega (arith, length-map t.shares (unless_gone gone), sound.others.few_shares))
     (mounts_still t made refl (le_refl _) sound (λ k d within. was (get_or t.mounts k d).node) off)
-    sound.others.mounts_rise sound.others.mounts_apart sound.others.few_mounts fine rise
+    sound.others.mounts_rise sound.others.mounts_apart sound.others.few_mounts
+    (versions_still t made versions (le_refl _) (le_refl _) all files) versions_rise few_versions fine rise
 
 -- ---- counters and moments
 

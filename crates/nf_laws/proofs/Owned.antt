@@ -11,7 +11,7 @@ use Rattle.nf_laws.proofs.Copied.{copies_numbered, old_joined}
 use Rattle.nf_laws.proofs.Entries.{deeds_known_have}
 use Rattle.nf_laws.proofs.Gone.{kept_left}
 use Rattle.nf_laws.proofs.InTurn.{Fit, Joins}
-use Rattle.nf_laws.proofs.Lists.{changes_have, with_born, with_filled}
+use Rattle.nf_laws.proofs.Lists.{changes_have, with_born, with_filled, turned_nodes}
 use Rattle.nf_laws.proofs.OneRow.{KeepsId, row_itself, row_other}
 use Rattle.nf_laws.proofs.Peopled.{people_nodes}
 use Rattle.nf_laws.proofs.Rows.{row_joined, stamped_has}
@@ -93,15 +93,18 @@ deed_owners t u now (deed.Join copies) joins (more, keeps) =
     let old = old_joined u now joins.transfer joins.name copies joins.mirrors u.nodes in
     (omega (arith, more), λ node row given there. keeps node row given (sym (old node (omega (arith, more, given))) ∙ there))
 deed_owners t u now (deed.Requote row) fit has = has
+deed_owners t u now (deed.Forget node at) fit has = has
 
 -- ---- every act
 
-altered_owners : (t : Tables) (now : ℕ) (act : Allowed) → AreSound t → t.meta.last ≤ now → Known t now act → KeepsOwners t (altered t now act)
+pub altered_owners : (t : Tables) (now : ℕ) (act : Allowed) → AreSound t → t.meta.last ≤ now → Known t now act → KeepsOwners t (altered t now act)
 altered_owners t now (allowed.Change changes blob report) sound later known =
     changes_have (KeepsOwners t) t now changes blob report sound.rising known (λ u row keeps it. new_owners t u row keeps it.fresh)
     (λ u row keeps it. filled_owners t u row keeps) (λ u row keeps it. keeps) (λ u row keeps it. keeps)
     (λ u change keeps it. also_owners t u (made u change) keeps
     (λ node row there. (row, ap (λ (rows : List NodeRow). node_row rows node) (sym (people_nodes u change it)) ∙ there, refl)))
+    (λ u change keeps it. also_owners t u (made u change) keeps
+    (λ node row there. (row, ap (λ (rows : List NodeRow). node_row rows node) (sym (turned_nodes t u change it)) ∙ there, refl)))
     (λ u row root keeps it. new_owners t u root keeps it.2) (all_owners t)
 altered_owners t now (allowed.Deeds deeds report) sound later known =
     (deeds_known_have (Owned t) t now deeds sound later known (λ u one fine at fit. deed_owners t u now one fit) (le_refl _, all_owners t)).1

@@ -23,12 +23,13 @@ use Rattle.nf_laws.proofs.Trashed.{item_put, restored_fits}
 use Rattle.nf_base.specs.declared.rows.Place.TheVariants.{Inside}
 use Rattle.nf_defs.proofs.Climbs.{climb_under}
 use Rattle.nf_words.proofs.Found.{child_parent, found_passes}
-use Rattle.nf_words.proofs.Known.{IsItem, KnownGoes, KnownCopies, KnownCross, KnownDeeds, KnownLeaving, KnownMove, KnownTransfer}
+use Rattle.nf_words.proofs.Known.{IsItem, KnownGoes, KnownCopies, KnownCross, KnownDeeds, KnownLeaving, KnownMove, KnownSettled, KnownTransfer}
+use Rattle.nf_retention.specs.declared.versions.Version.{Version}
 use Rattle.nf_words.proofs.Known.KnownDeeds.{by_copying, by_crossing, by_going, by_leaving, by_moving, by_requoting, by_restoring}
 use Rattle.nf_words.proofs.Sweeping.{joined_once, rest_owned}
 use Rattle.nf_words.proofs.Transfers.{replaced_leaves, row_leaves}
 use Rattle.nf_words.proofs.Trashing.{rest_apart, rest_goes}
-use Rattle.nf_words.specs.Prelude.{AreSound, beside, besides, copies, copies_to, crossing, deed_done, deeds_done, discard, discards, goes_itself, gone_with, IsPlaceSound, item_for, joined, LeadsToRoot, moves, purges, row_at}
+use Rattle.nf_words.specs.Prelude.{AreSound, beside, besides, copies, copies_to, crossing, deed_done, deeds_done, discard, discards, forgets, goes_itself, gone_with, IsPlaceSound, item_for, joined, LeadsToRoot, moves, purges, row_at}
 use Rattle.nf_words.specs.declared.answer.Deed.{Deed}
 use Rattle.nf_words.specs.declared.answer.Deed.TheVariants as deed
 use Rattle.nf_words.specs.declared.request.Transfer.{Transfer}
@@ -43,6 +44,7 @@ IsOff (deed.Restore other folder name) node = node ≢ other
 IsOff (deed.Relink other folder name) node = Unit {0}
 IsOff (deed.Join rows) node = Unit {0}
 IsOff (deed.Requote row) node = Unit {0}
+IsOff (deed.Forget other at) node = Unit {0}
 
 item_on : (u : Tables) (one : Deed) (node : ℕ) → IsOff one node → IsItem u node → IsItem (deed_done u one) node
 item_on u (deed.Discard item) node off is = item_put item u.items node is
@@ -51,6 +53,7 @@ item_on u (deed.Restore other folder name) node off is = ap is_some (item_other 
 item_on u (deed.Relink other folder name) node off is = is
 item_on u (deed.Join rows) node off is = is
 item_on u (deed.Requote row) node off is = is
+item_on u (deed.Forget other at) node off is = is
 
 items_on : (u : Tables) (deeds : List Deed) (nodes : List ℕ) → All (λ (one : Deed). All (IsOff one) nodes) deeds → All (IsItem u) nodes
     → All (IsItem (deeds_done u deeds)) nodes
@@ -313,11 +316,22 @@ parts t now deeds sound at (by_moving transfer name known) = moving_parts t now 
 parts t now deeds sound at (by_copying transfer name known) = copying_parts t now transfer name sound at known
 parts t now deeds sound at (by_crossing transfer name known) = crossing_parts t now transfer name sound at known
 
-pub in_turn : (t : Tables) (now : ℕ) (deeds : List Deed) → AreSound t → t.meta.last ≡ now → KnownDeeds t now deeds → InTurn t now deeds
-in_turn t now deeds sound at known =
+first_turn : (t : Tables) (now : ℕ) (deeds : List Deed) → AreSound t → t.meta.last ≡ now → KnownDeeds t now deeds → InTurn t now deeds
+first_turn t now deeds sound at known =
     let p = parts t now deeds sound at known in
     subst (InTurn t now) (sym p.are)
     (turn_append t now p.first (purges p.gone) p.turn (goes_turn (deeds_done t p.first) now p.gone p.goes.once p.still))
+
+-- versions may go wherever they do
+pub forgets_turn : (t : Tables) (now : ℕ) (gone : List Version) → InTurn t now (forgets gone)
+forgets_turn t now [] = tt
+forgets_turn t now (version ∷ gone) = (tt, forgets_turn (deed_done t (deed.Forget version.node version.at)) now gone)
+
+pub in_turn : (t : Tables) (now : ℕ) (deeds : List Deed) → AreSound t → t.meta.last ≡ now → KnownSettled t now deeds → InTurn t now deeds
+in_turn t now deeds sound at settled =
+    subst (InTurn t now) (sym settled.are)
+    (turn_append t now settled.first (forgets settled.gone) (first_turn t now settled.first sound at settled.known)
+    (forgets_turn (deeds_done t settled.first) now settled.gone))
 
 -- ---- at the moment of the step
 
@@ -373,9 +387,18 @@ known_stamped t now moment deeds (by_copying transfer name k) = by_copying trans
 known_stamped t now moment deeds (by_crossing transfer name k) =
     by_crossing transfer name (record { copies = copies_stamped t moment transfer name k.copies; crosses = k.crosses })
 
+pub settled_stamped : (t : Tables) (now moment : ℕ) (deeds : List Deed) → KnownSettled t now deeds → KnownSettled (stamp t moment) now deeds
+settled_stamped t now moment deeds k = record {
+  first = k.first;
+  gone = k.gone;
+  are = k.are;
+  known = known_stamped t now moment k.first k.known;
+  there = k.there;
+}
+
 -- so a step's deeds are known in turn from the tables with its moment on
-pub step_turn : (t : Tables) (now : ℕ) (deeds : List Deed) → AreSound t → t.meta.last ≤ now → KnownDeeds t now deeds → InTurn (stamp t now) now deeds
-step_turn t now deeds sound later known = in_turn (stamp t now) now deeds (stamp_sound t now sound later) refl (known_stamped t now now deeds known)
+pub step_turn : (t : Tables) (now : ℕ) (deeds : List Deed) → AreSound t → t.meta.last ≤ now → KnownSettled t now deeds → InTurn (stamp t now) now deeds
+step_turn t now deeds sound later known = in_turn (stamp t now) now deeds (stamp_sound t now sound later) refl (settled_stamped t now now deeds known)
 
 -- which may be stamped before or after
 pub deed_stamped : (t : Tables) (now : ℕ) (one : Deed) → deed_done (stamp t now) one ≡ stamp (deed_done t one) now
@@ -385,6 +408,7 @@ deed_stamped t now (deed.Restore node folder name) = refl
 deed_stamped t now (deed.Relink node folder name) = refl
 deed_stamped t now (deed.Join rows) = refl
 deed_stamped t now (deed.Requote row) = refl
+deed_stamped t now (deed.Forget node at) = refl
 
 pub deeds_stamped : (t : Tables) (now : ℕ) (deeds : List Deed) → deeds_done (stamp t now) deeds ≡ stamp (deeds_done t deeds) now
 deeds_stamped t now [] = refl
@@ -392,7 +416,7 @@ deeds_stamped t now (one ∷ deeds) =
     ap (λ (u : Tables). deeds_done u deeds) (deed_stamped t now one) ∙ deeds_stamped (deed_done t one) now deeds
 
 -- the tables after a step are sound
-pub step_sound : (t : Tables) (now : ℕ) (deeds : List Deed) → AreSound t → t.meta.last ≤ now → KnownDeeds t now deeds
+pub step_sound : (t : Tables) (now : ℕ) (deeds : List Deed) → AreSound t → t.meta.last ≤ now → KnownSettled t now deeds
     → AreSound (stamp (deeds_done t deeds) now)
 step_sound t now deeds sound later known =
     subst AreSound (deeds_stamped t now deeds)

@@ -35,6 +35,7 @@ use Rattle.nf_defs.proofs.Puts.{all_put}
 use Rattle.nf_defs.specs.Prelude.{by_order, child_of, dropped, folder_of, group_key, is_in, is_place_in, key_cmp, made, member_key, node_row, put, Tables, token_key, user_key, user_row}
 use Rattle.nf_laws.proofs.Added.{new_there}
 use Rattle.nf_laws.proofs.Climbs.{some_there}
+use Rattle.nf_laws.proofs.Files.{files_kept, versions_still}
 use Rattle.nf_laws.proofs.Others.{items_still, others_from, trash_kept}
 use Rattle.nf_laws.proofs.Present.{kept_leads}
 use Rattle.nf_laws.proofs.Puts.{number_found, other_number, put_new}
@@ -158,7 +159,8 @@ module _ (t : Tables) (users : List UserRow) (tokens : List TokenRow) (groups : 
     others = others_from after sound.later
         (λ k d within. share_seen _ (seen.of_shares k d within) (sound.others.shares k d within)) sound.others.shares_rise sound.others.few_shares
         (λ k d within. mount_seen _ (seen.of_mounts k d within) (sound.others.mounts k d within)) sound.others.mounts_rise
-        sound.others.mounts_apart sound.others.few_mounts (items_still t after (le_refl _) (trash_kept t.nodes nodes seen.kept) sound.others.items)
+        sound.others.mounts_apart sound.others.few_mounts (versions_still t after t.versions (le_refl _) (le_refl _) sound.others.versions (files_kept t nodes sound seen.kept)) sound.others.versions_rise sound.others.few_versions
+        (items_still t after (le_refl _) (trash_kept t.nodes nodes seen.kept) sound.others.items)
         sound.others.items_rise;
   }
 

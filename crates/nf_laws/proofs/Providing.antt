@@ -1,5 +1,5 @@
 -- What is asked about users and groups changes nothing, or makes of the tables what is asked.
-use Rattle.std.proofs.Common.{◌≡◌, ◌⊎◌, inl, inr, ℕ, ◌==◌, ◌||◌, not, Bool, true, false, List, [], ◌∷◌, filter, get_or, map, Option, if◌then◌else◌, refl, sym, ap, subst, ◌∙◌}
+use Rattle.std.proofs.Common.{◌≡◌, ◌⊎◌, inl, inr, ℕ, ◌==◌, ◌||◌, not, Bool, true, false, List, [], ◌∷◌, filter, get_or, map, Option, if◌then◌else◌, refl, sym, ap, subst, ◌∙◌, flat_map}
 use Rattle.std.specs.Prelude.{None, Some, is_some}
 use Rattle.std.specs.List.{All, Contains, list_all}
 use Rattle.std.specs.Option.{option_map_or}
@@ -26,7 +26,7 @@ use Rattle.nf_words.proofs.Ensured.{each_new, each_of}
 use Rattle.nf_words.proofs.Fits.{newest}
 use Rattle.nf_words.proofs.Passing.{Passes}
 use Rattle.nf_words.proofs.Provided.{none_of}
-use Rattle.nf_words.specs.Prelude.{access_of, altered, AreSound, asked_by, asker_of, Call, call_of, changed, deed_done, done, given, gone_of, is_about_people, is_caller, is_joined, is_member, is_taken, joined_by, IsInBounds, IsSound, items_of, left_by, may_ask, MayWant, membership, mounts_joined, new_root, new_user, nothing_done, not_you_rule, people_changed, people_done, places_of, purges, put_mounts, raised, requoted, row_named, State, told, users_of}
+use Rattle.nf_words.specs.Prelude.{access_of, altered, AreSound, asked_by, asker_of, Call, call_of, changed, deed_done, done, given, gone_of, is_about_people, is_caller, is_joined, is_member, is_taken, joined_by, IsInBounds, IsSound, items_of, left_by, may_ask, MayWant, membership, mounts_joined, new_root, new_user, nothing_done, not_you_rule, people_changed, people_done, places_of, put_mounts, raised, requoted, row_named, State, told, users_of, settled_by, charged_to, requoting, unsettled, purged_by}
 use Rattle.nf_words.specs.declared.answer.Allowed.TheVariants as allowed
 use Rattle.nf_words.specs.declared.answer.Breach.{Breach}
 use Rattle.nf_words.specs.declared.answer.Breach.TheVariants as rule
@@ -198,18 +198,19 @@ module _ (s : State) (e : Entry) (words : Words) (request : Request) (begins : e
     where
       another : (row : UserRow) → row_named all user ≡ Some row → (b : Bool)
           → Provided s e (changed all e.moment (if b then nothing_done
-          else done (deed.Requote (record row { quota = quota }) ∷ purges (gone_of all e.moment quota (items_of all row.id))) report.Plain))
+          else done (settled_by all (charged_to all quota row) (requoting all e.moment quota row)) report.Plain))
       another row named true = same_provided
       another row named false =
           let did = deed.Requote (record row { quota = quota }) in
           let gone = gone_of all e.moment quota (items_of all row.id) in
-          let act = done (did ∷ purges gone) report.Plain in
+          let versions = unsettled all (charged_to all quota row) (flat_map purged_by (requoting all e.moment quota row)) in
+          let act = done (settled_by all (charged_to all quota row) (requoting all e.moment quota row)) report.Plain in
           let made = deed_done all did in
           stamped_has (Provided s e) all (altered all e.moment act) e.moment (told all act) same_provided
           (record {
             between = stamp made e.moment;
             provides = inr (providing (people.SetQuota user quota) (stamp made e.moment) want (has_quota user quota row named refl));
-            settled = some_settled s e made row.id gone (gone_of_user all sound.rows e.moment quota row.id)
+            settled = some_settled s e made row.id gone versions (gone_of_user all sound.rows e.moment quota row.id)
                 (by_quota words request user quota row begins want named);
           })
 

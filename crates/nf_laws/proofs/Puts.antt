@@ -21,9 +21,11 @@ use Rattle.nf_defs.proofs.Climbs.{under_climb, walk_among}
 use Rattle.nf_defs.proofs.Puts.{below_one, below_rest, compared, put_last, put_rising, tail_rising}
 use Rattle.nf_defs.specs.Prelude.{by_order, climb, dropped, folder_of, is_under, IsRising, key_cmp, item_row, node_key, node_row, parent_of, put, put_all, share_key, Tables, walk_of, with_node, without_under}
 use Rattle.nf_laws.proofs.Climbs.{some_there, those}
+use Rattle.nf_laws.proofs.Forgotten.{forgets_put}
+use Rattle.nf_base.specs.declared.rows.VersionRow.{VersionRow}
 use Rattle.nf_laws.proofs.Others.{item_none}
 use Rattle.nf_laws.proofs.Rows.{found_is}
-use Rattle.nf_words.specs.Prelude.{closed_under, dropped_under, ended_row, ended_under, is_closing, purged, told_deed, told_item}
+use Rattle.nf_words.specs.Prelude.{closed_under, dropped_under, ended_row, ended_under, forgotten_under, is_closing, purged, told_deed, told_item, versions_there}
 use Rattle.nf_words.specs.declared.answer.Deed.TheVariants as deed
 use Rattle.nf_words.proofs.Found.{put_is_found, put_leaves}
 
@@ -193,17 +195,23 @@ closes t nodes top done (share ∷ shares) rest rising =
 
 -- where a node goes for good with all under it, its shares are ended, its item is gone, if there is one, and the others are left
 pub goes_put : (t : Tables) (top : ℕ) (rest : List Change) → AllPairs (λ (a b : NodeRow). a.id < b.id) t.nodes → IsRising share_key t.shares
+    → All (λ (version : VersionRow). is_some (node_row t.nodes version.node) ≡ true) t.versions
     → put_all t (told_deed t (deed.Purge top) ++ rest) ≡ put_all (purged t top) rest
-goes_put t top rest rising shares_rise =
+goes_put t top rest rising shares_rise there =
     let dropped = dropped_under t.nodes top in
     let closed = closed_under t.nodes t.shares top in
-    ap (put_all t) (append_assoc (dropped ++ closed) (told_item t top) rest ∙ append_assoc dropped closed (told_item t top ++ rest))
-    ∙ drops_under t top (closed ++ (told_item t top ++ rest)) rising
-    ∙ closes (record t { nodes = without_under t.nodes top }) t.nodes top [] t.shares (told_item t top ++ rest) shares_rise
+    ap (put_all t) (append_assoc (forgotten_under t.nodes t.versions top) ((dropped ++ closed) ++ told_item t top) rest)
+    ∙ forgets_put t top (((dropped ++ closed) ++ told_item t top) ++ rest) rising there
+    ∙ ap (put_all forgot) (append_assoc (dropped ++ closed) (told_item t top) rest ∙ append_assoc dropped closed (told_item t top ++ rest))
+    ∙ drops_under forgot top (closed ++ (told_item t top ++ rest)) rising
+    ∙ closes (record forgot { nodes = without_under t.nodes top }) t.nodes top [] t.shares (told_item t top ++ rest) shares_rise
     ∙ here (item_row t.items top) refl
   where
+    forgot : Tables
+    forgot = record t { versions = versions_there (without_under t.nodes top) t.versions }
+
     gone : List ItemRow → Tables
-    gone items = record t { nodes = without_under t.nodes top; shares = ended_under t.nodes top t.shares; items = items }
+    gone items = record forgot { nodes = without_under t.nodes top; shares = ended_under t.nodes top t.shares; items = items }
 
     here : (o : Option ItemRow) → item_row t.items top ≡ o
         → put_all (gone t.items) ((if is_some o then Drop (keys.Item top) ∷ [] else []) ++ rest) ≡ put_all (purged t top) rest

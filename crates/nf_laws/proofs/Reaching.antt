@@ -1,7 +1,7 @@
 -- What who asks is served is what may be read, and what may be read is served: the own, and what a mount leads to.
-use Rattle.std.proofs.Common.{ℕ, ◌==◌, ◌≡◌, ◌≢◌, false, subst, true, Bool, List, [], ◌∷◌, Option, None, Some, Result, Ok, refl, sym, ap, ◌∙◌}
+use Rattle.std.proofs.Common.{ℕ, ◌==◌, ◌≡◌, ◌≢◌, false, subst, true, Bool, List, [], Option, None, Some, Result, Ok, refl, sym, ap, ◌∙◌, ◌⊎◌, inl, inr}
 use Rattle.std.specs.Prelude.{if◌then◌else◌}
-use Rattle.std.specs.List.{list_any}
+use Rattle.std.specs.List.{list_any, All}
 use Rattle.std.specs.Option.{option_map_or}
 use Rattle.std.proofs.lemmas.Bool.{both_ways, cond_both}
 use Rattle.std.proofs.lemmas.List.Elements.{All-head}
@@ -14,23 +14,22 @@ use Rattle.nf_base.specs.declared.rows.NodeRow.{NodeRow}
 use Rattle.nf_defs.specs.Prelude.{content_of, is_folder, node_row, Tables}
 use Rattle.nf_defs.specs.declared.Found.{Found}
 use Rattle.nf_defs.specs.declared.Found.TheVariants.{At, Free, Missing}
-use Rattle.nf_laws.proofs.Free.{unlocked_free}
+use Rattle.nf_laws.proofs.Free.{unlocked_free, read_free}
 use Rattle.nf_laws.proofs.Paths.{found_leads, leads_found}
 use Rattle.nf_laws.proofs.Reading.{IsLet, granted, shows}
 use Rattle.nf_laws.proofs.Rows.{row_id}
-use Rattle.nf_laws.specs.Access.{IsReachedBy, IsReadable, LeadsBy, ListsWhatMayBeRead, ServesWhatMayBeRead, WhatMayBeReadIsListed, WhatMayBeReadIsServed}
+use Rattle.nf_laws.specs.Access.{IsReachedBy, IsReadable, LeadsBy, ListsWhatMayBeRead, ServesWhatMayBeRead, WhatMayBeReadIsListed, WhatMayBeReadIsServed, IsReadableFile, IsReadableFolder, IsReadableVersion}
 use Rattle.nf_laws.specs.Reads.{IsFreeToRead}
 use Rattle.nf_words.proofs.Begins.{places_at, wanted_passes, WantedPasses}
-use Rattle.nf_words.proofs.Passing.{Passes, call_passes, if_none}
+use Rattle.nf_words.proofs.Passing.{Passes, call_passes, if_none, MayDo, version_acts_pass}
 use Rattle.nf_words.proofs.Starts.{has_asker}
 use Rattle.nf_words.proofs.Steps.{ok_reply, reports_nothing}
 use Rattle.nf_words.proofs.Ways.{bounded, way_there}
-use Rattle.nf_words.specs.Prelude.{access_of, allowed_of, answered_by, AreSound, behind, broken_by, by_of, Call, call_decision, call_of, copied, deleted, done, found, given, gone_of, item_dropped, item_restored, items_of, last_name, listing_of, made_folder, may_by, MayWant, mount_left, mount_of, mount_renamed, moved, Need, node_at, node_found, nothing_done, offered, own_item, people_done, perms_after, purges, reported, requoted, root_of, row_named, seeker_of, served, share_ended, share_made, share_set, share_shown, share_steered, until_after, share_told, shared, stored, transfer_of, trash_done, unreached, way_by, way_of}
+use Rattle.nf_words.specs.Prelude.{access_of, allowed_of, answered_by, AreSound, behind, broken_by, by_of, Call, call_decision, call_of, copied, deleted, done, found, given, item_dropped, item_restored, last_name, listing_of, made_folder, may_by, MayWant, mount_left, mount_of, mount_renamed, moved, Need, node_at, node_found, nothing_done, offered, own_item, people_done, perms_after, reported, requoted, root_of, row_named, seeker_of, served, share_ended, share_made, share_set, share_shown, share_steered, until_after, share_told, shared, stored, transfer_of, trash_done, unreached, way_by, way_of, charged_to, requoting, settled_by, version_done, version_row, brought_back, mount_by, needed_for, asker_of}
 use Rattle.nf_words.specs.declared.answer.Allowed.{Allowed}
 use Rattle.nf_words.specs.declared.answer.Allowed.TheVariants as allowed
 use Rattle.nf_words.specs.declared.answer.Report.TheVariants as report
 use Rattle.nf_words.specs.declared.answer.By.{By}
-use Rattle.nf_words.specs.declared.answer.Deed.TheVariants as deed
 use Rattle.nf_words.specs.declared.answer.Denial.{Denial}
 use Rattle.nf_words.specs.declared.answer.Goal.TheVariants.{Serve}
 use Rattle.nf_words.specs.declared.answer.Reply.TheVariants.{Granted, Listing}
@@ -47,6 +46,11 @@ use Rattle.nf_words.specs.declared.request.TrashAsk.{TrashAsk}
 use Rattle.nf_words.specs.declared.request.TrashAsk.TheVariants as trash
 use Rattle.nf_words.specs.declared.request.Wanted.{Wanted}
 use Rattle.nf_words.specs.declared.request.Wanted.TheVariants.{Get, Put, Mkcol, Delete, Move, Copy, People, Share, Trash}
+use Rattle.nf_words.specs.declared.request.Wanted.TheVariants as want
+use Rattle.nf_words.specs.declared.request.VersionAsk.{VersionAsk}
+use Rattle.nf_words.specs.declared.request.VersionAsk.TheVariants as version
+use Rattle.nf_base.specs.declared.rows.VersionRow.{VersionRow}
+use Rattle.nf_words.proofs.Versioned.{named_present, no_folder}
 
 -- ---- what is shown
 
@@ -57,6 +61,7 @@ report_lists_none report.Done listing = λ is. cc
 report_lists_none (report.Share line) listing = λ is. cc
 report_lists_none (report.Shares lines) listing = λ is. cc
 report_lists_none (report.Items lines) listing = λ is. cc
+report_lists_none (report.Versions lines) listing = λ is. cc
 report_lists_none report.Plain listing = λ is. cc
 
 -- only a GET is granted a content to send
@@ -125,7 +130,7 @@ people_hides : (t : Tables) (now : ℕ) (asked : PeopleAsk) → is_shown (people
 people_hides t now (people.SetQuota user quota) =
     found_hides (requoted t now quota) (row_named t user) (λ row.
     either_hides (row.quota == quota) nothing_done
-    (done (deed.Requote (record row { quota = quota }) ∷ purges (gone_of t now quota (items_of t row.id))) report.Plain) refl refl)
+    (done (settled_by t (charged_to t quota row) (requoting t now quota row)) report.Plain) refl refl)
 people_hides t now (people.NewUser name token quota) = refl
 people_hides t now (people.NewGroup name) = refl
 people_hides t now (people.AddMember user group) = refl
@@ -138,10 +143,19 @@ trash_hides call (trash.Drop user item) = found_hides (item_dropped call.state.t
 trash_hides call (trash.Empty user) = refl
 trash_hides call (trash.Restore user item) = found_hides (item_restored call.state.tables call.now) (own_item call item) (λ row. refl)
 
--- what is shown is asked for by a GET, whose place leads there
-pub asked : (call : Call) (act : Allowed) → allowed_of (access_of call.state) call ≡ act → is_shown act ≡ true
-    → (spot : Spot) × (call.request.wanted ≡ Get spot)
+-- an act that a GET asks for, whose place leads there
+abbrev pub ShowsPlace : Call → Allowed → Type 0
+ShowsPlace call act =
+    (spot : Spot) × (call.request.wanted ≡ Get spot)
     × (served (access_of call.state) call (way_of call spot).mount (node_found (found call spot)) ≡ act)
+
+-- or what is asked about versions
+abbrev pub ShowsVersion : Call → Allowed → Type 0
+ShowsVersion call act = (ask : VersionAsk) × (call.request.wanted ≡ want.Version ask) × (version_done call.state.tables call.now ask ≡ act)
+
+-- what is shown is asked for so
+pub asked : (call : Call) (act : Allowed) → allowed_of (access_of call.state) call ≡ act → is_shown act ≡ true
+    → ShowsPlace call act ⊎ ShowsVersion call act
 asked call act is shown = here call.request.wanted refl is
   where
     t : Tables
@@ -151,9 +165,9 @@ asked call act is shown = here call.request.wanted refl is
     none hidden hides same = both_ways (is_shown act) (ap is_shown (sym same) ∙ hides) shown
 
     here : (wanted : Wanted) → call.request.wanted ≡ wanted → given (access_of call.state) call (places_at call wanted) wanted ≡ act
-        → (spot : Spot) × (call.request.wanted ≡ Get spot)
-        × (served (access_of call.state) call (way_of call spot).mount (node_found (found call spot)) ≡ act)
-    here (Get spot) e is = (spot, e, is)
+        → ShowsPlace call act ⊎ ShowsVersion call act
+    here (Get spot) e is = inl (spot, e, is)
+    here (want.Version ask) e is = inr (ask, e, is)
     here (Put spot length) e is =
         absurd (none (stored (by_of call spot) (last_name spot) length (Some (found call spot)))
         (stored_hides (by_of call spot) (last_name spot) length (Some (found call spot))) is)
@@ -179,6 +193,56 @@ asked call act is shown = here call.request.wanted refl is
         (shared_hides call (places_at call (Share ask)) ask) is)
     here (People ask) e is = absurd (none (people_done t call.now ask) (people_hides t call.now ask) is)
     here (Trash ask) e is = absurd (none (trash_done call ask) (trash_hides call ask) is)
+
+-- which lists no folder
+version_lists_none : (t : Tables) (now : ℕ) (ask : VersionAsk) (listing : List ListingLine) → version_done t now ask ≡ allowed.List listing → ⊥
+version_lists_none t now (version.List user node) listing is = cc
+version_lists_none t now (version.Get user node at) listing is = here (version_row t.versions node at) is
+  where
+    here : (o : Option VersionRow) → option_map_or (λ (row : VersionRow). allowed.Get node row.content) o nothing_done ≡ allowed.List listing → ⊥
+    here None is = cc
+    here (Some row) is = cc
+version_lists_none t now (version.Restore user node at) listing is = here (version_row t.versions node at) is
+  where
+    here : (o : Option VersionRow) → option_map_or (brought_back t now node) o nothing_done ≡ allowed.List listing → ⊥
+    here None is = cc
+    here (Some row) is = cc
+
+-- and sends the content of a version that is there
+pub record IsSent (t : Tables) (ask : VersionAsk) (node : ℕ) (content : List Piece) : Type 0 where
+  pub user : List ℕ
+  pub at : ℕ
+  pub row : VersionRow
+  pub is : ask ≡ version.Get user node at
+  pub there : version_row t.versions node at ≡ Some row
+  pub sent : row.content ≡ content
+
+pub sent_by : (t : Tables) (now : ℕ) (ask : VersionAsk) (node : ℕ) (content : List Piece) → version_done t now ask ≡ allowed.Get node content
+    → IsSent t ask node content
+sent_by t now (version.List user n) node content is = absurd (cc)
+sent_by t now (version.Get user n at) node content is = here (version_row t.versions n at) refl is
+  where
+    here : (o : Option VersionRow) → version_row t.versions n at ≡ o
+        → option_map_or (λ (row : VersionRow). allowed.Get n row.content) o nothing_done ≡ allowed.Get node content
+        → IsSent t (version.Get user n at) node content
+    here None there is = absurd (cc)
+    here (Some row) there is =
+        let same : n ≡ node = cc in
+        let sent : row.content ≡ content = cc in
+        record {
+          user = user;
+          at = at;
+          row = row;
+          is = ap (λ (k : ℕ). version.Get user k at) same;
+          there = ap (λ (k : ℕ). version_row t.versions k at) (sym same) ∙ there;
+          sent = sent;
+        }
+sent_by t now (version.Restore user n at) node content is = here (version_row t.versions n at) is
+  where
+    here : (o : Option VersionRow) → option_map_or (brought_back t now n) o nothing_done ≡ allowed.Get node content
+        → IsSent t (version.Restore user n at) node content
+    here None is = absurd (cc)
+    here (Some row) is = absurd (cc)
 
 -- a GET gives that of the node at its place
 pub get_at : (call : Call) (mount : Option ℕ) (place : Found) (node : ℕ) (content : List Piece)
@@ -300,38 +364,93 @@ reads call spot node sound may passes wanted at =
       by = refl;
     }
 
+-- a version that is sent is one that may be read
+version_readable : (call : Call) (user : List ℕ) (node at : ℕ) (row : VersionRow) (content : List Piece) → AreSound call.state.tables
+    → MayWant call.request → Passes (access_of call.state) call → call.request.wanted ≡ want.Version (version.Get user node at)
+    → version_row call.state.tables.versions node at ≡ Some row → row.content ≡ content → IsReadableVersion call content
+version_readable call user node at row content sound may passes wanted there sent =
+    let t = call.state.tables in
+    let ask = version.Get user node at in
+    let p = subst (WantedPasses call) wanted (wanted_passes call may passes) in
+    let mount = mount_by (access_of call.state) t.nodes t.mounts (seeker_of call) (asker_of call) call.now Read node in
+    record {
+      user = user;
+      node = node;
+      at = at;
+      asked = wanted;
+      well = record { token = passes.token; not_you = passes.not_you; forbidden = passes.forbidden; linked = p.place.linked };
+      present = named_present call sound ask p.named;
+      file = no_folder call sound ask p.version;
+      row = row;
+      there = there;
+      seen = p.named;
+      may = All-head (MayDo (access_of call.state) call) (record { act = Read; node = node; mount = mount }) []
+          (subst (λ (w : Wanted). All (MayDo (access_of call.state) call) (needed_for (access_of call.state) call w)) wanted
+          (version_acts_pass (access_of call.state) call passes.acts));
+      free = read_free call node (rw wanted refl) passes.locked;
+      sent = sent;
+    }
+
 pub serves_readable : ServesWhatMayBeRead
 serves_readable s seat now words request content sound may is =
-    let call = call_of s seat now words request in
-    let get = got (call_decision call) content is in
-    let act = allowed.Get get.0 content in
-    let passes = call_passes call act get.1 in
-    let spot = asked call act passes.1 refl in
-    let at = get_at call (way_of call spot.0).mount (found call spot.0) get.0 content spot.2 in
-    let of = reads call spot.0 get.0 sound.rows may passes.0 spot.1 at.0 in
-    record {
-      row = of.row;
-      readable = of.readable;
-      file = rw of.there at at.1;
-      free = subst (IsFreeToRead s seat) (sym of.id) (unlocked_free call spot.0 get.0 spot.1 at.0 passes.0.locked at.1);
-      sent = sym (at.2 ∙ ap (λ (o : Option NodeRow). option_map_or (λ row. row.content) o []) of.there);
-    }
+    elim (asked call act passes.1 refl) [
+      | inl spot ↦ inl (file spot)
+      | inr ask ↦
+          (let of = sent_by s.tables now ask.0 get.0 content ask.2 in
+          inr (version_readable call of.user get.0 of.at of.row content sound.rows may passes.0 (ask.1 ∙ ap want.Version of.is) of.there of.sent))
+    ]
+  where
+    call : Call
+    call = call_of s seat now words request
+
+    get : (node : ℕ) × (call_decision call ≡ Ok (allowed.Get node content))
+    get = got (call_decision call) content is
+
+    act : Allowed
+    act = allowed.Get get.0 content
+
+    passes : Passes (access_of s) call × (allowed_of (access_of s) call ≡ act)
+    passes = call_passes call act get.1
+
+    file : ShowsPlace call act → IsReadableFile call content
+    file spot =
+        let at = get_at call (way_of call spot.0).mount (found call spot.0) get.0 content spot.2 in
+        let of = reads call spot.0 get.0 sound.rows may passes.0 spot.1 at.0 in
+        record {
+          row = of.row;
+          readable = of.readable;
+          file = rw of.there at at.1;
+          free = subst (IsFreeToRead s seat) (sym of.id) (unlocked_free call spot.0 get.0 spot.1 at.0 passes.0.locked at.1);
+          sent = sym (at.2 ∙ ap (λ (o : Option NodeRow). option_map_or (λ row. row.content) o []) of.there);
+        }
 
 pub lists_readable : ListsWhatMayBeRead
 lists_readable s seat now words request listing sound may is =
-    let call = call_of s seat now words request in
-    let act = allowed.List listing in
-    let passes = call_passes call act (got_listing (call_decision call) listing is) in
-    let spot = asked call act passes.1 refl in
-    let at = list_at call (way_of call spot.0).mount (found call spot.0) listing spot.2 in
-    let of = reads call spot.0 at.0 sound.rows may passes.0 spot.1 at.1 in
-    record {
-      row = of.row;
-      readable = of.readable;
-      folder = rw of.there at at.2;
-      listed = at.3 ∙ ap (λ (mount : Option ℕ). listing_of (access_of s) call mount at.0) (way_mount call spot.0)
-          ∙ (λ i. listing_of (access_of s) call (mount_of call (sym of.by i)) (sym of.id i));
-    }
+    elim (asked call act passes.1 refl) [
+      | inl spot ↦ folder spot
+      | inr ask ↦ absurd (version_lists_none s.tables now ask.0 listing ask.2)
+    ]
+  where
+    call : Call
+    call = call_of s seat now words request
+
+    act : Allowed
+    act = allowed.List listing
+
+    passes : Passes (access_of s) call × (allowed_of (access_of s) call ≡ act)
+    passes = call_passes call act (got_listing (call_decision call) listing is)
+
+    folder : ShowsPlace call act → IsReadableFolder call listing
+    folder spot =
+        let at = list_at call (way_of call spot.0).mount (found call spot.0) listing spot.2 in
+        let of = reads call spot.0 at.0 sound.rows may passes.0 spot.1 at.1 in
+        record {
+          row = of.row;
+          readable = of.readable;
+          folder = rw of.there at at.2;
+          listed = at.3 ∙ ap (λ (mount : Option ℕ). listing_of (access_of s) call mount at.0) (way_mount call spot.0)
+              ∙ (λ i. listing_of (access_of s) call (mount_of call (sym of.by i)) (sym of.id i));
+        }
 
 -- ---- what may be read is served
 

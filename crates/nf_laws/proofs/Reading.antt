@@ -1,5 +1,5 @@
 -- What a PUT stored is what a later GET of the path is granted.
-use Rattle.std.proofs.Common.{ℕ, Bool, suc, ◌+◌, ◌==◌, ◌&&◌, ◌≡◌, true, false, not, List, [], ◌∷◌, ◌++◌, Option, None, Some, Result, Ok, length, take, option_map, refl, sym, ap, subst, ◌∙◌, arith, le_refl, ◌≢◌, ◌<◌, get_or}
+use Rattle.std.proofs.Common.{ℕ, Bool, suc, ◌+◌, ◌==◌, ◌≡◌, true, false, not, List, [], ◌∷◌, ◌++◌, Option, None, Some, Result, Ok, length, take, option_map, refl, sym, ap, subst, ◌∙◌, arith, le_refl, ◌≢◌, ◌<◌, get_or}
 use Rattle.std.specs.Prelude.{IsOk, is_some, if◌then◌else◌}
 use Rattle.std.specs.Option.{option_map_or, IfSome}
 use Rattle.std.proofs.Math.Seq.{take-length}
@@ -9,13 +9,10 @@ use Rattle.nf_access.specs.Access.{Allows, allows, is_open}
 use Rattle.nf_access.specs.Mounts.{mount_at}
 use Rattle.nf_access.specs.Shares.{Ground, ground_of}
 use Rattle.nf_base.specs.Content.{content_eq}
-use Rattle.nf_base.specs.declared.changes.Change.{Change}
-use Rattle.nf_base.specs.declared.changes.Change.TheVariants.{Put}
 use Rattle.nf_base.specs.declared.content.Piece.{Piece}
 use Rattle.nf_base.specs.declared.rows.NodeKind.TheVariants.{File}
 use Rattle.nf_base.specs.declared.rows.NodeRow.{NodeRow}
 use Rattle.nf_base.specs.declared.rows.Place.TheVariants.{Inside}
-use Rattle.nf_base.specs.declared.rows.Row.TheVariants as rows
 use Rattle.nf_base.specs.declared.rows.ShareRow.{ShareRow}
 use Rattle.nf_defs.proofs.Climbs.{holds_some}
 use Rattle.nf_defs.specs.Prelude.{child_of, filled, is_folder, is_folder_kind, Leads, leads_on, node_key, node_row, put, stays, Tables, with_node}
@@ -41,7 +38,7 @@ use Rattle.nf_words.proofs.Orders.{none_of}
 use Rattle.nf_words.proofs.Passing.{Passes, in_order}
 use Rattle.nf_words.proofs.Starts.{by_link, by_user, has_asker, IsAsking, link_mount, link_seeks, user_no_link, user_seeks}
 use Rattle.nf_words.proofs.Ways.{bounded}
-use Rattle.nf_words.specs.Prelude.{access_of, acts_rule, after, after_mark, allowed_of, answered_by, AreSound, asker_of, blob_for, broken_by, Call, call_decision, call_of, caller_row, changed, content_in, decision_of, end_refusal, ends_at, exists_rule, found, IsSound, IsHeld, IsStorable, is_by_link, is_owner, limit_rule, link_of, linked_of, makes, may_by, mount_for, mount_of, mounted, new_node, overwrite_rule, place_rule, refilled, replay, root_of, rules, seeker_of, shown, State, stored_at, stores, target_rule, unless_refused, unreached, way_of, AreApartHolds, HoldsFor, IsTicketSound, step, ticket_of, without_ticket, Way, way_by, named_rule, sharing_rule, room_rule, quota_rule}
+use Rattle.nf_words.specs.Prelude.{access_of, acts_rule, after, after_mark, allowed_of, answered_by, AreSound, asker_of, blob_for, broken_by, Call, call_decision, call_of, caller_row, changed, content_in, decision_of, end_refusal, ends_at, exists_rule, found, IsSound, IsHeld, IsStorable, is_by_link, is_owner, limit_rule, link_of, linked_of, may_by, mount_for, mount_of, mounted, new_node, overwrite_rule, place_rule, refilled, replay, root_of, rules, seeker_of, shown, State, stored_at, stores, target_rule, unless_refused, unreached, way_of, AreApartHolds, HoldsFor, IsTicketSound, step, ticket_of, without_ticket, Way, way_by, named_rule, sharing_rule, room_rule, quota_rule, is_same, stored_new, charged, content_size, unsettled, version_rule}
 use Rattle.nf_words.specs.declared.answer.Allowed.{Allowed}
 use Rattle.nf_words.specs.declared.answer.Allowed.TheVariants as allowed
 use Rattle.nf_words.specs.declared.answer.Denial.{Denial}
@@ -69,6 +66,7 @@ use Rattle.nf_words.specs.declared.history.Ticket.{Ticket}
 use Rattle.std.proofs.lemmas.List.Elements.{All-filter, filter_passes}
 use Rattle.std.proofs.lemmas.Option.{none-some, same_Some}
 use Rattle.std.specs.List.{All, list_any}
+use Rattle.nf_laws.proofs.Refilled.{added_made, changed_nodes, refilled_made}
 
 -- ---- paths that stay
 
@@ -115,13 +113,15 @@ record HasFile (rows : List NodeRow) (root : ℕ) (path : List (List ℕ)) (cont
 
 over_file : (t : Tables) (now node root : ℕ) (path : List (List ℕ)) (content : List Piece) (blob : Option ℕ) (old : NodeRow)
     → AreSound t → node_row t.nodes node ≡ Some old → is_folder_kind old.kind ≡ false → Leads t.nodes root path node
-    → HasFile (changed t now (allowed.Change (refilled (Some old) now content) blob Done)).nodes root path content node
+    → HasFile (changed t now (allowed.Change (refilled t now content old) blob Done)).nodes root path content node
 over_file t now node root path content blob old sound there file led =
-    let HasIt : List Change → Type 0 = λ changes. HasFile (changed t now (allowed.Change changes blob Done)).nodes root path content node in
+    let HasIt : List NodeRow → Type 0 = λ nodes. HasFile nodes root path content node in
     let change = filled content now in
     let after : List NodeRow = with_node t.nodes node change in
-    let put : put node_key (change old) t.nodes ≡ after = put_changed t.nodes node change old refl sound.rising there in
-    cond_both (content_eq old.content content && old.changed == now) [] (Put (rows.Node (change old)) ∷ []) HasIt
+    let put_in : put node_key (change old) t.nodes ≡ after = put_changed t.nodes node change old refl sound.rising there in
+    subst HasIt
+    (sym (changed_nodes t now (refilled t now content old) blob Done ∙ ap (λ (u : Tables). u.nodes) (refilled_made t now content old)))
+    (cond_both (is_same now content old) t.nodes (put node_key (change old) t.nodes) HasIt
     (λ same. record {
       led = led;
       row = old;
@@ -130,23 +130,25 @@ over_file t now node root path content blob old sound there file led =
       filled = (content_decides old.content content).0 (and_parts (content_eq old.content content) (old.changed == now) same).0;
     })
     (λ other.
-    subst (λ (nodes : List NodeRow). HasFile nodes root path content node) (sym put)
+    subst HasIt (sym put_in)
     (record {
       led = leads_kept t.nodes after root path node (kept_replaced t.nodes now node content) led;
       row = change old;
       there = row_itself t.nodes node change (λ row. refl) ∙ ap (option_map change) there;
       file = file;
       filled = refl;
-    }))
+    })))
 
 new_file : (t : Tables) (now folder root : ℕ) (name : List ℕ) (front : List (List ℕ)) (content : List Piece) (blob : Option ℕ) → AreSound t
     → is_folder t.nodes folder ≡ true → Leads t.nodes root front folder
-    → HasFile (changed t now (makes (new_node t now folder name File content) blob)).nodes root (front ++ name ∷ []) content t.meta.next_node
+    → HasFile (changed t now (stored_new t (new_node t now folder name File content) blob)).nodes root (front ++ name ∷ []) content t.meta.next_node
 new_file t now folder root name front content blob sound folds led =
     let row = new_node t now folder name File content in
     let behind : List NodeRow = t.nodes ++ row ∷ [] in
     let kept = kept_joined t.nodes (row ∷ []) in
-    subst (λ (nodes : List NodeRow). HasFile nodes root (front ++ name ∷ []) content t.meta.next_node) (sym (put_new row t.nodes (newest t sound)))
+    let gone = unsettled t (charged t row.owner 0 (content_size content)) [] in
+    subst (λ (nodes : List NodeRow). HasFile nodes root (front ++ name ∷ []) content t.meta.next_node)
+    (sym (ap (λ (u : Tables). u.nodes) (added_made t row gone) ∙ put_new row t.nodes (newest t sound)))
     (record {
       row = row;
       led = leads_more behind root front folder row (leads_kept t.nodes behind root front folder kept led)
@@ -169,7 +171,7 @@ stored_file t now (Node node) digest size root path sound there led =
     let content = content_in (blob_for t.meta.next_blob size) digest size in
     let blob = blob_for t.meta.next_blob size in
     let file = holds_some (λ row. not (is_folder_kind row.kind)) (node_row t.nodes node) there in
-    subst (λ (o : Option NodeRow). HasFile (changed t now (allowed.Change (refilled o now content) blob Done)).nodes root path content node) (sym file.1)
+    subst (λ (o : Option NodeRow). HasFile (changed t now (allowed.Change (option_map_or (refilled t now content) o []) blob Done)).nodes root path content node) (sym file.1)
     (over_file t now node root path content blob file.0 sound file.1 (not-true (is_folder_kind file.0.kind) file.2) led)
 stored_file t now (Slot folder name) digest size root path sound there (front, parts, led) =
     let blob = blob_for t.meta.next_blob size in
@@ -296,7 +298,7 @@ led_shown call spot node row sound asked reads led there = here (has_asker call 
 -- a call of a GET that the rules of who asks, of names and of access pass is shown what its path leads to
 pub shows : (call : Call) (spot : Spot) (node : ℕ) → call.request.wanted ≡ Get spot → found call spot ≡ At node → IsWellAsked call
     → IsLet call spot node → (is_folder call.state.tables.nodes node ≡ false → IsFreeToRead call.state call.seat node) → call_decision call ≡ Ok (shown (access_of call.state) call (way_of call spot).mount node)
-unfolding place_rule named_rule acts_rule exists_rule target_rule overwrite_rule sharing_rule limit_rule room_rule quota_rule
+unfolding place_rule named_rule acts_rule version_rule exists_rule target_rule overwrite_rule sharing_rule limit_rule room_rule quota_rule
 shows call spot node wanted at asked lets free =
     let access = access_of call.state in
     let passes : Passes access call = record {
@@ -306,6 +308,7 @@ shows call spot node wanted at asked lets free =
       place = rw (wanted, asked.linked, at, lets.reached) refl;
       named = rw wanted refl;
       acts = rw (wanted, at, lets.reads) refl;
+      version = rw wanted refl;
       exists = rw wanted refl;
       target = rw wanted refl;
       overwrite = rw wanted refl;

@@ -32,7 +32,7 @@ use Rattle.nf_laws.proofs.Upwards.{climbs_is_under}
 use Rattle.nf_laws.proofs.Weighing.{copies_owned, parts_sum, without_owned}
 use Rattle.nf_laws.specs.Charges.{bytes_owned, owned_bytes}
 use Rattle.nf_words.proofs.Found.{child_parent}
-use Rattle.nf_words.proofs.Known.{KnownCopies, KnownCross, KnownDeeds, KnownLeaving, KnownMove, KnownTransfer}
+use Rattle.nf_words.proofs.Known.{KnownCopies, KnownCross, KnownDeeds, KnownLeaving, KnownMove, KnownTransfer, alone}
 use Rattle.nf_words.proofs.Known.KnownDeeds.{by_copying, by_crossing, by_moving}
 use Rattle.nf_words.proofs.Transfers.{replaced_leaves}
 use Rattle.nf_words.proofs.Ways.{inside_present, inside_there}
@@ -399,7 +399,7 @@ requoted_charge t row old user there root = counts_below t made user was t.nodes
 -- ---- deeds that lower charges
 
 -- no charge is more after them, and no quota another, whatever tables they are done in
-abbrev IsLower : List Deed → Tables → ℕ → Type 0
+abbrev pub IsLower : List Deed → Tables → ℕ → Type 0
 IsLower deeds t user = (charge_of (deeds_done t deeds) user ≤ charge_of t user) × (quota_of (deeds_done t deeds) user ≡ quota_of t user)
 
 abbrev pub Lower : List Deed → Type 0
@@ -486,21 +486,26 @@ afforded t made user owner old new none quota = here (owner == user) refl
 
 -- ---- what comes back
 
-pub restored_keeps : (t : Tables) (node folder user : ℕ) (name : List ℕ) (item : ItemRow) → AreSound t → item_row t.items node ≡ Some item
-    → restore_excess t item ≡ None → KeepsCharge t user (restored t node folder name)
-restored_keeps t node folder user name item sound there none =
+-- its owner is charged for it
+pub restored_less : (t : Tables) (node folder user : ℕ) (name : List ℕ) (item : ItemRow) → AreSound t → item_row t.items node ≡ Some item
+    → charge_of (restored t node folder name) user ≤ charge_of t user + (if item.owner == user then size_of t.nodes item.node else 0)
+restored_less t node folder user name item sound there =
     let found = found_is (IsItemSound t) (λ (item : ItemRow). item.node == node) t.items item sound.others.items there in
     let id = eqb-true item.node node found.0 in
     let of = found.1 in
     let row : node_row t.nodes node ≡ Some of.of = ap (node_row t.nodes) (sym id) ∙ of.there in
-    afforded t (restored t node folder name) user item.owner 0 (size_of t.nodes item.node) none refl
-    (omega (
+    omega (
       arith,
-      alike (item.owner == user) 0,
       restored_charge t node folder user name of.of sound row,
       ap (λ (owner : ℕ). if owner == user then size_of t.nodes node else 0) of.owner,
       ap (λ (n : ℕ). if item.owner == user then size_of t.nodes n else 0) id,
-    ))
+    )
+
+pub restored_keeps : (t : Tables) (node folder user : ℕ) (name : List ℕ) (item : ItemRow) → AreSound t → item_row t.items node ≡ Some item
+    → restore_excess t item ≡ None → KeepsCharge t user (restored t node folder name)
+restored_keeps t node folder user name item sound there none =
+    afforded t (restored t node folder name) user item.owner 0 (size_of t.nodes item.node) none refl
+    (omega (arith, alike (item.owner == user) 0, restored_less t node folder user name item sound there))
 
 -- ---- MOVE and COPY
 
@@ -514,7 +519,7 @@ first_sound : (t : Tables) (now : ℕ) (xs ys : List Deed) → AreSound t → t.
     → AreSound (stamp (deeds_done t xs) now)
 first_sound t now xs ys sound later known =
     subst AreSound (deeds_stamped t now xs)
-    (turn_sound (stamp t now) now xs ys (stamp_sound t now sound later) refl (step_turn t now (xs ++ ys) sound later known))
+    (turn_sound (stamp t now) now xs ys (stamp_sound t now sound later) refl (step_turn t now (xs ++ ys) sound later (alone t now (xs ++ ys) known)))
 
 module _ (t : Tables) (now user : ℕ) (transfer : Transfer) (name : List ℕ) (sound : AreSound t) (later : t.meta.last ≤ now) where
   -- the deeds by which what is replaced leaves its place
@@ -563,15 +568,58 @@ module _ (t : Tables) (now user : ℕ) (transfer : Transfer) (name : List ℕ) (
           (λ e. left_leads t row.id transfer.node sound outside known.present)
           (λ e. discarded_leads t (item_for now row) transfer.node sound outside known.present)
 
-  pub moves_keep : KnownMove t transfer name → KeepsCharge t user (deeds_done t (moves t now name transfer))
+  -- no charge is more, and no quota another, where what is moved stays its owner's
+  pub moves_less : KnownMove t transfer name → IsLower (moves t now name transfer) t user
   unfolding charge_of
-  moves_keep move =
+  moves_less move =
       let one = deed.Relink transfer.node transfer.folder name in
       let rest = besides t now transfer.replaced in
       let fine = first_sound t now first (one ∷ rest) sound later (by_moving transfer name move) in
       let same = relinked_charge (stamp left now) transfer.node transfer.folder user name fine (source_present move.known) in
-      around_keeps t user first rest one (besides_lower t now transfer.replaced)
-      (inl (omega (arith, same, (discards_lower t now transfer.replaced t user).0)))
+      let less = discards_lower t now transfer.replaced t user in
+      let after = besides_lower t now transfer.replaced (deed_done left one) user in
+      subst (λ (u : Tables). (charge_of u user ≤ charge_of t user) × (quota_of u user ≡ quota_of t user)) (sym (deeds_append t first (one ∷ rest)))
+      (omega (arith, same, less.0, after.0), after.1 ∙ less.1)
+
+  pub moves_keep : KnownMove t transfer name → KeepsCharge t user (deeds_done t (moves t now name transfer))
+  moves_keep move = inl (moves_less move).0
+
+  -- the owner of the folder is charged for the copies, in the place of what is replaced, and no quota is another
+  abbrev pub IsComing : Tables → Type 0
+  IsComing made =
+      (charge_of made user + (if owner_of t.nodes transfer.folder == user then option_map_or (size_of t.nodes) transfer.replaced 0 else 0)
+      ≤ charge_of t user + (if owner_of t.nodes transfer.folder == user then size_of t.nodes transfer.node else 0))
+      × (quota_of made user ≡ quota_of t user)
+
+  joined_less : (rest : List Deed) → KnownDeeds t now (first ++ deed.Join (copies_to t now transfer name) ∷ rest) → KnownTransfer t transfer name
+      → Lower rest → IsComing (deeds_done t (first ++ deed.Join (copies_to t now transfer name) ∷ rest))
+  unfolding charge_of
+  joined_less rest deeds known lower =
+      let rows = copies_to t now transfer name in
+      let one = deed.Join rows in
+      let fine = first_sound t now first (one ∷ rest) sound later deeds in
+      let after = lower (joined left rows) user in
+      let less = discards_lower t now transfer.replaced t user in
+      subst IsComing (sym (deeds_append t first (one ∷ rest))) (
+        omega (
+          arith,
+          joined_charge (stamp left now) rows user fine,
+          copies_owned t now user transfer name sound known.source,
+          replaced_charge known,
+          after.0,
+        ),
+        after.1 ∙ less.1,
+      )
+
+  pub copies_less : KnownCopies t transfer name → IsComing (deeds_done t (copies t now name transfer))
+  copies_less known = joined_less (besides t now transfer.replaced) (by_copying transfer name known) known.known (besides_lower t now transfer.replaced)
+
+  pub crossing_less : KnownCross t transfer name → IsComing (deeds_done t (crossing t now name transfer))
+  crossing_less cross =
+      let node = Some transfer.node in
+      joined_less (discards t now node ++ (besides t now transfer.replaced ++ besides t now node)) (by_crossing transfer name cross) cross.copies.known
+      (lower_append (discards t now node) (besides t now transfer.replaced ++ besides t now node) (discards_lower t now node)
+      (lower_append (besides t now transfer.replaced) (besides t now node) (besides_lower t now transfer.replaced) (besides_lower t now node)))
 
   -- copies come in the place of what is replaced
   joined_keeps : (rest : List Deed) → KnownDeeds t now (first ++ deed.Join (copies_to t now transfer name) ∷ rest) → KnownTransfer t transfer name

@@ -17,8 +17,9 @@ use Rattle.nf_laws.proofs.Present.{kept_leads}
 use Rattle.nf_laws.proofs.Rows.{AreKept, kept_row}
 use Rattle.nf_laws.proofs.Sources.{was_given}
 use Rattle.nf_laws.specs.Access.{shares_without}
-use Rattle.nf_laws.specs.Acts.{IsAdded, IsRefilled}
+use Rattle.nf_laws.specs.Acts.{IsAdded}
 use Rattle.nf_words.specs.Prelude.{AreSound, ended_row, LeadsToRoot}
+use Rattle.nf_laws.proofs.Refilled.{IsFilledAt}
 
 -- ---- the shares
 
@@ -86,25 +87,25 @@ added_present t made now folder name kind content sound is node up there =
     kept_leads t.nodes made.nodes node (λ other old was.
     kept_row made.nodes other old (is.others other (λ same. omega (arith, was_given t other old sound was, same)) ∙ was)) up
 
-pub refilled_present : (t made : Tables) (now node : ℕ) (content : List Piece) → IsRefilled t made now node content
-    → KeepsPresent t.nodes made.nodes
-refilled_present t made now node content is other up there = kept_leads t.nodes made.nodes other kept up
+pub filled_present : (before after : List NodeRow) (now node : ℕ) (content : List Piece) → IsFilledAt before after now node content
+    → KeepsPresent before after
+filled_present before after now node content is other up there = kept_leads before after other kept up
   where
-    kept : AreKept t.nodes made.nodes
+    kept : AreKept before after
     kept one old was =
         elim (cases_Bool (one == node)) [
           | inl same ↦
               (let e = eqb-true one node same in
-              let row : is.row ≡ old = same_Some is.row old (sym is.there ∙ ap (node_row t.nodes) (sym e) ∙ was) in
+              let row : is.row ≡ old = same_Some is.row old (sym is.there ∙ ap (node_row before) (sym e) ∙ was) in
               record {
                 row = record is.row { content = content; changed = now };
-                there = ap (node_row made.nodes) e ∙ is.itself;
+                there = ap (node_row after) e ∙ is.itself;
                 owner = ap (λ (r : NodeRow). r.owner) row;
                 place = ap (λ (r : NodeRow). r.place) row;
                 name = ap (λ (r : NodeRow). r.name) row;
                 kind = ap (λ (r : NodeRow). r.kind) row;
               })
-          | inr other ↦ kept_row made.nodes one old (is.others one (λ e. both_ways (one == node) other (eq-eqb one node e)) ∙ was)
+          | inr other ↦ kept_row after one old (is.others one (λ e. both_ways (one == node) other (eq-eqb one node e)) ∙ was)
         ]
 
 -- what has to go isn't there

@@ -28,6 +28,7 @@ use Rattle.nf_words.specs.Prelude.{AreSound, asker_of, Call, changed, deeds_done
 use Rattle.nf_words.specs.declared.answer.Allowed.TheVariants as allowed
 use Rattle.nf_words.specs.declared.answer.Deed.TheVariants as deed
 use Rattle.nf_words.specs.declared.answer.Report.{Report}
+use Rattle.nf_laws.proofs.Turning.{purges_keep, versions_left, deeds_fewer}
 
 -- ---- what of a user's trash goes for good
 
@@ -45,11 +46,13 @@ taken_rows t now tops report sound goes = here tops goes
           none = h.none;
           others = h.others;
           items = h.items;
+          versions = versions_left t (purges tops) sound (purges_keep tops);
           rest = ap (λ (u : Tables). stamp u moment) (purged_rest t tops)
               ∙ (λ i. record t {
                 meta = record t.meta { last = moment };
                 nodes = (deeds_done t (purges tops)).nodes;
                 shares = shares_purged t tops sound goes.items goes.once i;
+                versions = (deeds_done t (purges tops)).versions;
                 items = (deeds_done t (purges tops)).items;
               });
         }
@@ -136,7 +139,7 @@ module _ (t : Tables) (item : ItemRow) (sound : AreSound t) (known : KnownRestor
     back_shares : left.shares ≡ t.shares
     back_shares = shares_purged back gone back_sound still once
 
-    back_beside : AreGoneBeside t back left item.node gone
+    pub back_beside : AreGoneBeside t back left item.node gone
     back_beside =
         goes_beside t back left item.node gone row_off
         (λ k d within. (
@@ -169,11 +172,13 @@ restored_rows call item gone sound there known own theirs others once = record {
   emptied = record { items = theirs; gone = beside.gone; none = purge.none };
   others = beside.others;
   items = λ other differs off. purge.items other off ∙ item_other item.node other t.items differs;
+  versions = deeds_fewer t (deed.Restore item.node (home_of t item) (name_back t item) ∷ purges gone);
   rest = ap (λ (made : Tables). stamp made call.now) (purged_rest u gone)
       ∙ (λ i. record t {
         meta = record t.meta { last = call.now };
         nodes = (deeds_done u (purges gone)).nodes;
         shares = back_shares t item sound known gone items others once i;
+        versions = (deeds_done u (purges gone)).versions;
         items = (deeds_done u (purges gone)).items;
       });
 }

@@ -3,7 +3,7 @@ use Rattle.std.proofs.Common.{ℕ, ◌==◌, ◌≡◌, ◌⊎◌, Bool, true, f
 use Rattle.std.specs.List.{All, flat_map}
 use Rattle.std.specs.Option.{option_and_then, option_map_or}
 use Rattle.std.proofs.lemmas.Bool.{eqb-true, false≢true}
-use Rattle.std.proofs.lemmas.List.{map-id}
+use Rattle.std.proofs.lemmas.List.{map-id, append-nil}
 use Rattle.std.proofs.lemmas.List.Elements.{All-cons, All-filter, All-map, All-nil}
 use Rattle.std.proofs.lemmas.Option.{none-some}
 use Rattle.nf_base.specs.declared.rows.ItemRow.{ItemRow}
@@ -19,7 +19,7 @@ use Rattle.nf_laws.specs.Access.{by_asking, by_delete, by_sweep, ChangesAllowed,
 use Rattle.nf_laws.specs.Acts.{IsItemOf}
 use Rattle.nf_words.proofs.Sweeping.{owned, swept_goes}
 use Rattle.nf_words.proofs.Trashing.{gone_has, own_there}
-use Rattle.nf_words.specs.Prelude.{AreSound, asker_of, Call, call_of, changed, deed_done, deeds_done, gone_beside, gone_from, gone_of, home_of, IsSound, item_dropped, item_if_of, item_restored, items_but, items_of, name_back, Need, nothing_done, own_item, owners_of, purges, quota_of, restored, State, swept, told, trash_done}
+use Rattle.nf_words.specs.Prelude.{AreSound, asker_of, Call, call_of, changed, deed_done, deeds_done, gone_beside, gone_from, gone_of, home_of, IsSound, item_dropped, item_if_of, item_restored, items_but, items_of, name_back, Need, nothing_done, own_item, owners_of, purges, quota_of, restored, State, swept, told, trash_done, forgets, unsettled, charged, item_size, purged_by, restoring}
 use Rattle.nf_words.specs.declared.answer.Allowed.TheVariants as allowed
 use Rattle.nf_words.specs.declared.answer.Deed.{Deed}
 use Rattle.nf_words.specs.declared.answer.Deed.TheVariants as deed
@@ -32,6 +32,7 @@ use Rattle.nf_words.specs.declared.request.TrashAsk.{TrashAsk}
 use Rattle.nf_words.specs.declared.request.TrashAsk.TheVariants as trash
 use Rattle.nf_words.specs.declared.request.Wanted.TheVariants.{Trash}
 use Rattle.nf_words.specs.declared.request.Words.{Words}
+use Rattle.nf_retention.specs.declared.versions.Version.{Version}
 
 -- ---- the items of a user
 
@@ -67,11 +68,16 @@ done_append t (x ∷ xs) ys = done_append (deed_done t x) xs ys
 
 -- nothing goes
 pub none_settled : (s : State) (e : Entry) (made : Tables) → IsSettled s e made made
-none_settled s e made = record { tops = []; items = All-nil (IsItemSettled s e); gone = refl }
+none_settled s e made = record { tops = []; items = All-nil (IsItemSettled s e); versions = []; gone = refl }
 
-items_settled : (s : State) (e : Entry) (made : Tables) (tops : List ℕ) → All (IsItemSettled s e) tops
-    → IsSettled s e (stamp made e.moment) (stamp (deeds_done made (purges tops)) e.moment)
-items_settled s e made tops items = record { tops = tops; items = items; gone = sym (deeds_stamped made e.moment (purges tops)) }
+items_settled : (s : State) (e : Entry) (made : Tables) (tops : List ℕ) (versions : List Version) → All (IsItemSettled s e) tops
+    → IsSettled s e (stamp made e.moment) (stamp (deeds_done made (purges tops ++ forgets versions)) e.moment)
+items_settled s e made tops versions items = record {
+  tops = tops;
+  items = items;
+  versions = versions;
+  gone = sym (deeds_stamped made e.moment (purges tops ++ forgets versions));
+}
 
 -- where the trash of a user is settled, its items are
 own_settled : (s : State) (e : Entry) (user : ℕ) (tops : List ℕ) → All (IsItemOf s.tables user) tops → Settles s e user → All (IsItemSettled s e) tops
@@ -79,9 +85,10 @@ own_settled s e user tops own settles k d within =
     let of = own k d within in (of.0, of.1, subst (Settles s e) (sym of.2) settles)
 
 -- some of them go
-pub some_settled : (s : State) (e : Entry) (made : Tables) (user : ℕ) (tops : List ℕ) → All (IsItemOf s.tables user) tops → Settles s e user
-    → IsSettled s e (stamp made e.moment) (stamp (deeds_done made (purges tops)) e.moment)
-some_settled s e made user tops own settles = items_settled s e made tops (own_settled s e user tops own settles)
+pub some_settled : (s : State) (e : Entry) (made : Tables) (user : ℕ) (tops : List ℕ) (versions : List Version) → All (IsItemOf s.tables user) tops
+    → Settles s e user
+    → IsSettled s e (stamp made e.moment) (stamp (deeds_done made (purges tops ++ forgets versions)) e.moment)
+some_settled s e made user tops versions own settles = items_settled s e made tops versions (own_settled s e user tops own settles)
 
 -- the items of the owners of what is deleted are
 pub beside_settled : (s : State) (e : Entry) (tops : List ℕ) → All (IsBesideOne s.tables (needs_of s e.seat e.moment e.event)) tops
@@ -131,26 +138,33 @@ module _ (s : State) (e : Entry) (sound : IsSound s) where
 
   -- ---- deeds that act, and then items that go
 
-  pub deeds_allowed : (first : List Deed) (gone : List ℕ) (report : Report)
+  pub deeds_allowed : (first : List Deed) (gone : List ℕ) (versions : List Version) (report : Report)
       → NodesAllowed s e (stamp (deeds_done t first) now)
       ⊎ (IsProviding s e (stamp (deeds_done t first) now) ⊎ IsRestoring s e (stamp (deeds_done t first) now))
-      → All (IsItemSettled s e) gone → IsAllowed (changed t now (allowed.Deeds (first ++ purges gone) report))
-  deeds_allowed first gone report acts items =
-      let deeds = first ++ purges gone in
+      → All (IsItemSettled s e) gone → IsAllowed (changed t now (allowed.Deeds (first ++ (purges gone ++ forgets versions)) report))
+  deeds_allowed first gone versions report acts items =
+      let more = purges gone ++ forgets versions in
+      let deeds = first ++ more in
       let made = deeds_done t first in
       stamped_has IsAllowed t (deeds_done t deeds) now (told t (allowed.Deeds deeds report)) same_allowed
       (record {
         between = stamp made now;
         allowed = acts;
-        settled = subst (λ (u : Tables). IsSettled s e (stamp made now) (stamp u now)) (sym (done_append t first (purges gone)))
-            (items_settled s e made gone items);
+        settled = subst (λ (u : Tables). IsSettled s e (stamp made now) (stamp u now)) (sym (done_append t first more))
+            (items_settled s e made gone versions items);
       })
+
+  -- items alone go
+  purges_allowed : (gone : List ℕ) (report : Report) → All (IsItemSettled s e) gone → IsAllowed (changed t now (allowed.Deeds (purges gone) report))
+  purges_allowed gone report items =
+      subst (λ (deeds : List Deed). IsAllowed (changed t now (allowed.Deeds deeds report))) (append-nil (purges gone))
+      (deeds_allowed [] gone [] report (inl stamped_nodes) items)
 
   -- ---- a sweep
 
   pub sweep_allowed : e.event ≡ Sweep → IsAllowed (changed t now (swept t now))
   sweep_allowed sweeps =
-      deeds_allowed [] (flat_map (gone_from t now) (owners_of t.items)) report.Plain (inl stamped_nodes) (λ k d within.
+      purges_allowed (flat_map (gone_from t now) (owners_of t.items)) report.Plain (λ k d within.
       let item = some_there (item_row t.items _) ((swept_goes t sound.rows now).items k d within) in
       (item.0, item.1, by_sweep item.0.owner sweeps))
 
@@ -170,7 +184,7 @@ module _ (s : State) (e : Entry) (sound : IsSound s) where
 
       -- some of them go, and nothing else is done
       only_goes : (tops : List ℕ) → All (IsItemOf t asker) tops → IsAllowed (changed t now (allowed.Deeds (purges tops) report.Done))
-      only_goes tops own = deeds_allowed [] tops report.Done (inl stamped_nodes) (asker_settled tops own)
+      only_goes tops own = purges_allowed tops report.Done (asker_settled tops own)
 
       drop_allowed : (node : ℕ) (o : Option ItemRow) → own_item call node ≡ o → IsAllowed (changed t now (option_map_or (item_dropped t now) o nothing_done))
       drop_allowed node None is = same_allowed
@@ -188,7 +202,8 @@ module _ (s : State) (e : Entry) (sound : IsSound s) where
         let home = home_of t item in
         let name = name_back t item in
         let at = home_fits t item sound.rows (ap (item_row t.items) own.1 ∙ own.0) in
-        deeds_allowed (deed.Restore item.node home name ∷ []) (gone_beside t now item) report.Made
+        deeds_allowed (deed.Restore item.node home name ∷ []) (gone_beside t now item)
+        (unsettled t (charged t item.owner 0 (item_size t item)) (flat_map purged_by (restoring t now item))) report.Made
         (inr (inr (record {
           words = words;
           request = request;

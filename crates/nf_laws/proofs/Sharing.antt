@@ -1,5 +1,5 @@
 -- The tables with a new share, or with another row of one, are sound.
-use Rattle.std.proofs.Common.{◌≡◌, ℕ, ◌-◌, ◌==◌, ◌<◌, ◌≤◌, inl, inr, List, ◌∷◌, Option, None, Some, length, true, refl, sym, ap, subst, ◌∙◌, arith, unwrap_or, []}
+use Rattle.std.proofs.Common.{◌≡◌, ℕ, ◌-◌, ◌==◌, ◌<◌, ◌≤◌, inl, inr, List, ◌∷◌, Option, None, Some, length, true, le_refl, refl, sym, ap, subst, ◌∙◌, arith, unwrap_or, []}
 use Rattle.std.specs.Prelude.{is_some, unwrap_or}
 use Rattle.std.specs.Option.{IfSome}
 use Rattle.std.proofs.lemmas.Bool.{cases_Bool, eq-eqb, eqb-true, both_ways}
@@ -15,6 +15,7 @@ use Rattle.nf_defs.specs.Prelude.{node_row, put, share_key, Tables, user_row}
 use Rattle.nf_laws.proofs.Chained.{AreLinked, still_chained, under_some}
 use Rattle.nf_laws.proofs.Climbs.{some_there}
 use Rattle.nf_laws.proofs.Mounted.{beside, beside_sound, items_beside, mount_beside, share_beside}
+use Rattle.nf_laws.proofs.Files.{all_files, versions_still}
 use Rattle.nf_laws.proofs.Others.{kind_still, others_from}
 use Rattle.nf_laws.proofs.Puts.{other_number}
 use Rattle.nf_words.proofs.Found.{put_length_over}
@@ -65,7 +66,8 @@ module _ (t : Tables) (row : ShareRow) where
       sound.others.shares))
       (put_rising share_key row t.shares sound.others.shares_rise) few
       (All-weaker (IsMountSound t) (IsMountSound made) (mount_beside t others t.mounts) t.mounts sound.others.mounts)
-      sound.others.mounts_rise sound.others.mounts_apart sound.others.few_mounts (items_beside t others t.mounts sound.others.items)
+      sound.others.mounts_rise sound.others.mounts_apart sound.others.few_mounts
+      (versions_still t made t.versions (le_refl _) (le_refl _) sound.others.versions (all_files t sound)) sound.others.versions_rise sound.others.few_versions (items_beside t others t.mounts sound.others.items)
       sound.others.items_rise)
 
   -- ---- a new share

@@ -1,5 +1,5 @@
 -- A sound state stays sound by each entry that may come.
-use Rattle.std.proofs.Common.{ℕ, ◌+◌, ◌≡◌, ◌≤◌, get_or, not, ◌==◌, false, true, List, [], ◌∷◌, Option, None, Some, ap, refl, sym, subst, ◌∙◌, arith, le_refl}
+use Rattle.std.proofs.Common.{ℕ, ◌+◌, ◌≡◌, ◌≤◌, get_or, not, ◌==◌, false, true, List, [], ◌∷◌, Option, None, Some, ap, refl, sym, subst, ◌∙◌, arith, le_refl, inl, inr, ◌&&◌}
 use Rattle.std.specs.List.{All, AllPairs}
 use Rattle.std.specs.Option.{IfSome}
 use Rattle.std.proofs.lemmas.List.Kept.{AllPairs-filter}
@@ -16,7 +16,7 @@ use Rattle.nf_laws.proofs.Lists.{changes_sound}
 use Rattle.nf_laws.proofs.Owned.{KeepsOwners, owners_kept}
 use Rattle.nf_laws.proofs.Others.{stamp_sound}
 use Rattle.nf_laws.proofs.Parts.{step_sound}
-use Rattle.nf_laws.proofs.Rows.{content_has, pieces_kept, stamp, stamped_has}
+use Rattle.nf_laws.proofs.Rows.{content_has, pieces_kept, stamp, stamped_has, found_is}
 use Rattle.nf_words.specs.Prelude.{after, after_mark, altered, AreApartHolds, AreSound, changed, goal_of, hold_of, HoldsFor, IsGoalSound, IsHeld, IsLegalFrom, IsPieceSound, IsSound, IsTicketSound, LeadsToRoot, MayCome, node_of_key, replay, State, ticket_for, told, with_goal, without}
 use Rattle.nf_words.specs.Sound.{MayStoreBy}
 use Rattle.nf_words.specs.declared.answer.Allowed.{Allowed}
@@ -35,10 +35,12 @@ use Rattle.nf_words.proofs.Known.{Known}
 use Rattle.nf_words.proofs.Ways.{HasRow}
 use Rattle.nf_words.proofs.Spared.{Spares, step_spares}
 use Rattle.nf_words.proofs.Steps.{differ_replay}
+use Rattle.nf_words.specs.Others.{IsVersionSound}
+use Rattle.nf_base.specs.declared.rows.VersionRow.{VersionRow}
 
 -- ---- the rows
 
-altered_sound : (t : Tables) (now : ℕ) (act : Allowed) → AreSound t → t.meta.last ≤ now → Known t now act
+pub altered_sound : (t : Tables) (now : ℕ) (act : Allowed) → AreSound t → t.meta.last ≤ now → Known t now act
     → AreSound (stamp (altered t now act) now)
 altered_sound t now (allowed.Change changes blob report) sound before known = changes_sound t now changes blob report sound before known
 altered_sound t now (allowed.Deeds deeds report) sound before known = step_sound t now deeds sound before known
@@ -64,8 +66,12 @@ goal_stays t made (Store by key length) nodes blobs owners shares h = (h.0, may_
 granted_sound : (t : Tables) (now : ℕ) (act : Allowed)
     → AreSound t → Known t now act → IfSome (goal_of act) (IsGoalSound (changed t now act))
 granted_sound t now (allowed.Get node content) sound known =
-    subst (λ (c : List Piece). All (IsPieceSound t) c) (sym known.of_node)
-    (content_has (IsPieceSound t) t.nodes node (λ k d within. (sound.nodes k d within).pieces))
+    elim known.of_node [
+      | inl same ↦ subst (λ (c : List Piece). All (IsPieceSound t) c) (sym same)
+          (content_has (IsPieceSound t) t.nodes node (λ k d within. (sound.nodes k d within).pieces))
+      | inr (version, at, found, same) ↦ subst (λ (c : List Piece). All (IsPieceSound t) c) (sym same)
+          (found_is (IsVersionSound t) (λ (row : VersionRow). row.node == node && row.at == at) t.versions version sound.others.versions found).1.pieces
+    ]
 granted_sound t now (allowed.Put by key length) sound known = (known.short, known.storer)
 granted_sound t now act sound known = tt
 

@@ -1,5 +1,5 @@
 -- What a body that is stored adds to the charge of an owner.
-use Rattle.std.proofs.Common.{ℕ, ◌+◌, ◌==◌, ◌&&◌, ◌≡◌, Bool, true, false, not, List, [], ◌∷◌, Option, None, Some, Result, Ok, if◌then◌else◌, refl, sym, ap, subst, ◌∙◌, arith}
+use Rattle.std.proofs.Common.{ℕ, ◌+◌, ◌==◌, ◌≡◌, Bool, true, false, not, List, [], ◌∷◌, Option, None, Some, Result, Ok, if◌then◌else◌, refl, sym, ap, subst, ◌∙◌, arith, map}
 use Rattle.std.specs.Prelude.{IsOk, sum_by}
 use Rattle.std.specs.Option.{IfSome, option_map_or}
 use Rattle.std.proofs.lemmas.Bool.{and_parts, cond_both, eq-eqb, eqb-true, ne_eqb}
@@ -12,7 +12,7 @@ use Rattle.nf_base.specs.declared.rows.NodeKind.TheVariants.{File}
 use Rattle.nf_base.specs.declared.rows.NodeRow.{NodeRow}
 use Rattle.nf_base.specs.declared.rows.Row.TheVariants as rows
 use Rattle.nf_defs.proofs.Climbs.{holds_some}
-use Rattle.nf_defs.specs.Prelude.{Access, filled, is_folder_kind, node_row, owner_of, Tables}
+use Rattle.nf_defs.specs.Prelude.{Access, filled, is_folder_kind, node_row, owner_of, Tables, put, put_all, node_key}
 use Rattle.nf_laws.proofs.Charging.{alike, charge_beside}
 use Rattle.nf_laws.proofs.Entries.{step_changed}
 use Rattle.nf_laws.proofs.Puts.{put_changed, put_new}
@@ -25,7 +25,7 @@ use Rattle.nf_words.proofs.Bodies.{content_decides}
 use Rattle.nf_words.proofs.Ends.{goal_held}
 use Rattle.nf_words.proofs.Fits.{newest}
 use Rattle.nf_words.proofs.Passing.{not_refused}
-use Rattle.nf_words.specs.Prelude.{access_of, after, after_mark, altered, answer_at, answered_by, AreSound, blob_for, changed, content_in, decision_of, end_refusal, ends_at, ends_goal, goal_at, IsHeld, IsStorable, new_node, node_of_key, refilled, stored_at, stores}
+use Rattle.nf_words.specs.Prelude.{access_of, after, after_mark, altered, answer_at, answered_by, AreSound, blob_for, changed, content_in, decision_of, end_refusal, ends_at, ends_goal, goal_at, IsHeld, IsStorable, new_node, node_of_key, refilled, stored_at, stores, charged, content_size, drop_version, is_same, unsettled}
 use Rattle.nf_words.specs.declared.answer.Allowed.{Allowed}
 use Rattle.nf_words.specs.declared.answer.Allowed.TheVariants as allowed
 use Rattle.nf_words.specs.declared.answer.Denial.{Denial}
@@ -39,6 +39,8 @@ use Rattle.nf_words.specs.declared.history.Mark.{Mark}
 use Rattle.nf_words.specs.declared.history.Mark.TheVariants as mark
 use Rattle.nf_words.specs.declared.history.Outcome.{Outcome}
 use Rattle.nf_words.specs.declared.history.Outcome.TheVariants.{Body}
+use Rattle.nf_laws.proofs.Refilled.{added_made, nodes_filled, refilled_made}
+use Rattle.nf_retention.specs.declared.versions.Version.{Version}
 
 -- some bytes of an owner's come in the place of others, and no other user has more or less
 abbrev pub Comes : Tables → ℕ → ℕ → ℕ → Tables → Type 0
@@ -46,7 +48,7 @@ Comes t owner old new made =
     (user : ℕ) → bytes_owned made.nodes user + (if owner == user then old else 0) ≡ bytes_owned t.nodes user + (if owner == user then new else 0)
 
 -- the content of a body has its bytes
-body_weighs : (next size : ℕ) (digest : List ℕ) → sum_by (λ piece. piece.size) (content_in (blob_for next size) digest size) ≡ size
+pub body_weighs : (next size : ℕ) (digest : List ℕ) → sum_by (λ piece. piece.size) (content_in (blob_for next size) digest size) ≡ size
 body_weighs next size digest = here (size == 0) refl
   where
     here : (empty : Bool) → (size == 0) ≡ empty
@@ -54,14 +56,13 @@ body_weighs next size digest = here (size == 0) refl
     here true is = sym (eqb-true size 0 is)
     here false is = omega arith
 
--- another content of a file is its owner's
-filled_comes : (t : Tables) (now node size : ℕ) (content : List Piece) (blob : Option ℕ) (row : NodeRow) → AreSound t
-    → node_row t.nodes node ≡ Some row → sum_by (λ piece. piece.size) content ≡ size
-    → Comes t row.owner (weight row) size (altered t now (allowed.Change (refilled (Some row) now content) blob Done))
-filled_comes t now node size content blob row sound there weighs user =
-    cond_both (content_eq row.content content && row.changed == now) [] (Put (rows.Node new) ∷ [])
-    (λ changes. bytes_owned (altered t now (allowed.Change changes blob Done)).nodes user + (if row.owner == user then weight row else 0)
-    ≡ bytes_owned t.nodes user + (if row.owner == user then size else 0))
+-- another content of a file is its owner's, with another version in its place, too
+pub refills_comes : (t : Tables) (now node size : ℕ) (content : List Piece) (row : NodeRow) (nodes : List NodeRow) → AreSound t
+    → node_row t.nodes node ≡ Some row → sum_by (λ piece. piece.size) content ≡ size → nodes ≡ nodes_filled t now content row
+    → (user : ℕ) → bytes_owned nodes user + (if row.owner == user then weight row else 0) ≡ bytes_owned t.nodes user + (if row.owner == user then size else 0)
+refills_comes t now node size content row nodes sound there weighs are user =
+    subst Fine (sym are)
+    (cond_both (is_same now content row) t.nodes (put node_key new t.nodes) Fine
     (λ same.
     let content_is = (content_decides row.content content).0 (and_parts (content_eq row.content content) (row.changed == now) same).0 in
     ap (λ (n : ℕ). bytes_owned t.nodes user + (if row.owner == user then n else 0)) (ap (sum_by (λ (piece : Piece). piece.size)) content_is ∙ weighs))
@@ -71,19 +72,31 @@ filled_comes t now node size content blob row sound there weighs user =
       ap (λ (all : List NodeRow). bytes_owned all user) (put_changed t.nodes node (filled content now) row refl sound.rising there),
       row_owned t.nodes node user (filled content now) row there,
       ap (λ (n : ℕ). if row.owner == user then n else 0) weighs,
-    ))
+    )))
   where
     new : NodeRow
     new = filled content now row
 
+    Fine : List NodeRow → Type 0
+    Fine nodes = bytes_owned nodes user + (if row.owner == user then weight row else 0) ≡ bytes_owned t.nodes user + (if row.owner == user then size else 0)
+
+filled_comes : (t : Tables) (now node size : ℕ) (content : List Piece) (blob : Option ℕ) (row : NodeRow) → AreSound t
+    → node_row t.nodes node ≡ Some row → sum_by (λ piece. piece.size) content ≡ size
+    → Comes t row.owner (weight row) size (altered t now (allowed.Change (refilled t now content row) blob Done))
+filled_comes t now node size content blob row sound there weighs =
+    refills_comes t now node size content row (put_all t (refilled t now content row)).nodes sound there weighs
+    (ap (λ (u : Tables). u.nodes) (refilled_made t now content row))
+
 -- and a new file is that of its folder's
-born_comes : (t : Tables) (now folder size : ℕ) (name : List ℕ) (content : List Piece) (blob : Option ℕ) → AreSound t
+born_comes : (t : Tables) (now folder size : ℕ) (name : List ℕ) (content : List Piece) (blob : Option ℕ) (gone : List Version) → AreSound t
     → sum_by (λ piece. piece.size) content ≡ size
-    → Comes t (owner_of t.nodes folder) 0 size (altered t now (allowed.Change (Put (rows.Node (new_node t now folder name File content)) ∷ []) blob Made))
-born_comes t now folder size name content blob sound weighs user =
+    → Comes t (owner_of t.nodes folder) 0 size
+    (altered t now (allowed.Change (Put (rows.Node (new_node t now folder name File content)) ∷ map drop_version gone) blob Made))
+born_comes t now folder size name content blob gone sound weighs user =
     let row = new_node t now folder name File content in
     omega (
       arith,
+      ap (λ (u : Tables). bytes_owned u.nodes user) (added_made t row gone),
       ap (λ (all : List NodeRow). bytes_owned all user) (put_new row t.nodes (newest t sound)),
       sum_by_push (owned_bytes user) t.nodes row,
       ap (λ (n : ℕ). if owner_of t.nodes folder == user then n else 0) weighs,
@@ -97,11 +110,13 @@ stored_comes t now (Node node) digest size sound held =
     let content = content_in blob digest size in
     let file = holds_some (λ row. not (is_folder_kind row.kind)) (node_row t.nodes node) held in
     subst (λ (o : Option NodeRow). Comes t (option_map_or (λ row. row.owner) o 0)
-    (sum_by (λ piece. piece.size) (option_map_or (λ row. row.content) o [])) size (altered t now (allowed.Change (refilled o now content) blob Done)))
+    (sum_by (λ piece. piece.size) (option_map_or (λ row. row.content) o [])) size (altered t now (allowed.Change (option_map_or (refilled t now content) o []) blob Done)))
     (sym file.1) (filled_comes t now node size content blob file.0 sound file.1 (body_weighs t.meta.next_blob size digest))
 stored_comes t now (Slot folder name) digest size sound held =
     let blob = blob_for t.meta.next_blob size in
-    born_comes t now folder size name (content_in blob digest size) blob sound (body_weighs t.meta.next_blob size digest)
+    let content = content_in blob digest size in
+    born_comes t now folder size name content blob (unsettled t (charged t (owner_of t.nodes folder) 0 (content_size content)) []) sound
+    (body_weighs t.meta.next_blob size digest)
 
 -- ---- what an End does is no act of the trash
 
@@ -135,7 +150,8 @@ nodes_changed t now (change ∷ changes) blob report = refl
 stored_nodes : (t : Tables) (now : ℕ) (key : LockKey) (digest : List ℕ) (size : ℕ)
     → (altered t now (stored_at t now key digest size)).nodes ≡ (changed t now (stored_at t now key digest size)).nodes
 stored_nodes t now (Node node) digest size =
-    let blob = blob_for t.meta.next_blob size in nodes_changed t now (refilled (node_row t.nodes node) now (content_in blob digest size)) blob Done
+    let blob = blob_for t.meta.next_blob size in
+    nodes_changed t now (option_map_or (refilled t now (content_in blob digest size)) (node_row t.nodes node) []) blob Done
 stored_nodes t now (Slot folder name) digest size = refl
 
 -- what comes is charged, where the trash stays as it is

@@ -1,5 +1,5 @@
 -- What a step changes, told as a list, and the tables that it makes.
-use Rattle.std.proofs.Common.{inl, inr, ◌⊎◌, ℕ, zero, suc, ◌+◌, ◌==◌, ◌≡◌, ◌≢◌, ◌<◌, true, false, List, [], ◌∷◌, ◌++◌, Option, None, Some, length, get_or, refl, sym, ap, subst, ◌∙◌, arith, length-append, Result, Ok, Err}
+use Rattle.std.proofs.Common.{inl, inr, ◌⊎◌, ℕ, zero, suc, ◌+◌, ◌==◌, ◌≡◌, ◌≢◌, ◌<◌, true, false, List, [], ◌∷◌, ◌++◌, Option, None, Some, length, get_or, refl, sym, ap, subst, ◌∙◌, arith, length-append, Result, Ok, Err, map}
 use Rattle.std.specs.List.{All}
 use Rattle.std.specs.Option.{option_and_then, option_map_or, option_or}
 use Rattle.std.specs.Prelude.{is_some}
@@ -19,12 +19,12 @@ use Rattle.nf_base.specs.declared.rows.UserRow.{UserRow}
 use Rattle.nf_defs.proofs.Climbs.{climb_under}
 use Rattle.nf_defs.specs.Prelude.{Access, child_of, climb, content_of, dropped, folder_of, is_folder, is_root, is_under, IsDroppable, item_key, node_row, parent_of, put_all, relinked, Tables}
 use Rattle.nf_defs.specs.Tree.{trashed}
-use Rattle.nf_laws.proofs.Blobs.{Alters, given_alters, of_nodes, refilled_of}
+use Rattle.nf_laws.proofs.Blobs.{Alters, given_alters, of_nodes, refilled_of, StoresBody, version_stores}
 use Rattle.nf_laws.proofs.Climbs.{node_row_each, parent_at, row_there, some_there}
 use Rattle.nf_laws.proofs.Copied.{copy_at, walk_first}
 use Rattle.nf_laws.proofs.Entries.{step_has}
 use Rattle.nf_laws.proofs.Gone.{climb_left, left_leads, row_left}
-use Rattle.nf_laws.proofs.InTurn.{replaced_is}
+use Rattle.nf_laws.proofs.InTurn.{replaced_is, deeds_append}
 use Rattle.nf_laws.proofs.Leaning.{lean_moves}
 use Rattle.nf_laws.proofs.Lists.{AreBuilt, built_droppable, meta_first, only_built, put_more}
 use Rattle.nf_laws.proofs.Mirrored.{mirrored}
@@ -37,7 +37,7 @@ use Rattle.nf_laws.proofs.Present.{never_trash, root_ends, root_so}
 use Rattle.nf_laws.proofs.Puts.{other_number}
 use Rattle.nf_laws.proofs.Rows.{found_is, kept_joined, row_id, stamp}
 use Rattle.nf_laws.proofs.Sources.{was_given}
-use Rattle.nf_laws.proofs.Told.{apart_fewer, apart_old, back_other, deeds_differ, deeds_droppable, deeds_put, Differs, discard_fewer, discard_next, discarded_fewer, done_rise, IsTold, items_tell, items_told, leaving_here, leaving_tells, leaving_told, never_same, NewApart, purged_fewer, purged_lost, purges_other, Rise, sound_rise, Tells, turned_lost, turned_there, Turns, user_differs}
+use Rattle.nf_laws.proofs.Told.{apart_fewer, apart_old, back_other, deeds_differ, deeds_droppable, deeds_put, Differs, discard_fewer, discard_next, discarded_fewer, done_rise, IsTold, items_tell, items_told, leaving_here, leaving_tells, leaving_told, never_same, NewApart, purged_fewer, purged_lost, purges_other, Rise, sound_rise, Tells, turned_lost, turned_there, Turns, user_differs, AreOther, forgets_other, forgets_told, forgotten_lost, told_append}
 use Rattle.nf_laws.proofs.Trashed.{discarded_leads, item_top}
 use Rattle.nf_laws.proofs.Upwards.{never_climbs, no_rings}
 use Rattle.nf_laws.specs.Tells.{ChangesTell}
@@ -45,7 +45,7 @@ use Rattle.nf_laws.specs.Transfers.{IsCopyOf, Mirrors}
 use Rattle.nf_words.proofs.Ends.{known_change}
 use Rattle.nf_words.proofs.Fits.{KnownChange}
 use Rattle.nf_words.proofs.Found.{child_parent}
-use Rattle.nf_words.proofs.Known.{IsItem, Known, KnownDeeds, KnownGoes, KnownLeaving, KnownRestore, KnownTransfer}
+use Rattle.nf_words.proofs.Known.{IsItem, Known, KnownDeeds, KnownGoes, KnownLeaving, KnownRestore, KnownTransfer, KnownSettled}
 use Rattle.nf_words.proofs.Known.KnownDeeds.{by_copying, by_crossing, by_going, by_leaving, by_moving, by_requoting, by_restoring}
 use Rattle.nf_words.proofs.Transfers.{replaced_leaves, row_leaves}
 use Rattle.nf_words.proofs.Trashing.{rest_goes}
@@ -67,7 +67,9 @@ use Rattle.nf_words.specs.declared.history.Outcome.{Outcome}
 use Rattle.nf_words.specs.declared.history.Outcome.TheVariants.{Body}
 use Rattle.nf_words.specs.declared.request.Transfer.{Transfer}
 use Rattle.nf_words.specs.declared.request.Wanted.{Wanted}
-use Rattle.nf_words.specs.Prelude.{access_of, allowed_of, AreSound, beside, besides, Call, call_of, changed, changes_by, changes_of, changes_to, copies, copies_to, crossing, decision_of, deed_done, deeds_done, discard, discards, end_refusal, ends_at, ends_goal, given, goal_at, goes_itself, IsRequoted, IsSound, item_for, joined, LeadsToRoot, listing_of, MayAsk, meta_after, moves, node_at, places_of, purged, purges, raised, refilled, refusal_of, row_at, served, stamped, State, step, stored_at, told, told_deeds, unless_refused, way_of, with_meta}
+use Rattle.nf_words.specs.Prelude.{access_of, allowed_of, AreSound, beside, besides, Call, call_of, changed, changes_by, changes_of, changes_to, copies, copies_to, crossing, decision_of, deed_done, deeds_done, discard, discards, end_refusal, ends_at, ends_goal, given, goal_at, goes_itself, IsRequoted, IsSound, item_for, joined, LeadsToRoot, listing_of, MayAsk, meta_after, moves, node_at, places_of, purged, purges, raised, refilled, refusal_of, row_at, served, stamped, State, step, stored_at, told, told_deeds, unless_refused, way_of, with_meta, forgets, drop_version, version_done}
+use Rattle.nf_words.proofs.Forgetting.{IsVersion, rows_there}
+use Rattle.nf_retention.specs.declared.versions.Version.{Version}
 
 -- ---- what comes back, and another quota
 
@@ -316,7 +318,7 @@ module _ (t u : Tables) (now : ℕ) (transfer : Transfer) (name : List ℕ) (sou
   copy_tells : (gone : List ℕ) → All (IsItem t) gone → Tells t u (deed.Join rows_more ∷ purges gone)
   copy_tells gone items = (
     (join_told, items_told t IsAside with_copies gone sound item_aside items copies_apart),
-    purges_other t with_copies gone (inr (inr more_nodes)),
+    purges_other t with_copies gone (inr (inr (inl more_nodes))),
   )
 
   -- the source leaves its place beside its copies
@@ -337,7 +339,7 @@ module _ (t u : Tables) (now : ℕ) (transfer : Transfer) (name : List ℕ) (sou
       let last = items_told t IsAside w gone sound item_aside items
       (apart_fewer t IsAside with_copies w (discard_fewer t with_copies now from) copies_apart) in (
         (join_told, (told, last)),
-        purges_other t w gone (inr (inr (λ equal. more_nodes (sym (discard_next t with_copies now from) ∙ equal)))),
+        purges_other t w gone (inr (inr (inl (λ equal. more_nodes (sym (discard_next t with_copies now from) ∙ equal))))),
       )
 
 copying_tells : (t : Tables) (now : ℕ) (transfer : Transfer) (name : List ℕ) → AreSound t → KnownTransfer t transfer name
@@ -383,22 +385,43 @@ known_tells t now deeds sound (by_moving transfer name known) = inr (moving_tell
 known_tells t now deeds sound (by_copying transfer name known) = inr (copying_tells t now transfer name sound known.known)
 known_tells t now deeds sound (by_crossing transfer name known) = inr (crossing_tells t now transfer name sound known.copies.known)
 
+-- so with versions that go behind them
+settled_tells : (t : Tables) (now : ℕ) (deeds : List Deed) → AreSound t → KnownSettled t now deeds → (deeds ≡ []) ⊎ Tells t t deeds
+settled_tells t now deeds sound k =
+    elim (known_tells t now k.first sound k.known) [
+      | inl none ↦ alone k.gone k.there (k.are ∙ ap (λ (first : List Deed). first ++ forgets k.gone) none)
+      | inr tells ↦
+          inr (subst (Tells t t) (sym k.are) (
+            told_append t t k.first (forgets k.gone) tells.0 (forgets_told t (deeds_done t k.first) k.gone k.there),
+            subst (AreOther t) (sym (deeds_append t k.first (forgets k.gone))) (forgets_other t (deeds_done t k.first) k.gone tells.1),
+          ))
+    ]
+  where
+    alone : (gone : List Version) → All (IsVersion t) gone → deeds ≡ forgets gone → (deeds ≡ []) ⊎ Tells t t deeds
+    alone [] there are = inl are
+    alone (version ∷ gone) there are =
+        inr (subst (Tells t t) (sym are) (
+          forgets_told t t (version ∷ gone) there,
+          forgets_other t (deed_done t (deed.Forget version.node version.at)) gone
+              (forgotten_lost t t version (All-head (IsVersion t) version gone there)),
+        ))
+
 -- what is told of them makes the tables after them, each change is one, and where there is one the tables are others
 record DeedsTell (t : Tables) (now : ℕ) (deeds : List Deed) : Type 0 where
   put : (rest : List Change) → put_all t (told_deeds t deeds ++ rest) ≡ put_all (record (deeds_done t deeds) { meta = t.meta }) rest
   differ : All (Differs t) (told_deeds t deeds)
   moves : told_deeds t deeds ≢ [] → stamp (deeds_done t deeds) now ≢ t
 
-deeds_tell : (t : Tables) (now : ℕ) (deeds : List Deed) → AreSound t → KnownDeeds t now deeds → DeedsTell t now deeds
+deeds_tell : (t : Tables) (now : ℕ) (deeds : List Deed) → AreSound t → KnownSettled t now deeds → DeedsTell t now deeds
 deeds_tell t now deeds sound known =
-    elim (known_tells t now deeds sound known) [
+    elim (settled_tells t now deeds sound known) [
       | inl none ↦
           subst (DeedsTell t now) (sym none)
           (record { put = λ rest. refl; differ = All-nil (Differs t); moves = λ some. absurd (some refl) })
       | inr tells ↦
           record {
             put = λ rest. deeds_put t t t.meta deeds rest tells.0 (sound_rise t sound);
-            differ = deeds_differ t t deeds sound tells.0 (sound_rise t sound) (λ id share is unended. is);
+            differ = deeds_differ t t deeds sound tells.0 (sound_rise t sound) (λ id share is unended. is) (rows_there t.versions);
             moves = λ some. never_same t (deeds_done t deeds) now tells.1;
           }
     ]
@@ -476,7 +499,7 @@ changes_told t now changes blob report sound known =
     let alone : rows ≡ record rows { meta = t.meta } = meta_first t t.meta changes (only_built t blob up changes known.rows) in
     rows_told t now (record rows { meta = up.meta }) changes (λ rest. put_more t changes rest ∙ ap (λ (u : Tables). put_all u rest) alone) known.lean.differ
     (λ some same.
-    lean_moves t up blob changes sound.rising refl known.rows known.lean some (alone ∙ ap (λ (u : Tables). record u { meta = t.meta }) same))
+    lean_moves t up blob changes sound.rising sound.others.versions_rise refl known.rows known.lean some (alone ∙ ap (λ (u : Tables). record u { meta = t.meta }) same))
 
 act_told : (t : Tables) (now : ℕ) (act : Allowed) → AreSound t → Known t now act → TellsAct t now act
 act_told t now (allowed.Change changes blob report) sound known = changes_told t now changes blob report sound known
@@ -526,7 +549,10 @@ begin_nodes call asked =
       | inl get ↦
           subst (λ (w : Wanted). IsBuilt (given (access_of call.state) call (places_of call) w)) (sym get.1)
           (served_nodes (way_of call get.0).mount (node_at (places_of call).source))
-      | inr alters ↦ alters_nodes (given (access_of call.state) call (places_of call) asked) alters
+      | inr (inl version) ↦
+          subst (λ (w : Wanted). IsBuilt (given (access_of call.state) call (places_of call) w)) (sym version.1)
+          (stores_nodes (version_done call.state.tables call.now version.0) (version_stores call.state.tables call.now [] version.0))
+      | inr (inr alters) ↦ alters_nodes (given (access_of call.state) call (places_of call) asked) alters
     ]
   where
     served_nodes : (mount o : Option ℕ) → IsBuilt (served (access_of call.state) call mount o)
@@ -537,13 +563,23 @@ begin_nodes call asked =
         (λ folder. tt) (λ file. tt)
 
     alters_nodes : (act : Allowed) → Alters call.state.tables act → IsBuilt act
-    alters_nodes (allowed.Change changes blob report) alters =
-        elim alters.1 [ inl empty ↦ of_nodes [] changes empty | inr old ↦ of_nodes (content_of call.state.tables.nodes old.0) changes old.1 ]
+    alters_nodes (allowed.Change changes blob report) alters = of_nodes [] changes alters.1
     alters_nodes act alters = tt
 
+    stores_nodes : (act : Allowed) → StoresBody call.state.tables [] act → IsBuilt act
+    stores_nodes (allowed.Change changes blob report) (inl (none, inl empty)) = of_nodes [] changes empty
+    stores_nodes (allowed.Change changes blob report) (inl (none, inr (node, content, of, are))) = of_nodes content changes are
+    stores_nodes (allowed.Change changes blob report) (inr some) = of_nodes _ changes some.1
+    stores_nodes act stores = tt
+
+drops_built : (gone : List Version) → AreBuilt (map drop_version gone)
+drops_built [] = tt
+drops_built (version ∷ gone) = (tt, drops_built gone)
+
 stored_nodes : (t : Tables) (now : ℕ) (key : LockKey) (digest : List ℕ) (size : ℕ) → IsBuilt (stored_at t now key digest size)
-stored_nodes t now (Node node) digest size = let o = node_row t.nodes node in of_nodes _ (refilled o now _) (refilled_of o now _)
-stored_nodes t now (Slot folder name) digest size = (tt, tt)
+stored_nodes t now (Node node) digest size =
+    let o = node_row t.nodes node in of_nodes _ (option_map_or (refilled t now _) o []) (refilled_of t o now _)
+stored_nodes t now (Slot folder name) digest size = (tt, drops_built _)
 
 goal_nodes : (access : Access) (t : Tables) (now : ℕ) (outcome : Outcome) (goal : Goal) → DecidesBuilt (ends_goal access t now outcome goal)
 goal_nodes access t now (Body digest size) (Store by key wanted) =

@@ -1,8 +1,8 @@
 -- The deeds of a step told as a list: the tables after them are those with the changes put into them, and each change is one.
-use Rattle.std.proofs.Common.{inl, inr, ◌⊎◌, ℕ, zero, suc, ◌==◌, ◌≡◌, ◌≢◌, ◌<◌, ◌≤◌, Bool, true, false, not, List, [], ◌∷◌, ◌++◌, Option, None, Some, map, option_map, filter, length, get_or, if◌then◌else◌, refl, sym, ap, subst, ◌∙◌, arith, append_assoc, bytes_eq, length-append}
+use Rattle.std.proofs.Common.{inl, inr, ◌⊎◌, ℕ, zero, suc, ◌==◌, ◌≡◌, ◌≢◌, ◌<◌, ◌≤◌, Bool, true, false, not, List, [], ◌∷◌, ◌++◌, Option, None, Some, map, option_map, filter, length, get_or, if◌then◌else◌, refl, sym, ap, subst, ◌∙◌, arith, append_assoc, bytes_eq, length-append, ◌&&◌, flat_map}
 use Rattle.std.specs.Prelude.{is_some}
 use Rattle.std.specs.List.{All, AllPairs}
-use Rattle.std.specs.Option.{option_and_then}
+use Rattle.std.specs.Option.{option_and_then, option_or}
 use Rattle.std.proofs.lemmas.Bool.{and_parts, both_ways, cond_both, eq-eqb, not-true}
 use Rattle.std.proofs.lemmas.List.Elements.{All-append, All-cons, All-filter, All-head, All-map, All-nil, All-tail, All-weaker, filter_passes}
 use Rattle.std.proofs.lemmas.List.Kept.{AllPairs-filter}
@@ -20,7 +20,7 @@ use Rattle.nf_base.specs.declared.rows.Row.TheVariants as rows
 use Rattle.nf_base.specs.declared.rows.ShareRow.{ShareRow}
 use Rattle.nf_base.specs.declared.rows.UserRow.{UserRow}
 use Rattle.nf_defs.proofs.Climbs.{climb_under, under_climb}
-use Rattle.nf_defs.specs.Prelude.{climb, dropped, folder_of, is_under, IsDroppable, IsRising, item_key, item_row, made, node_row, parent_of, put, put_all, relinked, share_key, Tables, user_row, walk_of, with_node}
+use Rattle.nf_defs.specs.Prelude.{climb, dropped, folder_of, is_under, IsDroppable, IsRising, item_key, item_row, made, node_row, parent_of, put, put_all, relinked, share_key, Tables, user_row, walk_of, with_node, version_key, without_under}
 use Rattle.nf_defs.specs.Tree.{trashed}
 use Rattle.nf_laws.proofs.Climbs.{map_some, some_there}
 use Rattle.nf_laws.proofs.Gone.{kept_left, row_gone}
@@ -30,15 +30,21 @@ use Rattle.nf_laws.proofs.Parts.{rest_of}
 use Rattle.nf_laws.proofs.Present.{never_trash}
 use Rattle.nf_laws.proofs.Purged.{purged_keeps}
 use Rattle.nf_laws.proofs.Puts.{AreNumbered, another, closes, fewer, goes_put, number_found, put_changed, put_new, puts_new, under_there, walk_under}
-use Rattle.nf_laws.proofs.Rows.{stamp}
+use Rattle.nf_laws.proofs.Rows.{stamp, each_fails, finds_none}
 use Rattle.nf_laws.proofs.Trashed.{item_top}
 use Rattle.nf_laws.proofs.Walked.{AllPairs-append}
 use Rattle.nf_words.proofs.Known.{IsItem, KnownLeaving}
 use Rattle.nf_words.proofs.Trashing.{rest_goes}
 use Rattle.nf_words.proofs.Ways.{HasRow, inside_there}
-use Rattle.nf_words.specs.Prelude.{AreSound, beside, closed_under, deed_done, deeds_done, discard, discarded, dropped_under, ended_row, goes_itself, gone_under, is_closing, IsRequoted, item_for, LeadsToRoot, purged, purges, told_deed, told_deeds, told_item, told_node}
+use Rattle.nf_words.specs.Prelude.{AreSound, beside, closed_under, deed_done, deeds_done, discard, discarded, dropped_under, ended_row, goes_itself, gone_under, is_closing, IsRequoted, item_for, LeadsToRoot, purged, purges, told_deed, told_deeds, told_item, told_node, forgets, forgotten, forgotten_of, forgotten_under, held, version_row, versions_of}
 use Rattle.nf_words.specs.declared.answer.Deed.{Deed}
 use Rattle.nf_words.specs.declared.answer.Deed.TheVariants as deed
+use Rattle.nf_base.specs.declared.rows.VersionRow.{VersionRow}
+use Rattle.nf_retention.specs.declared.versions.Version.{Version}
+use Rattle.nf_laws.proofs.Files.{file_row}
+use Rattle.nf_words.proofs.Forgetting.{drop_differs, IsVersion, version_gone}
+use Rattle.std.proofs.lemmas.List.Folds.{find-append}
+use Rattle.std.proofs.lemmas.List.Concat.{flat_map-cons}
 
 -- a change that makes other tables
 abbrev pub Differs : Tables → Change → Type 0
@@ -65,6 +71,7 @@ IsTold t u (deed.Restore node folder name) = Turns t u node (relinked folder nam
 IsTold t u (deed.Relink node folder name) = Turns t u node (relinked folder name)
 IsTold t u (deed.Join rows) = All (λ (row : NodeRow). row.id < t.meta.next_node) u.nodes × AreNumbered t.meta.next_node rows
 IsTold t u (deed.Requote row) = IsRequoted t row
+IsTold t u (deed.Forget node at) = is_some (version_row t.versions node at) ≡ true
 
 -- each in the tables after those before it
 abbrev pub AreTold : Tables → Tables → List Deed → Type 0
@@ -73,13 +80,36 @@ AreTold t u (one ∷ deeds) = IsTold t u one × AreTold t (deed_done u one) deed
 
 -- ---- what the tables of a step keep
 
--- nodes and shares rise
+-- nodes and shares rise, and versions are of nodes that are there
 pub record Rise (u : Tables) : Type 0 where
   pub nodes : AllPairs (λ (a b : NodeRow). a.id < b.id) u.nodes
   pub shares : IsRising share_key u.shares
+  pub versions : All (λ (version : VersionRow). is_some (node_row u.nodes version.node) ≡ true) u.versions
 
 pub sound_rise : (t : Tables) → AreSound t → Rise t
-sound_rise t sound = record { nodes = sound.rising; shares = sound.others.shares_rise }
+sound_rise t sound = record {
+  nodes = sound.rising;
+  shares = sound.others.shares_rise;
+  versions = λ k d within.
+      let row = file_row t.nodes (get_or t.versions k d).node (sound.others.versions k d within).file in ap is_some row.1;
+}
+
+-- a node has a row still where one is another
+turned_some : (nodes : List NodeRow) (node : ℕ) (change : NodeRow → NodeRow) → KeepsId change → (other : ℕ) → is_some (node_row nodes other) ≡ true
+    → is_some (node_row (with_node nodes node change) other) ≡ true
+turned_some nodes node change keeps other there =
+    ap is_some (row_with nodes node change keeps other) ∙ here (other == node) (node_row nodes other) ∙ there
+  where
+    here : (b : Bool) (o : Option NodeRow) → is_some (if b then option_map change o else o) ≡ is_some o
+    here true None = refl
+    here true (Some row) = refl
+    here false o = refl
+
+-- and where some are more
+joined_some : (old new : List NodeRow) (node : ℕ) → is_some (node_row old node) ≡ true → is_some (node_row (old ++ new) node) ≡ true
+joined_some old new node there =
+    let row = some_there (node_row old node) there in
+    ap is_some (find-append (λ (one : NodeRow). one.id == node) old new ∙ ap (λ (o : Option NodeRow). option_or o (node_row new node)) row.1)
 
 -- rows with new numbers rise behind those that were there
 joined_rise : (first : ℕ) (old new : List NodeRow) → AllPairs (λ (a b : NodeRow). a.id < b.id) old → All (λ (row : NodeRow). row.id < first) old
@@ -94,18 +124,38 @@ pub done_rise : (t u : Tables) (one : Deed) → IsTold t u one → Rise u → Ri
 done_rise t u (deed.Discard item) told rise = record {
   nodes = rising_with u.nodes item.node trashed (λ row. refl) rise.nodes;
   shares = ended_rising u (λ node. is_under u.nodes node item.node) rise.shares;
+  versions = λ k d within. turned_some u.nodes item.node trashed (λ row. refl) _ (rise.versions k d within);
 }
 done_rise t u (deed.Purge top) told rise = record {
   nodes = AllPairs-filter (λ a b. a.id < b.id) (λ row. not (is_under u.nodes row.id top)) u.nodes rise.nodes;
   shares = ended_rising u (λ node. is_under u.nodes node top) rise.shares;
+  versions = filter_passes (λ (version : VersionRow). is_some (node_row (without_under u.nodes top) version.node)) u.versions;
 }
 done_rise t u (deed.Restore node folder name) told rise =
-    record { nodes = rising_with u.nodes node (relinked folder name) (λ row. refl) rise.nodes; shares = rise.shares }
+    record {
+      nodes = rising_with u.nodes node (relinked folder name) (λ row. refl) rise.nodes;
+      shares = rise.shares;
+      versions = λ k d within. turned_some u.nodes node (relinked folder name) (λ row. refl) _ (rise.versions k d within);
+    }
 done_rise t u (deed.Relink node folder name) told rise =
-    record { nodes = rising_with u.nodes node (relinked folder name) (λ row. refl) rise.nodes; shares = rise.shares }
+    record {
+      nodes = rising_with u.nodes node (relinked folder name) (λ row. refl) rise.nodes;
+      shares = rise.shares;
+      versions = λ k d within. turned_some u.nodes node (relinked folder name) (λ row. refl) _ (rise.versions k d within);
+    }
 done_rise t u (deed.Join rows) (below, numbered) rise =
-    record { nodes = joined_rise t.meta.next_node u.nodes rows rise.nodes below numbered; shares = rise.shares }
-done_rise t u (deed.Requote row) told rise = record { nodes = rise.nodes; shares = rise.shares }
+    record {
+      nodes = joined_rise t.meta.next_node u.nodes rows rise.nodes below numbered;
+      shares = rise.shares;
+      versions = λ k d within. joined_some u.nodes rows _ (rise.versions k d within);
+    }
+done_rise t u (deed.Requote row) told rise = record { nodes = rise.nodes; shares = rise.shares; versions = rise.versions }
+done_rise t u (deed.Forget node at) told rise = record {
+  nodes = rise.nodes;
+  shares = rise.shares;
+  versions = All-filter (λ (version : VersionRow). not (bytes_eq (node ∷ at ∷ []) (version_key version)))
+      (λ (version : VersionRow). is_some (node_row u.nodes version.node) ≡ true) u.versions rise.versions;
+}
 
 -- a share that isn't ended is as it was
 abbrev pub Unended : Tables → Tables → Type 0
@@ -132,6 +182,25 @@ done_unended t u (deed.Restore node folder name) was = was
 done_unended t u (deed.Relink node folder name) was = was
 done_unended t u (deed.Join rows) was = was
 done_unended t u (deed.Requote row) was = was
+done_unended t u (deed.Forget node at) was = was
+
+-- each version was one before the step
+abbrev pub Were : Tables → Tables → Type 0
+Were t u = All (λ (version : VersionRow). is_some (version_row t.versions version.node version.at) ≡ true) u.versions
+
+-- no deed makes one
+done_were : (t u : Tables) (one : Deed) → Were t u → Were t (deed_done u one)
+done_were t u (deed.Discard item) were = were
+done_were t u (deed.Purge top) were =
+    All-filter (λ (version : VersionRow). is_some (node_row (without_under u.nodes top) version.node))
+    (λ (version : VersionRow). is_some (version_row t.versions version.node version.at) ≡ true) u.versions were
+done_were t u (deed.Restore node folder name) were = were
+done_were t u (deed.Relink node folder name) were = were
+done_were t u (deed.Join rows) were = were
+done_were t u (deed.Requote row) were = were
+done_were t u (deed.Forget node at) were =
+    All-filter (λ (version : VersionRow). not (bytes_eq (node ∷ at ∷ []) (version_key version)))
+    (λ (version : VersionRow). is_some (version_row t.versions version.node version.at) ≡ true) u.versions were
 
 -- ---- the tables with the changes put into them
 
@@ -157,7 +226,7 @@ deed_put t u meta (deed.Discard item) rest (turns, none) rise =
     ap (put_all (at_meta meta u)) (append_assoc first (Put (rows.Item item) ∷ closed) rest)
     ∙ node_put (at_meta meta u) item.node trashed turns.row (Put (rows.Item item) ∷ closed ++ rest) (λ row. refl) rise.nodes turns.there
     ∙ closes (record u { meta = meta; nodes = binned; items = put item_key item u.items }) u.nodes item.node [] u.shares rest rise.shares
-deed_put t u meta (deed.Purge node) rest told rise = goes_put (at_meta meta u) node rest rise.nodes rise.shares
+deed_put t u meta (deed.Purge node) rest told rise = goes_put (at_meta meta u) node rest rise.nodes rise.shares rise.versions
 deed_put t u meta (deed.Restore node folder name) rest (turns, is) rise =
     node_put (record u { meta = meta; items = dropped item_key (node ∷ []) u.items }) node (relinked folder name) turns.row rest (λ row. refl)
     rise.nodes turns.there
@@ -165,6 +234,7 @@ deed_put t u meta (deed.Relink node folder name) rest turns rise =
     node_put (at_meta meta u) node (relinked folder name) turns.row rest (λ row. refl) rise.nodes turns.there
 deed_put t u meta (deed.Join rows) rest (below, numbered) rise = puts_new (at_meta meta u) u.nodes rows rest t.meta.next_node below numbered
 deed_put t u meta (deed.Requote row) rest told rise = refl
+deed_put t u meta (deed.Forget node at) rest told rise = refl
 
 -- and one after the other
 pub deeds_put : (t u : Tables) (meta : MetaRow) (deeds : List Deed) (rest : List Change) → AreTold t u deeds → Rise u
@@ -254,35 +324,55 @@ user_differs t row is = λ same.
     is.other (same_Some row is.old
     (sym (number_found (λ (r : UserRow). r.id) row t.users) ∙ ap (λ (u : Tables). user_row u.users row.id) same ∙ is.there))
 
+-- and versions that are dropped
+forgotten_differ : (t : Tables) (versions : List VersionRow) (nodes : List ℕ)
+    → All (λ (version : VersionRow). is_some (version_row t.versions version.node version.at) ≡ true) versions
+    → All (Differs t) (flat_map (forgotten_of versions) nodes)
+forgotten_differ t versions [] were = All-nil (Differs t)
+forgotten_differ t versions (node ∷ nodes) were =
+    subst (All (Differs t)) (sym (flat_map-cons (forgotten_of versions) node nodes))
+    (All-append (Differs t) (forgotten_of versions node) (flat_map (forgotten_of versions) nodes)
+    (All-map (Differs t) (λ (row : VersionRow). Drop (keys.Version row.node row.at)) (versions_of versions node)
+    (λ k d within.
+    drop_differs t (held (get_or (versions_of versions node) k d))
+    (All-filter (λ (row : VersionRow). row.node == node)
+    (λ (version : VersionRow). is_some (version_row t.versions version.node version.at) ≡ true) versions were k d within)))
+    (forgotten_differ t versions nodes were))
+
 -- each change of a deed is one, also of the tables before the step
-deed_differs : (t u : Tables) (one : Deed) → AreSound t → IsTold t u one → Rise u → Unended t u → All (Differs t) (told_deed u one)
-deed_differs t u (deed.Discard item) sound (turns, none) rise was =
+deed_differs : (t u : Tables) (one : Deed) → AreSound t → IsTold t u one → Rise u → Unended t u → Were t u → All (Differs t) (told_deed u one)
+deed_differs t u (deed.Discard item) sound (turns, none) rise was were =
     All-append (Differs t) (told_node (node_row u.nodes item.node) trashed) (Put (rows.Item item) ∷ closed_under u.nodes u.shares item.node)
     (node_differs t u item.node trashed (λ row. refl) sound turns)
     (All-cons (Differs t) (Put (rows.Item item)) (closed_under u.nodes u.shares item.node) (item_put_differs t item none)
     (closed_differ t u item.node rise was))
-deed_differs t u (deed.Purge node) sound (old, item) rise was =
-    All-append (Differs t) (gone_under u.nodes u.shares node) (told_item u node)
+deed_differs t u (deed.Purge node) sound (old, item) rise was were =
+    All-append (Differs t) (forgotten_under u.nodes u.versions node) (gone_under u.nodes u.shares node ++ told_item u node)
+    (forgotten_differ t u.versions (walk_of u.nodes node) were)
+    (All-append (Differs t) (gone_under u.nodes u.shares node) (told_item u node)
     (All-append (Differs t) (dropped_under u.nodes node) (closed_under u.nodes u.shares node) (under_differ t u node rise old)
     (closed_differ t u node rise was))
     (cond_both (is_some (item_row u.items node)) (Drop (keys.Item node) ∷ []) [] (All (Differs t))
-    (λ e. All-cons (Differs t) (Drop (keys.Item node)) [] (item_drop_differs t node (item e)) (All-nil (Differs t))) (λ e. All-nil (Differs t)))
-deed_differs t u (deed.Restore node folder name) sound (turns, item) rise was =
+    (λ e. All-cons (Differs t) (Drop (keys.Item node)) [] (item_drop_differs t node (item e)) (All-nil (Differs t))) (λ e. All-nil (Differs t))))
+deed_differs t u (deed.Restore node folder name) sound (turns, item) rise was were =
     All-cons (Differs t) (Drop (keys.Item node)) (told_node (node_row u.nodes node) (relinked folder name)) (item_drop_differs t node item)
     (node_differs t u node (relinked folder name) (λ row. refl) sound turns)
-deed_differs t u (deed.Relink node folder name) sound turns rise was = node_differs t u node (relinked folder name) (λ row. refl) sound turns
-deed_differs t u (deed.Join copies) sound (below, numbered) rise was =
+deed_differs t u (deed.Relink node folder name) sound turns rise was were = node_differs t u node (relinked folder name) (λ row. refl) sound turns
+deed_differs t u (deed.Join copies) sound (below, numbered) rise was were =
     All-map (Differs t) (λ row. Put (rows.Node row)) copies
     (λ k d within. new_differs t (get_or copies k d) sound (omega (arith, numbered k d within)))
-deed_differs t u (deed.Requote row) sound is rise was =
+deed_differs t u (deed.Requote row) sound is rise was were =
     All-cons (Differs t) (Put (rows.User row)) [] (user_differs t row is) (All-nil (Differs t))
+deed_differs t u (deed.Forget node at) sound is rise was were =
+    All-cons (Differs t) (Drop (keys.Version node at)) [] (drop_differs t (record { node = node; at = at; size = 0 }) is) (All-nil (Differs t))
 
 -- and so is each of the deeds in turn
-pub deeds_differ : (t u : Tables) (deeds : List Deed) → AreSound t → AreTold t u deeds → Rise u → Unended t u → All (Differs t) (told_deeds u deeds)
-deeds_differ t u [] sound told rise was = All-nil (Differs t)
-deeds_differ t u (one ∷ deeds) sound told rise was =
-    All-append (Differs t) (told_deed u one) (told_deeds (deed_done u one) deeds) (deed_differs t u one sound told.0 rise was)
-    (deeds_differ t (deed_done u one) deeds sound told.1 (done_rise t u one told.0 rise) (done_unended t u one was))
+pub deeds_differ : (t u : Tables) (deeds : List Deed) → AreSound t → AreTold t u deeds → Rise u → Unended t u → Were t u
+    → All (Differs t) (told_deeds u deeds)
+deeds_differ t u [] sound told rise was were = All-nil (Differs t)
+deeds_differ t u (one ∷ deeds) sound told rise was were =
+    All-append (Differs t) (told_deed u one) (told_deeds (deed_done u one) deeds) (deed_differs t u one sound told.0 rise was were)
+    (deeds_differ t (deed_done u one) deeds sound told.1 (done_rise t u one told.0 rise) (done_unended t u one was) (done_were t u one were))
 
 -- ---- tables that are others
 
@@ -293,14 +383,32 @@ pub record Lost (t u : Tables) : Type 0 where
   pub was : node_row t.nodes node ≡ Some row
   pub lost : node_row u.nodes node ≢ Some row
 
+-- or a version is gone
+pub record LostVersion (t u : Tables) : Type 0 where
+  pub node : ℕ
+  pub at : ℕ
+  pub was : is_some (version_row t.versions node at) ≡ true
+  pub lost : version_row u.versions node at ≡ None
+
 abbrev pub AreOther : Tables → Tables → Type 0
-AreOther t u = Lost t u ⊎ ((u.users ≢ t.users) ⊎ (u.meta.next_node ≢ t.meta.next_node))
+AreOther t u = Lost t u ⊎ ((u.users ≢ t.users) ⊎ ((u.meta.next_node ≢ t.meta.next_node) ⊎ LostVersion t u))
 
 -- they are so at whatever moment
 pub never_same : (t u : Tables) (now : ℕ) → AreOther t u → stamp u now ≢ t
 never_same t u now (inl lost) = λ same. lost.lost (ap (λ (v : Tables). node_row v.nodes lost.node) same ∙ lost.was)
 never_same t u now (inr (inl other)) = λ same. other (ap (λ (v : Tables). v.users) same)
-never_same t u now (inr (inr other)) = λ same. other (ap (λ (v : Tables). v.meta.next_node) same)
+never_same t u now (inr (inr (inl other))) = λ same. other (ap (λ (v : Tables). v.meta.next_node) same)
+never_same t u now (inr (inr (inr gone))) = λ same.
+    both_ways (is_some (version_row t.versions gone.node gone.at))
+    (ap (λ (v : Tables). is_some (version_row v.versions gone.node gone.at)) (sym same) ∙ ap is_some gone.lost) gone.was
+
+-- a version that is gone is gone where others go
+lost_filter : (test : VersionRow → Bool) (versions : List VersionRow) (node at : ℕ) → version_row versions node at ≡ None
+    → version_row (filter test versions) node at ≡ None
+lost_filter test versions node at none =
+    finds_none (λ (row : VersionRow). row.node == node && row.at == at) (filter test versions)
+    (All-filter test (λ (row : VersionRow). (row.node == node && row.at == at) ≡ false) versions
+    (each_fails (λ (row : VersionRow). row.node == node && row.at == at) versions none))
 
 -- what goes for good doesn't bring back what was
 purged_other : (t u : Tables) (top : ℕ) → AreOther t u → AreOther t (purged u top)
@@ -310,7 +418,51 @@ purged_other t u top (inl lost) = inl (record {
   was = lost.was;
   lost = λ is. lost.lost (kept_left u.nodes top lost.node lost.row is).1;
 })
-purged_other t u top (inr other) = inr other
+purged_other t u top (inr (inl other)) = inr (inl other)
+purged_other t u top (inr (inr (inl other))) = inr (inr (inl other))
+purged_other t u top (inr (inr (inr gone))) = inr (inr (inr (record {
+  node = gone.node;
+  at = gone.at;
+  was = gone.was;
+  lost = lost_filter (λ version. is_some (node_row (without_under u.nodes top) version.node)) u.versions gone.node gone.at gone.lost;
+})))
+
+-- nor does a version that goes
+pub forgotten_other : (t u : Tables) (node at : ℕ) → AreOther t u → AreOther t (forgotten u node at)
+forgotten_other t u node at (inl lost) = inl (record { node = lost.node; row = lost.row; was = lost.was; lost = lost.lost })
+forgotten_other t u node at (inr (inl other)) = inr (inl other)
+forgotten_other t u node at (inr (inr (inl other))) = inr (inr (inl other))
+forgotten_other t u node at (inr (inr (inr gone))) = inr (inr (inr (record {
+  node = gone.node;
+  at = gone.at;
+  was = gone.was;
+  lost = lost_filter (λ version. not (bytes_eq (node ∷ at ∷ []) (version_key version))) u.versions gone.node gone.at gone.lost;
+})))
+
+pub forgets_other : (t u : Tables) (gone : List Version) → AreOther t u → AreOther t (deeds_done u (forgets gone))
+forgets_other t u [] other = other
+forgets_other t u (version ∷ gone) other =
+    forgets_other t (forgotten u version.node version.at) gone (forgotten_other t u version.node version.at other)
+
+-- and it makes other tables
+pub forgotten_lost : (t u : Tables) (version : Version) → IsVersion t version → AreOther t (forgotten u version.node version.at)
+forgotten_lost t u version there = inr (inr (inr (record {
+  node = version.node;
+  at = version.at;
+  was = there;
+  lost = version_gone u.versions version.node version.at;
+})))
+
+-- ---- versions that go behind other deeds
+
+pub forgets_told : (t u : Tables) (gone : List Version) → All (IsVersion t) gone → AreTold t u (forgets gone)
+forgets_told t u [] there = tt
+forgets_told t u (version ∷ gone) there =
+    (All-head (IsVersion t) version gone there, forgets_told t (forgotten u version.node version.at) gone (All-tail (IsVersion t) version gone there))
+
+pub told_append : (t u : Tables) (xs ys : List Deed) → AreTold t u xs → AreTold t (deeds_done u xs) ys → AreTold t u (xs ++ ys)
+told_append t u [] ys first second = second
+told_append t u (x ∷ xs) ys first second = (first.0, told_append t (deed_done u x) xs ys first.1 second)
 
 -- nor does all that goes, one after the other
 pub purges_other : (t u : Tables) (gone : List ℕ) → AreOther t u → AreOther t (deeds_done u (purges gone))
@@ -509,6 +661,15 @@ closed_droppable : (nodes : List NodeRow) (shares : List ShareRow) (top : ℕ) �
 closed_droppable nodes shares top =
     All-map IsDroppable (λ share. Put (rows.Share (ended_row share))) (filter (is_closing nodes top) shares) (λ k d within. tt)
 
+-- where versions go
+forgotten_droppable : (versions : List VersionRow) (nodes : List ℕ) → All IsDroppable (flat_map (forgotten_of versions) nodes)
+forgotten_droppable versions [] = All-nil IsDroppable
+forgotten_droppable versions (node ∷ nodes) =
+    subst (All IsDroppable) (sym (flat_map-cons (forgotten_of versions) node nodes))
+    (All-append IsDroppable (forgotten_of versions node) (flat_map (forgotten_of versions) nodes)
+    (All-map IsDroppable (λ (row : VersionRow). Drop (keys.Version row.node row.at)) (versions_of versions node) (λ k d within is. cc))
+    (forgotten_droppable versions nodes))
+
 -- by no deed
 deed_droppable : (t : Tables) (one : Deed) → All IsDroppable (told_deed t one)
 deed_droppable t (deed.Discard item) =
@@ -516,17 +677,20 @@ deed_droppable t (deed.Discard item) =
     (row_droppable (node_row t.nodes item.node) trashed)
     (All-cons IsDroppable (Put (rows.Item item)) (closed_under t.nodes t.shares item.node) tt (closed_droppable t.nodes t.shares item.node))
 deed_droppable t (deed.Purge node) =
-    All-append IsDroppable (gone_under t.nodes t.shares node) (told_item t node)
+    All-append IsDroppable (forgotten_under t.nodes t.versions node) (gone_under t.nodes t.shares node ++ told_item t node)
+    (forgotten_droppable t.versions (walk_of t.nodes node))
+    (All-append IsDroppable (gone_under t.nodes t.shares node) (told_item t node)
     (All-append IsDroppable (dropped_under t.nodes node) (closed_under t.nodes t.shares node)
     (All-map IsDroppable (λ node. Drop (keys.Node node)) (walk_of t.nodes node) (λ k d within is. cc)) (closed_droppable t.nodes t.shares node))
     (cond_both (is_some (item_row t.items node)) (Drop (keys.Item node) ∷ []) [] (All IsDroppable)
-    (λ e. All-cons IsDroppable (Drop (keys.Item node)) [] (λ is. cc) (All-nil IsDroppable)) (λ e. All-nil IsDroppable))
+    (λ e. All-cons IsDroppable (Drop (keys.Item node)) [] (λ is. cc) (All-nil IsDroppable)) (λ e. All-nil IsDroppable)))
 deed_droppable t (deed.Restore node folder name) =
     All-cons IsDroppable (Drop (keys.Item node)) (told_node (node_row t.nodes node) (relinked folder name)) (λ is. cc)
     (row_droppable (node_row t.nodes node) (relinked folder name))
 deed_droppable t (deed.Relink node folder name) = row_droppable (node_row t.nodes node) (relinked folder name)
 deed_droppable t (deed.Join copies) = All-map IsDroppable (λ row. Put (rows.Node row)) copies (λ k d within. tt)
 deed_droppable t (deed.Requote row) = All-cons IsDroppable (Put (rows.User row)) [] tt (All-nil IsDroppable)
+deed_droppable t (deed.Forget node at) = All-cons IsDroppable (Drop (keys.Version node at)) [] (λ is. cc) (All-nil IsDroppable)
 
 -- nor by those after it
 pub deeds_droppable : (t : Tables) (deeds : List Deed) → All IsDroppable (told_deeds t deeds)

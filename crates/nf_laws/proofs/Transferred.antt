@@ -1,8 +1,8 @@
 -- What a MOVE and a COPY change, and that they change nothing else.
-use Rattle.std.proofs.Common.{◌≡◌, ◌≤◌, ℕ, ◌==◌, Bool, true, false, List, ◌∷◌, Some, None, Ok, if◌then◌else◌, inl, inr, refl, sym, ap, subst, ◌∙◌, arith}
+use Rattle.std.proofs.Common.{◌≡◌, ◌≤◌, ℕ, ◌==◌, Bool, true, false, List, ◌∷◌, Some, None, Ok, if◌then◌else◌, inl, inr, refl, sym, ap, subst, ◌∙◌, arith, flat_map, ◌++◌, [], Option}
 use Rattle.std.specs.Prelude.{is_some}
-use Rattle.std.proofs.lemmas.List.Elements.{All-contains}
-use Rattle.std.specs.Option.{option_and_then}
+use Rattle.std.proofs.lemmas.List.Elements.{All-contains, All-append, All-cons, All-nil}
+use Rattle.std.specs.Option.{option_and_then, option_map_or}
 use Rattle.std.proofs.lemmas.Bool.{both_ways, eq-eqb, eqb-true, not-false, not-true}
 use Rattle.std.proofs.lemmas.Option.{none-some, same_Some}
 use Rattle.nf_base.specs.declared.rows.NodeRow.{NodeRow}
@@ -12,13 +12,13 @@ use Rattle.nf_defs.specs.declared.Found.TheVariants.{At, Free, Missing}
 use Rattle.nf_laws.proofs.Acted.{given_below, IsNew}
 use Rattle.nf_laws.proofs.Acting.{accepted, frees_by, given_for, leads_by, there_at}
 use Rattle.nf_laws.proofs.Carried.{AreJoined, copying_kind, crossing_kind, IsRelinked, Kind, meta_with, moving_kind, source_apart}
-use Rattle.nf_laws.proofs.Departed.{below_after, below_off, have_left, kind_changed, new_after, others_after, present_after, rest_after, unstamped}
+use Rattle.nf_laws.proofs.Departed.{below_after, below_off, have_left, kind_changed, new_after, others_after, present_after, rest_after, unstamped, kind_some}
 use Rattle.nf_laws.proofs.Entries.{step_changed}
 use Rattle.nf_laws.proofs.Mirrored.{mirrored}
 use Rattle.nf_laws.proofs.Others.{stamp_sound}
 use Rattle.nf_laws.proofs.Parts.{copies_stamped, transfer_stamped}
 use Rattle.nf_laws.proofs.Rows.{stamp}
-use Rattle.nf_laws.specs.Acts.{HaveLeft, IsBeside, IsUnderOne}
+use Rattle.nf_laws.specs.Acts.{HaveLeft, IsBeside, IsUnderOne, AreVersionsFewer, AreVersionsLeft}
 use Rattle.nf_laws.specs.Transfers.{AreCopied, CopiesMirror, IsCarried, IsMoved, IsTransferOf, LeadsToTarget, Mirrors, MovesKeep, replaced_by}
 use Rattle.nf_laws.specs.Access.{LeadsBy}
 use Rattle.nf_laws.specs.Tree.{Under}
@@ -27,8 +27,9 @@ use Rattle.nf_words.proofs.Fits.{within}
 use Rattle.nf_words.proofs.Known.{KnownCross, KnownMove, KnownTransfer}
 use Rattle.nf_words.proofs.Starts.{has_asker, IsAsking}
 use Rattle.nf_words.proofs.Transfers.{copies_known, fit_parts, no_mount, same_transfer, transfer_known, transfer_parts}
-use Rattle.nf_words.specs.Prelude.{access_of, allowed_of, AreSound, Call, call_of, carries, carry_limit, changed, copied, copies, copies_to, copy_limit, crosses, crossing, decision_of, deeds_done, deepest_in, done, folder_at, found, is_off_mount, is_root_at, last_name, LeadsToRoot, limited, made_or_done, mount_renamed, mount_of, moved, move_limit, moves, node_found, purges, root_of, transfer_between, transfer_by, transfer_of, transfer_to, unfit_between, unreached, way_of, Ways}
+use Rattle.nf_words.specs.Prelude.{access_of, allowed_of, AreSound, Call, call_of, carries, carry_limit, changed, copied, copies, copies_to, copy_limit, crosses, crossing, decision_of, deeds_done, deepest_in, done, folder_at, found, is_off_mount, is_root_at, last_name, LeadsToRoot, limited, made_or_done, mount_renamed, mount_of, moved, move_limit, moves, node_found, purges, root_of, transfer_between, transfer_by, transfer_of, transfer_to, unfit_between, unreached, way_of, Ways, beside, besides, charged_for, copies_settled, discard, discards, forgets, purged_by, row_at, settled_by, unsettled}
 use Rattle.nf_words.specs.declared.answer.Deed.{Deed}
+use Rattle.nf_words.specs.declared.answer.Deed.TheVariants as deed
 use Rattle.nf_words.specs.declared.answer.Report.{Report}
 use Rattle.nf_words.specs.declared.history.Event.TheVariants.{Begin}
 use Rattle.nf_words.specs.declared.answer.Allowed.{Allowed}
@@ -37,6 +38,26 @@ use Rattle.nf_words.specs.declared.request.Places.{Places}
 use Rattle.nf_words.specs.declared.request.Spot.{Spot}
 use Rattle.nf_words.specs.declared.request.Transfer.{Transfer}
 use Rattle.nf_words.specs.declared.request.Wanted.TheVariants as wanted
+use Rattle.nf_laws.proofs.Behind.{behind_changed, copied_behind}
+use Rattle.nf_laws.proofs.Turning.{deeds_fewer, discard_keeps, KeepsVersions, purges_keep, versions_left}
+use Rattle.nf_laws.proofs.InTurn.{deeds_append}
+use Rattle.nf_retention.specs.declared.versions.Version.{Version}
+use Rattle.std.specs.List.{All}
+
+-- a MOVE takes no version but with its file
+moves_keep_versions : (t : Tables) (now : ℕ) (name : List ℕ) (transfer : Transfer) → All KeepsVersions (moves t now name transfer)
+moves_keep_versions t now name transfer =
+    All-append KeepsVersions (discards t now transfer.replaced) (deed.Relink transfer.node transfer.folder name ∷ besides t now transfer.replaced)
+    (leaves (row_at t transfer.replaced))
+    (All-cons KeepsVersions (deed.Relink transfer.node transfer.folder name) (besides t now transfer.replaced) tt (beside_them (row_at t transfer.replaced)))
+  where
+    leaves : (o : Option NodeRow) → All KeepsVersions (option_map_or (λ row. discard t now row ∷ []) o [])
+    leaves None = All-nil KeepsVersions
+    leaves (Some row) = All-cons KeepsVersions (discard t now row) [] (discard_keeps t now row) (All-nil KeepsVersions)
+
+    beside_them : (o : Option NodeRow) → All KeepsVersions (option_map_or (beside t now) o [])
+    beside_them None = All-nil KeepsVersions
+    beside_them (Some row) = purges_keep _
 
 -- ---- row by row
 
@@ -52,6 +73,8 @@ moved_rows t now transfer name report sound later move =
       tops = kind.gone;
       left = unstamped t made now now (replaced_by transfer) kind.gone (have_left all now deeds _ _ _ _ fine kind);
       others = others_after all now deeds _ _ _ _ fine kind;
+      versions = subst (AreVersionsLeft all) (ap (deeds_done all) kind.are ∙ deeds_append all (kind.one ∷ kind.more) (purges kind.gone))
+          (versions_left all deeds fine (moves_keep_versions t now name transfer));
       rest = rest_after all now deeds _ _ _ _ fine kind;
     })
   where
@@ -88,6 +111,8 @@ copied_rows t now transfer name deeds leave report sound later known kind =
       tops = kind.gone;
       left = unstamped t made now now leave kind.gone (have_left all now deeds _ _ _ _ fine kind);
       others = λ node old. others_after all now deeds _ _ _ _ fine kind node (λ new. absurd (omega (arith, old, new)));
+      versions = subst (AreVersionsFewer all) (ap (deeds_done all) kind.are ∙ deeds_append all (kind.one ∷ kind.more) (purges kind.gone))
+          (deeds_fewer all deeds);
       rest = rest_after all now deeds _ _ _ _ fine kind;
     })
   where
@@ -105,6 +130,19 @@ copied_rows t now transfer name deeds leave report sound later known kind =
 
     made : Tables
     made = deeds_done (deeds_done all (kind.one ∷ kind.more)) (purges kind.gone)
+
+-- and where versions go behind them
+copied_settled : (t : Tables) (now : ℕ) (transfer : Transfer) (name : List ℕ) (deeds : List Deed) (leave : List ℕ) (gone : List Version) (report : Report)
+    (sound : AreSound t) → (later : t.meta.last ≤ now) → (known : KnownTransfer t transfer name)
+    → (kind : Kind (stamp t now) now deeds leave (IsNew (stamp t now)) (AreJoined (stamp t now) (copies_to t now transfer name))
+    (meta_with (stamp t now) now (stamp_sound t now sound later) refl (copies_to t now transfer name)))
+    → AreCopied t (changed t now (done (deeds ++ forgets gone) report)) now transfer name leave
+copied_settled t now transfer name deeds leave gone report sound later known kind =
+    let versions = (deeds_done t (deeds ++ forgets gone)).versions in
+    subst (λ (made : Tables). AreCopied t made now transfer name leave)
+    (sym (behind_changed t now deeds gone report (kind_some t now deeds _ _ _ _ kind)))
+    (copied_behind t (changed t now (done deeds report)) versions now transfer name leave
+    (copied_rows t now transfer name deeds leave report sound later known kind) (deeds_fewer t (deeds ++ forgets gone)))
 
 -- nothing that is under what is present is under what goes beside what left
 tops_apart : (t after : Tables) (now : ℕ) (leave tops : List ℕ) (mid node : ℕ) → AreSound t → HaveLeft t after now leave tops → LeadsToRoot t.nodes mid
@@ -186,21 +224,23 @@ module _ (call : Call) (source target : Spot) (sound : AreSound call.state.table
   known_carried transfer e false inside some =
       record {
         known = transfer_known call source target sound is from_reached to_reached transfer e fits
-            (within t 0 (deepest_in t.nodes transfer.node transfer.folder) 0 0 some).deep;
+            (within t 0 (deepest_in t.nodes transfer.node transfer.folder) 0 0 0 some).deep;
         within = inside;
       }
 
 -- where it stays its owner's, or not
 carried_rows : (t : Tables) (now : ℕ) (transfer : Transfer) (name : List ℕ) (report : Report) → AreSound t → t.meta.last ≤ now → (b : Bool)
     → crosses t.nodes transfer ≡ b → KnownCarried t transfer name b
-    → IsCarried t (changed t now (done (if b then crossing t now name transfer else moves t now name transfer) report)) now transfer name
+    → IsCarried t (changed t now (done (if b then settled_by t (charged_for t transfer) (crossing t now name transfer)
+    else moves t now name transfer) report)) now transfer name
 carried_rows t now transfer name report sound later true across known =
     inr (
       λ same.
           both_ways (owner_of t.nodes transfer.node == owner_of t.nodes transfer.folder)
           (not-true (owner_of t.nodes transfer.node == owner_of t.nodes transfer.folder) across)
           (eq-eqb (owner_of t.nodes transfer.node) (owner_of t.nodes transfer.folder) same),
-      copied_rows t now transfer name (crossing t now name transfer) (transfer.node ∷ replaced_by transfer) report sound later known.copies.known
+      copied_settled t now transfer name (crossing t now name transfer) (transfer.node ∷ replaced_by transfer)
+          (unsettled t (charged_for t transfer) (flat_map purged_by (crossing t now name transfer))) report sound later known.copies.known
           (crossing_kind (stamp t now) now (stamp_sound t now sound later) refl transfer name
           (record { copies = copies_stamped t now transfer name known.copies; crosses = known.crosses })),
     )
@@ -259,11 +299,12 @@ copies_mirror s seat now words request source target overwrite sound seen may as
     let some : copy_limit t transfer ≡ None = sym (ap (option_and_then (copy_limit t)) to.1) ∙ p.few in
     let known = copies_known call source target sound.rows asker from_reached p.place.target transfer to.1 p.fits some in
     let later : t.meta.last ≤ now = omega (arith, sound.seen, seen) in
-    let act = done (copies t now name transfer) (made_or_done transfer.replaced) in
+    let act = done (copies_settled t now name transfer) (made_or_done transfer.replaced) in
     let gives : allowed_of (access_of s) call ≡ act =
     given_for call (wanted.Copy source target overwrite) asked ∙ ap (copied t now name) to.1 in
     let decides : decision_of s seat now (Begin words request) ≡ Ok act = is.0 ∙ ap (λ (a : Allowed). Ok a) gives in
-    let made = copied_rows t now transfer name (copies t now name transfer) (replaced_by transfer) (made_or_done transfer.replaced) sound.rows later known.known
+    let made = copied_settled t now transfer name (copies t now name transfer) (replaced_by transfer)
+    (unsettled t (charged_for t transfer) (flat_map purged_by (copies t now name transfer))) (made_or_done transfer.replaced) sound.rows later known.known
     (copying_kind (stamp t now) now (stamp_sound t now sound.rows later) refl transfer name (copies_stamped t now transfer name known)) in
     let becomes = step_changed s seat now (Begin words request) act decides in
     let made_after = changed t now act in (

@@ -22,6 +22,7 @@ use Rattle.nf_laws.proofs.Climbs.{node_row_each, some_there}
 use Rattle.nf_laws.proofs.Gone.{folder_left, root_left, those_sound}
 use Rattle.nf_laws.proofs.Moved.{below_leads, climb_below, deep_below, Fits, names_turned, no_root_row, others_same, outside_leads, outside_rooted, relinked_sound, root_turned}
 use Rattle.nf_laws.proofs.OneRow.{KeepsId, length_with, pieces_with, rising_with, row_itself, value_with, with_each}
+use Rattle.nf_laws.proofs.Files.{files_with}
 use Rattle.nf_laws.proofs.Others.{items_all, items_dropped, items_left, IsSeenSo, off_with, others_ended, was_with}
 use Rattle.nf_laws.proofs.Paths.{climb_own}
 use Rattle.nf_laws.proofs.Present.{below_present, never_trash, root_leads, trash_alone}
@@ -185,9 +186,11 @@ module _ (t : Tables) (item : ItemRow) (row : NodeRow) (folder : ℕ) (sound : A
         few_nodes = omega (arith, counts, sound.few_nodes);
         few_pieces = omega (arith, sound.few_pieces, pieces_with t.nodes top trashed 0 (λ row is. omega arith));
         later = sound.later;
-        others = others_ended t (λ n. is_under t.nodes n top) binned.nodes binned.items sound (was_with t top trashed seen_trashed)
+        others = others_ended t (λ n. is_under t.nodes n top) binned.nodes t.versions binned.items sound (was_with t top trashed seen_trashed)
             (λ n stays up. discarded_leads t item n sound stays up)
-            (off_with t top trashed sound seen_trashed) items_trashed (put_rising item_key item t.items sound.others.items_rise);
+            (off_with t top trashed sound seen_trashed)
+            sound.others.versions (files_with t top trashed sound seen_trashed.id seen_trashed.kind) sound.others.versions_rise
+            sound.others.few_versions items_trashed (put_rising item_key item t.items sound.others.items_rise);
       }
 
 -- ---- what comes back

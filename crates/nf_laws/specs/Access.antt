@@ -24,7 +24,7 @@ use Rattle.nf_defs.specs.declared.Seeker.{Seeker}
 use Rattle.nf_defs.specs.declared.Seeker.TheVariants.{User}
 use Rattle.nf_laws.specs.Reads.{IsFreeToRead, IsWellAsked}
 use Rattle.nf_laws.specs.Tree.{Under}
-use Rattle.nf_words.specs.Prelude.{access_of, after, answer_to, asker_of, behind, Call, call_of, deeds_done, ended_row, goal_at, home_of, is_joined, is_member, IsModest, IsSound, kind_of, kind_to, last_name, listing_of, may_by, MayCome, MayWant, membership, mount_of, name_back, Need, needed, needed_by, new_root, new_user, own_item, people_limit, perms_after, purges, receiver_named, restored, root_of, row_named, seeker_of, set_fault, set_row, State, until_after, usual_perms}
+use Rattle.nf_words.specs.Prelude.{access_of, after, answer_to, asker_of, behind, Call, call_of, deeds_done, ended_row, goal_at, home_of, is_joined, is_member, IsModest, IsSound, kind_of, kind_to, last_name, listing_of, may_by, MayCome, MayWant, membership, mount_of, name_back, Need, needed, needed_by, new_root, new_user, own_item, people_limit, perms_after, purges, receiver_named, restored, root_of, row_named, seeker_of, set_fault, set_row, State, until_after, usual_perms, forgets, needed_for, mount_by, unversioned, version_row, LeadsToRoot}
 use Rattle.nf_words.specs.Tokens.{link_token}
 use Rattle.nf_words.specs.declared.answer.Goal.{Goal}
 use Rattle.nf_words.specs.declared.answer.Goal.TheVariants.{Serve, Store}
@@ -41,10 +41,14 @@ use Rattle.nf_words.specs.declared.request.Sharee.{Sharee}
 use Rattle.nf_words.specs.declared.request.Spot.{Spot}
 use Rattle.nf_words.specs.declared.request.Until.{Until}
 use Rattle.nf_words.specs.declared.request.Wanted.TheVariants.{Delete, Get, Move, People, Share, Trash}
+use Rattle.nf_words.specs.declared.request.Wanted.TheVariants as want
+use Rattle.nf_words.specs.declared.request.VersionAsk.TheVariants as version
+use Rattle.nf_base.specs.declared.rows.VersionRow.{VersionRow}
 use Rattle.nf_words.specs.declared.request.TrashAsk.{TrashAsk}
 use Rattle.nf_words.specs.declared.request.TrashAsk.TheVariants as trash
 use Rattle.nf_words.specs.declared.request.ShareAsk.TheVariants as ask
 use Rattle.nf_words.specs.declared.request.Words.{Words}
+use Rattle.nf_retention.specs.declared.versions.Version.{Version}
 
 -- ---- who may do what
 
@@ -99,12 +103,31 @@ pub record IsReadableFile (call : Call) (content : List Piece) : Type 0 where
   pub free : IsFreeToRead call.state call.seat row.id
   pub sent : row.content ≡ content
 
+-- a request for a version of a file, which no rule of who asks refuses: the file is present, and the caller owns it or has a mount at it or
+-- above it, and may read it by such a mount
+pub record IsReadableVersion (call : Call) (content : List Piece) : Type 0 where
+  pub user : List ℕ
+  pub node : ℕ
+  pub at : ℕ
+  pub asked : call.request.wanted ≡ want.Version (version.Get user node at)
+  pub well : IsWellAsked call
+  pub present : LeadsToRoot call.state.tables.nodes node
+  pub file : is_folder call.state.tables.nodes node ≡ false
+  pub row : VersionRow
+  pub there : version_row call.state.tables.versions node at ≡ Some row
+  pub seen : unversioned call (version.Get user node at) ≡ None
+  pub may : may_by (access_of call.state) call.state.tables.nodes (seeker_of call) call.now Read node
+      (mount_by (access_of call.state) call.state.tables.nodes call.state.tables.mounts (seeker_of call) (asker_of call) call.now Read node)
+      ≡ true
+  pub free : IsFreeToRead call.state call.seat node
+  pub sent : row.content ≡ content
+
 -- what is served of a request that may be asked is what the caller may read
 abbrev pub ServesWhatMayBeRead : Type 0
 ServesWhatMayBeRead =
     (s : State) (seat now : ℕ) (words : Words) (request : Request) (content : List Piece) → IsSound s → MayWant request
     → answer_to s seat now (Begin words request) ≡ Ok (Granted (Serve content))
-    → IsReadableFile (call_of s seat now words request) content
+    → IsReadableFile (call_of s seat now words request) content ⊎ IsReadableVersion (call_of s seat now words request) content
 
 -- and what may be read and is named is served
 abbrev pub WhatMayBeReadIsServed : Type 0
@@ -144,9 +167,10 @@ abbrev pub seeker_of_goal : Goal → Option Seeker
 seeker_of_goal (Serve content) = None
 seeker_of_goal (Store by key length) = Some by.seeker
 
--- an event needs what its request or its goal needs
+-- an event needs what its request or its goal needs; a request needs that of its paths, and that of a version
 abbrev pub needs_of : State → ℕ → ℕ → Event → List Need
-needs_of s seat now (Begin words request) = needed (call_of s seat now words request)
+needs_of s seat now (Begin words request) =
+    let call = call_of s seat now words request in needed call ++ needed_for (access_of s) call request.wanted
 needs_of s seat now (End outcome) = option_map_or needs_of_goal (goal_at s seat) []
 needs_of s seat now Sweep = []
 
@@ -396,11 +420,12 @@ pub data Settles (s : State) (e : Entry) : ℕ → Type 0 where
 abbrev pub IsItemSettled : State → Entry → ℕ → Type 0
 IsItemSettled s e node = (item : ItemRow) × (item_row s.tables.items node ≡ Some item) × Settles s e item.owner
 
--- some items in trashes that are settled go for good then, each with all under it
+-- some items in trashes that are settled go for good then, each with all under it, and then versions
 pub record IsSettled (s : State) (e : Entry) (before after : Tables) : Type 0 where
   pub tops : List ℕ
   pub items : All (IsItemSettled s e) tops
-  pub gone : after ≡ deeds_done before (purges tops)
+  pub versions : List Version
+  pub gone : after ≡ deeds_done before (purges tops ++ forgets versions)
 
 -- ---- what a step changes
 
@@ -418,10 +443,11 @@ pub record NodesAllowed (s : State) (e : Entry) (after : Tables) : Type 0 where
     nodes = after.nodes;
     shares = after.shares;
     mounts = after.mounts;
+    versions = after.versions;
     items = after.items;
   }
 
--- and then trashes are settled, if any are
+-- and then trashes and versions are settled, if any are
 pub record ChangesAllowed (s : State) (e : Entry) (after : Tables) : Type 0 where
   pub between : Tables
   pub allowed : NodesAllowed s e between ⊎ (IsProviding s e between ⊎ IsRestoring s e between)

@@ -15,7 +15,7 @@ use Rattle.nf_laws.specs.Access.{LeadsBy}
 use Rattle.nf_laws.specs.Reads.{LeadsToKey}
 use Rattle.nf_laws.specs.Tree.{Under}
 use Rattle.nf_laws.specs.Wholes.{blob_in}
-use Rattle.nf_words.specs.Prelude.{after, answer_to, asker_of, behind, blob_for, Call, call_of, content_in, ended_row, goal_at, gone_from, home_of, IsSound, last_name, left_row, MayAsk, mount_of, name_back, named_row, root_of, seeker_of, State, step, user_of, way_of, without_ticket}
+use Rattle.nf_words.specs.Prelude.{after, answer_to, asker_of, behind, blob_for, Call, call_of, content_in, ended_row, goal_at, gone_from, home_of, IsSound, last_name, left_row, MayAsk, mount_of, name_back, named_row, root_of, seeker_of, State, step, user_of, versions_there, way_of, without_ticket}
 use Rattle.nf_words.specs.declared.answer.By.{By}
 use Rattle.nf_words.specs.declared.answer.Goal.TheVariants.{Store}
 use Rattle.nf_words.specs.declared.answer.LockKey.{LockKey}
@@ -30,6 +30,8 @@ use Rattle.nf_words.specs.declared.request.Wanted.TheVariants.{Delete, Mkcol, Mo
 use Rattle.nf_words.specs.declared.request.TrashAsk.TheVariants as trash
 use Rattle.nf_words.specs.declared.request.Words.{Words}
 use Rattle.nf_base.specs.declared.rows.ItemRow.{ItemRow}
+use Rattle.nf_base.specs.declared.rows.VersionRow.{VersionRow}
+use Rattle.nf_words.specs.Versions.{version_for}
 
 -- a path leads to the file that is stored over, or to the folder and the name that is free in it: from the caller's root, or from the node
 -- of the mount that it goes by, a user's behind its first name and a link's whole
@@ -89,6 +91,19 @@ pub record HaveLeft (before after : Tables) (now : ℕ) (leave tops : List ℕ) 
   pub items : (node : ℕ) → (Contains leave node → ⊥) → (Contains tops node → ⊥) → item_row after.items node ≡ item_row before.items node
   pub shares : AreEnded before.shares after.shares (IsUnderOne before.nodes leave)
 
+-- the versions of what is there are as they were, and there are no others
+abbrev pub AreVersionsLeft : Tables → Tables → Type 0
+AreVersionsLeft before after = after.versions ≡ versions_there after.nodes before.versions
+
+-- each version is one that there was
+abbrev pub AreVersionsFewer : Tables → Tables → Type 0
+AreVersionsFewer before after = All (λ (version : VersionRow). Contains before.versions version) after.versions
+
+-- or what its file had
+abbrev pub IsOldVersion : Tables → VersionRow → Type 0
+IsOldVersion before version =
+    Contains before.versions version ⊎ ((was : NodeRow) × (node_row before.nodes version.node ≡ Some was) × (version ≡ version_for was))
+
 -- ---- DELETE
 
 -- the node to which the path leads left its place. Every other node is as it was, and of the meta row the moment alone is another
@@ -99,10 +114,12 @@ pub record IsDeleted (call : Call) (spot : Spot) (after : Tables) : Type 0 where
   pub left : HaveLeft call.state.tables after call.now (top ∷ []) tops
   pub others : (node : ℕ) → (Under call.state.tables.nodes top node → ⊥) → (IsUnderOne call.state.tables.nodes tops node → ⊥)
       → node_row after.nodes node ≡ node_row call.state.tables.nodes node
+  pub versions : AreVersionsLeft call.state.tables after
   pub rest : after ≡ record call.state.tables {
     meta = record call.state.tables.meta { last = call.now };
     nodes = after.nodes;
     shares = after.shares;
+    versions = after.versions;
     items = after.items;
   }
 
@@ -122,7 +139,13 @@ pub record AreTaken (before after : Tables) (tops : List ℕ) : Type 0 where
   pub none : All (λ (top : ℕ). item_row after.items top ≡ None) tops
   pub others : (node : ℕ) → (IsUnderOne before.nodes tops node → ⊥) → node_row after.nodes node ≡ node_row before.nodes node
   pub items : (node : ℕ) → (Contains tops node → ⊥) → item_row after.items node ≡ item_row before.items node
-  pub rest : after ≡ record before { meta = record before.meta { last = after.meta.last }; nodes = after.nodes; items = after.items }
+  pub versions : AreVersionsLeft before after
+  pub rest : after ≡ record before {
+    meta = record before.meta { last = after.meta.last };
+    nodes = after.nodes;
+    versions = after.versions;
+    items = after.items;
+  }
 
 -- they are items of the caller's
 abbrev pub IsEmptied : Call → Tables → List ℕ → Type 0
@@ -147,7 +170,7 @@ EmptyingKeeps =
 
 -- the node of an item of the caller's is in a folder of the caller's that is present: the one that it came from, or else the root. It has
 -- a name there that was free, and is an item no more; all under it is as it was. Of the caller's other items some may be gone for good,
--- each with all under it, and nothing else is another but the moment
+-- each with all under it, and some versions may be gone, and nothing else is another but the moment
 pub record IsRestored (call : Call) (node : ℕ) (after : Tables) : Type 0 where
   pub item : ItemRow
   pub there : item_row call.state.tables.items node ≡ Some item
@@ -165,9 +188,11 @@ pub record IsRestored (call : Call) (node : ℕ) (after : Tables) : Type 0 where
   pub others : (other : ℕ) → other ≢ node → (IsUnderOne call.state.tables.nodes tops other → ⊥)
       → node_row after.nodes other ≡ node_row call.state.tables.nodes other
   pub items : (other : ℕ) → other ≢ node → (Contains tops other → ⊥) → item_row after.items other ≡ item_row call.state.tables.items other
+  pub versions : AreVersionsFewer call.state.tables after
   pub rest : after ≡ record call.state.tables {
     meta = record call.state.tables.meta { last = call.now };
     nodes = after.nodes;
+    versions = after.versions;
     items = after.items;
   }
 
@@ -240,6 +265,7 @@ pub record IsAdded (before after : Tables) (now folder : ℕ) (name : List ℕ) 
     changed = now;
   })
   pub others : (node : ℕ) → node ≢ before.meta.next_node → node_row after.nodes node ≡ node_row before.nodes node
+  pub versions : AreVersionsFewer before after
   pub rest : after ≡ record before {
     meta = record before.meta {
       next_node = before.meta.next_node + 1;
@@ -247,16 +273,18 @@ pub record IsAdded (before after : Tables) (now folder : ℕ) (name : List ℕ) 
       last = now;
     };
     nodes = after.nodes;
+    versions = after.versions;
   }
 
 -- ---- MKCOL
 
--- the new node is a folder, at the end of the path
+-- the new node is a folder, at the end of the path, and no version is another
 pub record IsFolderMade (call : Call) (spot : Spot) (after : Tables) : Type 0 where
   pub folder : ℕ
   pub name : List ℕ
   pub led : LeadsToKeyBy call spot (mount_of call spot) (Slot folder name)
   pub added : IsAdded call.state.tables after call.now folder name Folder []
+  pub versions : after.versions ≡ call.state.tables.versions
 
 abbrev pub FoldersAreMade : Type 0
 FoldersAreMade =
@@ -283,6 +311,7 @@ PutsAreGranted =
     → IsGranted s seat now words request spot size
 
 -- the file has the new content, which became current at the moment, and nothing else of it is another; every other node is as it was.
+-- Each version is one that there was, or what its file had.
 -- Of the meta row these alone are others: the next number of a blob, which is as many more as the content has pieces, and the moment,
 -- unless the file was just so before
 pub record IsRefilled (before after : Tables) (now node : ℕ) (content : List Piece) : Type 0 where
@@ -291,9 +320,11 @@ pub record IsRefilled (before after : Tables) (now node : ℕ) (content : List P
   pub file : is_folder_kind row.kind ≡ false
   pub itself : node_row after.nodes node ≡ Some (record row { content = content; changed = now })
   pub others : (other : ℕ) → other ≢ node → node_row after.nodes other ≡ node_row before.nodes other
+  pub versions : All (IsOldVersion before) after.versions
   pub rest : after ≡ record before {
     meta = record before.meta { next_blob = before.meta.next_blob + length content; last = after.meta.last };
     nodes = after.nodes;
+    versions = after.versions;
   }
   pub moment : (after ≡ before) ⊎ (after.meta.last ≡ now)
 

@@ -5,7 +5,7 @@ use Rattle.nf_base.specs.declared.rows.NodeRow.{NodeRow}
 use Rattle.nf_base.specs.declared.rows.Place.TheVariants.{Inside}
 use Rattle.nf_defs.specs.Prelude.{node_row, owner_of, parent_of, relinked, Tables, walk_of}
 use Rattle.nf_laws.specs.Access.{LeadsBy}
-use Rattle.nf_laws.specs.Acts.{HaveLeft, IsUnderOne, LeadsToKeyBy}
+use Rattle.nf_laws.specs.Acts.{HaveLeft, IsUnderOne, LeadsToKeyBy, AreVersionsFewer, AreVersionsLeft}
 use Rattle.nf_laws.specs.Tree.{Under}
 use Rattle.nf_words.specs.Prelude.{answer_to, Call, call_of, IsSound, last_name, MayAsk, mount_of, State, step, way_of}
 use Rattle.nf_words.specs.declared.answer.LockKey.TheVariants.{Slot}
@@ -44,10 +44,12 @@ pub record IsMoved (before after : Tables) (now : ℕ) (transfer : Transfer) (na
   pub left : HaveLeft before after now (replaced_by transfer) tops
   pub others : (node : ℕ) → node ≢ transfer.node → (IsUnderOne before.nodes (replaced_by transfer) node → ⊥)
       → (IsUnderOne before.nodes tops node → ⊥) → node_row after.nodes node ≡ node_row before.nodes node
+  pub versions : AreVersionsLeft before after
   pub rest : after ≡ record before {
     meta = record before.meta { last = now };
     nodes = after.nodes;
     shares = after.shares;
+    versions = after.versions;
     items = after.items;
   }
 
@@ -81,7 +83,7 @@ pub record Mirrors (t : Tables) (now : ℕ) (transfer : Transfer) (name : List �
   pub all : length rows ≡ length (walk_of t.nodes transfer.node)
   pub each : (k : ℕ) (copy : NodeRow) → slice_get rows k ≡ Some copy → IsCopyOf t now transfer name k copy
 
--- the copies are there, and those nodes left their places. Every other node is as it was. Of the meta row these alone are others: the
+-- the copies are there, and those nodes left their places. Every other node is as it was, and some versions may be gone. Of the meta row these alone are others: the
 -- moment, and the next number of a node, which is as many more as there are copies
 pub record AreCopied (before after : Tables) (now : ℕ) (transfer : Transfer) (name : List ℕ) (leave : List ℕ) : Type 0 where
   pub rows : List NodeRow
@@ -91,10 +93,12 @@ pub record AreCopied (before after : Tables) (now : ℕ) (transfer : Transfer) (
   pub left : HaveLeft before after now leave tops
   pub others : (node : ℕ) → node < before.meta.next_node → (IsUnderOne before.nodes leave node → ⊥)
       → (IsUnderOne before.nodes tops node → ⊥) → node_row after.nodes node ≡ node_row before.nodes node
+  pub versions : AreVersionsFewer before after
   pub rest : after ≡ record before {
     meta = record before.meta { next_node = before.meta.next_node + length rows; last = now };
     nodes = after.nodes;
     shares = after.shares;
+    versions = after.versions;
     items = after.items;
   }
 

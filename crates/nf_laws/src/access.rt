@@ -10,7 +10,8 @@ pub fn owners_and_reached_may()
 {}
 
 /// What a GET is granted is the content of a file at which the caller may read, and to which the path leads: from the caller's
-/// root, or from the node of the mount that it goes by, on which a chain of live shares reaches the caller.
+/// root, or from the node of the mount that it goes by, on which a chain of live shares reaches the caller. Or it is the content of a
+/// version of a file that is present, which the caller owns or has a mount at or above, and may read.
 #[tactic(auto, using(crate::proofs::Reaching::serves_readable))]
 pub fn serves_what_may_be_read()
     ensures { ServesWhatMayBeRead }

@@ -1,4 +1,5 @@
 pub mod Again
+pub mod Bounds
 pub mod Judged
 pub mod Names
 pub mod Ways

@@ -4,13 +4,13 @@ ghost use Rattle.std.specs.Prelude.{◌≡◌, not, nat_lt, true};
 ghost use Rattle.std.specs.Option.{option_map_or};
 ghost use Rattle.nf_base.specs.declared.rows.Row.TheVariants as rows;
 ghost use Rattle.nf_defs.specs.Tables.{tables_of};
-ghost use Rattle.nf_rules.specs.Rules.{are_counters, are_item_numbers, are_numbers, are_share_numbers, first_index, has_ungiven_blob, is_given, is_lavish, is_place_given, is_recipient_given};
+ghost use Rattle.nf_rules.specs.Rules.{are_counters, are_item_numbers, are_numbers, are_share_numbers, are_version_numbers, first_index, has_ungiven_blob, is_given, is_lavish, is_place_given, is_recipient_given};
 ghost use Rattle.nf_words.specs.Prelude.{is_end_moment, is_later};
 
 use crate::first::first;
 use nf_base::{
     BlobId, ItemRow, MAX_QUOTA, MetaRow, Moment, NodeId, NodeRow, Piece, Place, Row, ShareId,
-    ShareKind, ShareRow,
+    ShareKind, ShareRow, VersionRow,
 };
 
 /// The seconds of a day.
@@ -38,8 +38,9 @@ fn is_later(row: &Row) -> bool
         | Row::Node(_)
         | Row::Share(_)
         | Row::Mount(_)
+        | Row::Version(_)
         | Row::Item(_) => false,
-        Row::Version(_) | Row::Upload(_) | Row::Chunk(_) => true,
+        Row::Upload(_) | Row::Chunk(_) => true,
     }
 }
 
@@ -74,6 +75,7 @@ fn are_numbers(meta: &MetaRow, row: &Row) -> bool
             is_given(next_user, u64::from(row.user.number()))
                 && is_given(meta.next_node.number(), row.node.number())
         }
+        Row::Version(row) => are_version_numbers(meta, row),
         Row::Item(row) => are_item_numbers(meta, row),
         _ => true,
     }
@@ -104,6 +106,14 @@ fn are_share_numbers(meta: &MetaRow, row: &ShareRow) -> bool
         && is_parent_given(meta.next_share, row.parent)
         && is_end(row.until)
         && row.made <= meta.last
+}
+
+fn are_version_numbers(meta: &MetaRow, row: &VersionRow) -> bool
+    ensures { result ≡ are_version_numbers meta.now row.now }
+{
+    is_given(meta.next_node.number(), row.node.number())
+        && !has_ungiven_blob(meta.next_blob, row.content.pieces())
+        && row.at <= meta.last
 }
 
 fn are_item_numbers(meta: &MetaRow, row: &ItemRow) -> bool
@@ -195,14 +205,8 @@ fn has_ungiven_blob(next: BlobId, content: &[Piece]) -> bool
         .any(|piece| !is_given(next.number(), piece.blob.number()))
 }
 
-/// The first user whose quota is too large.
-pub(crate) fn first_lavish(rows: &[Row]) -> Option<usize>
-    ensures { result ≡ first_index is_lavish rows.now }
-{
-    first(rows, |row| is_lavish(row))
-}
-
-fn is_lavish(row: &Row) -> bool
+/// Whether it is a user whose quota is too large.
+pub(crate) fn is_lavish(row: &Row) -> bool
     ensures { result ≡ is_lavish row.now }
 {
     match row {

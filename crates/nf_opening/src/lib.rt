@@ -3,6 +3,7 @@
 
 mod again;
 mod alone;
+mod bounds;
 mod fault;
 mod first;
 mod judging;

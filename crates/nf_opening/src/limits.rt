@@ -1,14 +1,16 @@
 //! The limits.
 
-ghost use Rattle.std.specs.Prelude.{◌≡◌};
+ghost use Rattle.std.specs.Prelude.{◌≡◌, ◌≤◌, ◌*◌, length, sum_by};
+ghost use Rattle.nf_base.specs.declared.limits.TheConstants.{MAX_PIECES};
 ghost use Rattle.nf_defs.specs.Prelude.{piece_count, tables_of};
 ghost use Rattle.nf_rules.specs.Rules.{first_index, is_beyond};
+ghost use Rattle.nf_words.specs.Prelude.{stored_pieces};
 
 use crate::Loaded;
 use crate::first::first;
 use nf_base::{
-    MAX_GROUPS, MAX_MEMBERS, MAX_MOUNTS, MAX_NODES, MAX_SHARES, MAX_STORED_PIECES, MAX_TOKENS,
-    MAX_USERS, NodeRow, Row,
+    ChunkRow, MAX_GROUPS, MAX_MEMBERS, MAX_MOUNTS, MAX_NODES, MAX_SHARES, MAX_STORED_PIECES,
+    MAX_TOKENS, MAX_USERS, MAX_VERSIONS, NodeRow, Row, VersionRow,
 };
 
 /// The first row that is one of too many.
@@ -16,13 +18,45 @@ pub(crate) fn first_beyond(loaded: &Loaded, rows: &[Row]) -> Option<usize>
     requires { loaded.now ≡ tables_of rows.now }
     ensures { result ≡ first_index (is_beyond (tables_of rows.now)) rows.now }
 {
-    let pieces = piece_count(&loaded.nodes);
+    let pieces = stored_pieces(loaded);
     first(rows, |row| is_beyond(loaded, pieces, row))
 }
 
-/// How many pieces the nodes have, with repeats. No sum of these passes a u128.
+/// How many pieces are stored, with repeats. No sum of these passes a u128.
+fn stored_pieces(loaded: &Loaded) -> u128
+    ensures { result ≡ stored_pieces loaded.now }
+{
+    piece_count(&loaded.nodes) + version_pieces(&loaded.versions) + chunk_pieces(&loaded.chunks)
+}
+
+/// How many pieces the nodes have, with repeats.
 fn piece_count(rows: &[NodeRow]) -> u128
-    ensures { result ≡ piece_count rows.now }
+    ensures count { result ≡ piece_count rows.now }
+    ensures few { result ≤ MAX_PIECES * length rows.now }
+{
+    let mut count = 0;
+    for row in rows {
+        count += row.content.pieces().len() as u128;
+    }
+    count
+}
+
+/// How many pieces the versions have, with repeats.
+fn version_pieces(rows: &[VersionRow]) -> u128
+    ensures count { result ≡ sum_by (λ row. length row.content) rows.now }
+    ensures few { result ≤ MAX_PIECES * length rows.now }
+{
+    let mut count = 0;
+    for row in rows {
+        count += row.content.pieces().len() as u128;
+    }
+    count
+}
+
+/// How many pieces the chunks have, with repeats.
+fn chunk_pieces(rows: &[ChunkRow]) -> u128
+    ensures count { result ≡ sum_by (λ row. length row.content) rows.now }
+    ensures few { result ≤ MAX_PIECES * length rows.now }
 {
     let mut count = 0;
     for row in rows {
@@ -32,7 +66,7 @@ fn piece_count(rows: &[NodeRow]) -> u128
 }
 
 fn is_beyond(loaded: &Loaded, pieces: u128, row: &Row) -> bool
-    requires { pieces ≡ piece_count loaded.now.nodes }
+    requires { pieces ≡ stored_pieces loaded.now }
     ensures { result ≡ is_beyond loaded.now row.now }
 {
     match row {
@@ -46,6 +80,9 @@ fn is_beyond(loaded: &Loaded, pieces: u128, row: &Row) -> bool
         }
         Row::Share(_) => loaded.shares.len() > MAX_SHARES,
         Row::Mount(_) => loaded.mounts.len() > MAX_MOUNTS,
+        Row::Version(_) => {
+            loaded.versions.len() > MAX_VERSIONS || pieces > u128::from(MAX_STORED_PIECES)
+        }
         _ => false,
     }
 }

@@ -3,12 +3,12 @@
 ghost use Rattle.std.specs.Prelude.{◌≡◌, not, option_copied};
 ghost use Rattle.nf_base.specs.declared.rows.Row.TheVariants as rows;
 ghost use Rattle.nf_defs.specs.Prelude.{AreRising, tables_of};
-ghost use Rattle.nf_rules.specs.Rules.{first_index, is_folder_for, is_from_kept, is_item_kept, is_placed, is_root_of, is_trashed_as, leads};
+ghost use Rattle.nf_rules.specs.Rules.{first_index, is_folder_for, is_from_kept, is_item_kept, is_placed, is_root_of, is_trashed_as, is_version_kept, leads};
 ghost use Rattle.nf_opening.specs.Ways.{folder_above, is_own_top};
 
 use crate::Loaded;
 use crate::first::first;
-use nf_base::{ItemRow, MAX_DEPTH, NodeKind, NodeRow, Place, Row, UserRow};
+use nf_base::{ItemRow, MAX_DEPTH, NodeKind, NodeRow, Place, Row, UserRow, VersionRow};
 
 /// The first user who has no root, node that leads neither to one nor into the trash, or item of what isn't in its owner's trash.
 pub(crate) fn first_astray(loaded: &Loaded, rows: &[Row]) -> Option<usize>
@@ -26,6 +26,7 @@ fn is_placed(loaded: &Loaded, row: &Row) -> bool
     match row {
         Row::User(row) => has_root(loaded, row),
         Row::Node(row) => leads(loaded, row),
+        Row::Version(row) => is_version_kept(loaded, row),
         Row::Item(row) => is_item_kept(loaded, row),
         _ => true,
     }
@@ -93,6 +94,17 @@ fn is_own_top(loaded: &Loaded, node: &NodeRow) -> bool
         },
         Place::Inside(_) => false,
         Place::Trash => loaded.user(node.owner).is_some() && loaded.has_item(node.id),
+    }
+}
+
+/// Whether the version is of a file, and has a content.
+fn is_version_kept(loaded: &Loaded, row: &VersionRow) -> bool
+    requires { AreRising loaded.now }
+    ensures { result ≡ is_version_kept loaded.now row.now }
+{
+    match loaded.node(row.node) {
+        Some(node) => node.kind == NodeKind::File && !row.content.pieces().is_empty(),
+        None => false,
     }
 }
 

@@ -29,6 +29,7 @@ fn names_are_there(loaded: &Loaded, row: &Row) -> bool
         Row::Node(row) => loaded.user(row.owner).is_some() && is_place_there(loaded, row.place),
         Row::Share(row) => are_share_names_there(loaded, row),
         Row::Mount(row) => loaded.user(row.user).is_some(),
+        Row::Version(row) => loaded.node(row.node).is_some(),
         Row::Item(row) => loaded.user(row.owner).is_some() && loaded.node(row.node).is_some(),
         _ => true,
     }

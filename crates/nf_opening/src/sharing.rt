@@ -102,7 +102,7 @@ fn is_of_node(row: &ShareRow, node: &NodeRow) -> bool
 }
 
 /// Whether the node leads to its owner's root.
-fn is_in_root(loaded: &Loaded, node: &NodeRow) -> bool
+pub(crate) fn is_in_root(loaded: &Loaded, node: &NodeRow) -> bool
     requires { AreRising loaded.now }
     ensures { result ≡ is_in_root loaded.now node.now }
 {
@@ -129,7 +129,7 @@ fn is_under(loaded: &Loaded, node: NodeId, top: NodeId) -> bool
 }
 
 /// The folder that a node is in.
-fn parent_of(loaded: &Loaded, node: NodeId) -> Option<NodeId>
+pub(crate) fn parent_of(loaded: &Loaded, node: NodeId) -> Option<NodeId>
     requires { AreRising loaded.now }
     ensures { result ≡ parent_of loaded.now.nodes node }
 {

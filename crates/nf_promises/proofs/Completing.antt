@@ -6,7 +6,7 @@ use Rattle.std.specs.Io.KnownBytes.{Appends}
 use Rattle.nf_base.specs.Content.{size_of}
 use Rattle.nf_base.specs.declared.content.Piece.{Piece}
 use Rattle.nf_dav.specs.Asked.{request_of}
-use Rattle.nf_dav.specs.Reply.{file_head, refusal_reply, done_reply, items_reply, listing_reply, made_reply, plain_reply, share_reply, shares_reply}
+use Rattle.nf_dav.specs.Reply.{file_head, refusal_reply, done_reply, items_reply, listing_reply, made_reply, plain_reply, share_reply, shares_reply, versions_reply}
 use Rattle.nf_dav.specs.declared.replies.Manner.{Manner}
 use Rattle.nf_http.specs.Bodies.{TakesBody}
 use Rattle.nf_http.specs.Head.{Head, closes_session}
@@ -111,6 +111,7 @@ SaysWord front close (reply.Listing lines) a b = Appends a.output b.output (fron
 SaysWord front close (reply.Share line) a b = Appends a.output b.output (front ++ share_reply close line)
 SaysWord front close (reply.Shares lines) a b = Appends a.output b.output (front ++ shares_reply close lines)
 SaysWord front close (reply.Items lines) a b = Appends a.output b.output (front ++ items_reply close lines)
+SaysWord front close (reply.Versions lines) a b = Appends a.output b.output (front ++ versions_reply close lines)
 SaysWord front close reply.Plain a b = Appends a.output b.output (front ++ plain_reply close)
 SaysWord front close reply.Closed a b = ⊥
 SaysWord front close (reply.Granted goal) a b = ⊥
@@ -138,6 +139,8 @@ word_written {C} front close last way answered v a x y b closes fronts is writes
         subst (λ (c : Bool). Appends a.output b.output (front ++ shares_reply c lines)) closes (fronts _ (so (response.Shares lines) is).bytes_are)
     here (reply.Items lines) is =
         subst (λ (c : Bool). Appends a.output b.output (front ++ items_reply c lines)) closes (fronts _ (so (response.Items lines) is).bytes_are)
+    here (reply.Versions lines) is =
+        subst (λ (c : Bool). Appends a.output b.output (front ++ versions_reply c lines)) closes (fronts _ (so (response.Versions lines) is).bytes_are)
     here reply.Plain is = subst (λ (c : Bool). Appends a.output b.output (front ++ plain_reply c)) closes (fronts _ (so response.Plain is).bytes_are)
     here reply.Closed never = absurd never
     here (reply.Granted goal) never = absurd never
@@ -211,6 +214,7 @@ module _ {C : Type 0} (reads : C → Taken → C → Type 0) (last : Bool) (head
       says (Ok (reply.Share line)) never is = absurd never
       says (Ok (reply.Shares lines)) never is = absurd never
       says (Ok (reply.Items lines)) never is = absurd never
+      says (Ok (reply.Versions lines)) never is = absurd never
       says (Ok reply.Plain) never is = absurd never
       says (Ok word) of is =
           word_written (invitation head) (last || closes_session head) last way word v a k s b (close_is last (closes_session head)) fronts is writes

@@ -10,13 +10,14 @@ use Rattle.std.proofs.lemmas.List.{append_cancel_left, get_or-take, length-take}
 use Rattle.std.proofs.Math.ListN.{get_or-eq_default}
 use Rattle.nf_base.specs.Content.{size_of}
 use Rattle.nf_base.specs.declared.content.Piece.{Piece}
-use Rattle.nf_dav.specs.Reply.{continue_reply, done_reply, file_head, head_bytes, items_reply, last_manner, listing_reply, made_reply, own_line, refusal_body, refusal_reply, status_of, plain_reply, share_reply, shares_reply}
+use Rattle.nf_dav.specs.Reply.{continue_reply, done_reply, file_head, head_bytes, items_reply, last_manner, listing_reply, made_reply, own_line, refusal_body, refusal_reply, status_of, plain_reply, share_reply, shares_reply, versions_reply}
 use Rattle.nf_dav.specs.declared.replies.Manner.{Manner}
 use Rattle.nf_http.specs.declared.wire.WireFault.{WireFault}
 use Rattle.nf_http.specs.declared.wire.WireFault.TheVariants as wire
 use Rattle.nf_words.specs.declared.answer.Denial.{Denial}
 use Rattle.nf_words.specs.declared.answer.Denial.TheVariants as denial
 use Rattle.nf_words.specs.declared.listing.ItemLine.{ItemLine}
+use Rattle.nf_words.specs.declared.listing.VersionLine.{VersionLine}
 use Rattle.nf_words.specs.declared.listing.ListingLine.{ListingLine}
 use Rattle.nf_words.specs.declared.sharing.ShareLine.{ShareLine}
 use Rattle.nf_session.specs.Prelude.{denial_of, denial_of_piece, EndsBy, EndsSo, file_front, manner_of, Responds, Says, Scene, SendsFile, Way, Writes}
@@ -65,6 +66,9 @@ shares_mark close lines = refl
 
 items_mark : (close : Bool) (lines : List ItemLine) → is_done (items_reply close lines) ≡ false
 items_mark close lines = refl
+
+versions_mark : (close : Bool) (lines : List VersionLine) → is_done (versions_reply close lines) ≡ false
+versions_mark close lines = refl
 
 plain_mark : (close : Bool) → is_done (plain_reply close) ≡ false
 plain_mark close = refl
@@ -152,6 +156,7 @@ writes_said manner (response.Listing lines) a b result says = inr (says_other a 
 writes_said manner (response.Share line) a b result says = inr (says_other a b _ result (share_mark manner.close line) says)
 writes_said manner (response.Shares lines) a b result says = inr (says_other a b _ result (shares_mark manner.close lines) says)
 writes_said manner (response.Items lines) a b result says = inr (says_other a b _ result (items_mark manner.close lines) says)
+writes_said manner (response.Versions lines) a b result says = inr (says_other a b _ result (versions_mark manner.close lines) says)
 writes_said manner response.Plain a b result says = inr (says_other a b _ result (plain_mark manner.close) says)
 writes_said manner (response.Denied refusal) a b result says = inr (says_other a b _ result (refusal_mark manner refusal) says)
 writes_said manner (response.Lost why) a b result says = inr (says_other a b _ result (refusal_mark manner (denial_of_piece why)) says)

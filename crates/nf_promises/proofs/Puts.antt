@@ -153,6 +153,8 @@ put_begun reads head (begun.Asked (Ok (reply.Shares lines))) v a m x b body call
     absurd (subst (λ (w : Response). SaysStored w) passes.0 says)
 put_begun reads head (begun.Asked (Ok (reply.Items lines))) v a m x b body caller spot n asked judges passes says one =
     absurd (subst (λ (w : Response). SaysStored w) passes.0 says)
+put_begun reads head (begun.Asked (Ok (reply.Versions lines))) v a m x b body caller spot n asked judges passes says one =
+    absurd (subst (λ (w : Response). SaysStored w) passes.0 says)
 put_begun reads head (begun.Asked (Ok reply.Plain)) v a m x b body caller spot n asked judges passes says one =
     absurd (subst (λ (w : Response). SaysStored w) passes.0 says)
 put_begun reads head (begun.Asked (Err refusal)) v a m x b body caller spot n asked judges passes says one =

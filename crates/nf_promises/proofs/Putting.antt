@@ -32,7 +32,7 @@ use Rattle.nf_words.specs.declared.answer.Goal.TheVariants.{Serve, Store}
 use Rattle.nf_words.specs.declared.answer.LockKey.{LockKey}
 use Rattle.nf_words.specs.declared.answer.LockKey.TheVariants.{Node, Slot}
 use Rattle.nf_words.specs.declared.answer.Reply.{Reply}
-use Rattle.nf_words.specs.declared.answer.Reply.TheVariants.{Made, Done, Closed, Granted, Items, Listing, Share, Shares, Plain}
+use Rattle.nf_words.specs.declared.answer.Reply.TheVariants.{Made, Done, Closed, Granted, Items, Listing, Share, Shares, Plain, Versions}
 use Rattle.nf_words.specs.declared.history.Entry.{Entry}
 use Rattle.nf_words.specs.declared.history.Event.{Event}
 use Rattle.nf_words.specs.declared.history.Event.TheVariants.{Begin}
@@ -82,6 +82,7 @@ IsOfPut (Listing lines) = ⊥
 IsOfPut (Share line) = ⊥
 IsOfPut (Shares lines) = ⊥
 IsOfPut (Items lines) = ⊥
+IsOfPut (Versions lines) = ⊥
 IsOfPut Plain = ⊥
 
 stored_replies : (by : By) (name : List ℕ) (n : ℕ) (place : Found) → IsOfPut (reply_to (stored by name n (Some place)))

@@ -40,7 +40,9 @@ plain_only last way (response.Share line) a b (Err by) plain responds = says_onl
 plain_only last way (response.Shares lines) a b (Ok end) plain responds = says_only {T = Unit {0}} a b _ (Ok tt) responds.1
 plain_only last way (response.Shares lines) a b (Err by) plain responds = says_only {T = Unit {0}} a b _ (Err by) responds
 plain_only last way (response.Items lines) a b (Ok end) plain responds = says_only {T = Unit {0}} a b _ (Ok tt) responds.1
+plain_only last way (response.Versions lines) a b (Ok end) plain responds = says_only {T = Unit {0}} a b _ (Ok tt) responds.1
 plain_only last way (response.Items lines) a b (Err by) plain responds = says_only {T = Unit {0}} a b _ (Err by) responds
+plain_only last way (response.Versions lines) a b (Err by) plain responds = says_only {T = Unit {0}} a b _ (Err by) responds
 plain_only last way response.Plain a b (Ok end) plain responds = says_only {T = Unit {0}} a b _ (Ok tt) responds.1
 plain_only last way response.Plain a b (Err by) plain responds = says_only {T = Unit {0}} a b _ (Err by) responds
 plain_only last way v a b result plain responds = stored_only last way v a b result plain responds
@@ -60,6 +62,7 @@ module _ {C : Type 0} (reads : C → Taken → C → Type 0) where
   plain_closes (response.Share line) a b result plain same = ap (λ (x : Scene C). x.book) same
   plain_closes (response.Shares lines) a b result plain same = ap (λ (x : Scene C). x.book) same
   plain_closes (response.Items lines) a b result plain same = ap (λ (x : Scene C). x.book) same
+  plain_closes (response.Versions lines) a b result plain same = ap (λ (x : Scene C). x.book) same
   plain_closes response.Plain a b result plain same = ap (λ (x : Scene C). x.book) same
   plain_closes v a b result plain closes = absurd plain
 

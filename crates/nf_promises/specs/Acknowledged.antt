@@ -17,6 +17,7 @@ IsBelow300 (response.Listing lines) = Unit {0}
 IsBelow300 (response.Share line) = Unit {0}
 IsBelow300 (response.Shares lines) = Unit {0}
 IsBelow300 (response.Items lines) = Unit {0}
+IsBelow300 (response.Versions lines) = Unit {0}
 IsBelow300 response.Plain = Unit {0}
 IsBelow300 (response.File content first) = Unit {0}
 IsBelow300 (response.Denied refusal) = ⊥

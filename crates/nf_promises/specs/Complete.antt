@@ -7,7 +7,7 @@ use Rattle.nf_base.specs.declared.limits.TheConstants.{MAX_ENTRIES}
 use Rattle.nf_base.specs.Content.{size_of}
 use Rattle.nf_base.specs.declared.content.Piece.{Piece}
 use Rattle.nf_dav.specs.Asked.{request_of}
-use Rattle.nf_dav.specs.Reply.{done_reply, file_head, items_reply, listing_reply, made_reply, plain_reply, refusal_reply, share_reply, shares_reply}
+use Rattle.nf_dav.specs.Reply.{done_reply, file_head, items_reply, listing_reply, made_reply, plain_reply, refusal_reply, share_reply, shares_reply, versions_reply}
 use Rattle.nf_dav.specs.declared.replies.Manner.{Manner}
 use Rattle.nf_http.specs.Bodies.{TakesBody}
 use Rattle.nf_http.specs.Head.{Head, closes_session}
@@ -87,6 +87,7 @@ Says head close (Ok (reply.Listing lines)) a b = Appends a.output b.output (list
 Says head close (Ok (reply.Share line)) a b = Appends a.output b.output (share_reply close line)
 Says head close (Ok (reply.Shares lines)) a b = Appends a.output b.output (shares_reply close lines)
 Says head close (Ok (reply.Items lines)) a b = Appends a.output b.output (items_reply close lines)
+Says head close (Ok (reply.Versions lines)) a b = Appends a.output b.output (versions_reply close lines)
 Says head close (Ok reply.Plain) a b = Appends a.output b.output (plain_reply close)
 Says head close (Ok (reply.Granted (Serve content))) a b = SaysFile close content a b
 Says head close (Ok (reply.Granted (Store by key size))) a b = SaysStored head close size a b

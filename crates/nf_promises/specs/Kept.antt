@@ -41,6 +41,7 @@ SaysStored (response.Listing lines) = ⊥
 SaysStored (response.Share line) = ⊥
 SaysStored (response.Shares lines) = ⊥
 SaysStored (response.Items lines) = ⊥
+SaysStored (response.Versions lines) = ⊥
 SaysStored response.Plain = ⊥
 SaysStored (response.Denied refusal) = ⊥
 SaysStored (response.Lost fault) = ⊥

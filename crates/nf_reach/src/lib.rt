@@ -1,6 +1,7 @@
-//! Where paths lead and by which mounts, whether who asks is reached by these and may do what is needed, and what of it is told.
+//! Where paths lead and by which mounts, by which mounts versions are asked about, whether who asks is reached by these and may do what is needed, and what of it is told.
 #![tactic(auto)]
 
+mod above;
 mod asker;
 mod grants;
 mod needs;

@@ -128,7 +128,11 @@ impl<'a> Asker<'a> {
             Making::Folder => self.refused_in(way),
             Making::Moved if within => self.refused_found(Act::Delete, way),
             Making::Moved | Making::Copied => self.refused_over(way),
-            Making::Shared | Making::Told | Making::Restored { .. } => None,
+            Making::Shared
+            | Making::Told
+            | Making::Restored { .. }
+            | Making::Sent { .. }
+            | Making::Refilled { .. } => None,
         }
     }
 

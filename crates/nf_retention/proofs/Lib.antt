@@ -6,3 +6,4 @@ pub mod Turns
 pub mod Puts
 pub mod Newest
 pub mod Gone
+pub mod Latest

@@ -14,13 +14,13 @@ use Rattle.nf_retention.proofs.Puts.{map_puts, put, puts, puts_ascend, puts_same
 abbrev pub newer : ℕ → ℕ → ℕ → ℕ → Bool
 newer at node at' node' = nat_lt at' at || at == at' && nat_lt node' node
 
-one_way : (a m b n : ℕ) → newer a m b n ≡ true → newer b n a m ≡ false
+pub one_way : (a m b n : ℕ) → newer a m b n ≡ true → newer b n a m ≡ false
 one_way a m b n is = grind arith
 
-chain : (a m b n c o : ℕ) → newer a m b n ≡ false → newer b n c o ≡ false → newer a m c o ≡ false
+pub chain : (a m b n c o : ℕ) → newer a m b n ≡ false → newer b n c o ≡ false → newer a m c o ≡ false
 chain a m b n c o first second = grind arith
 
-not_newer : (a m b n : ℕ) → newer a m b n ≡ false → (a < b) ⊎ ((a ≡ b) × (m ≤ n))
+pub not_newer : (a m b n : ℕ) → newer a m b n ≡ false → (a < b) ⊎ ((a ≡ b) × (m ≤ n))
 not_newer a m b n is = grind arith
 
 -- a comparison's

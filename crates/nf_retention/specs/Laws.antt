@@ -5,6 +5,8 @@ use Rattle.nf_base.specs.declared.rows.ItemRow.{ItemRow}
 use Rattle.nf_retention.specs.Budget.{IsLongestWithin, fitting}
 use Rattle.nf_retention.specs.Thinning.{AreFalling, AreKept, AreParted, kept, thinned}
 use Rattle.nf_retention.specs.Trash.{AreNewestFirst, going, is_young, newest_first}
+use Rattle.nf_retention.specs.Versions.{AreLatestFirst, latest_first}
+use Rattle.nf_retention.specs.declared.versions.Version.{Version}
 
 -- the walk keeps what is to be kept
 abbrev pub KeptIsRight : Type 0
@@ -29,6 +31,10 @@ FittingIsOnly = (bound : ℕ) (sizes : List ℕ) (m n : ℕ) → IsLongestWithin
 -- of a trash, newest first: the same items, in order
 abbrev pub NewestIsRight : Type 0
 NewestIsRight = (items : List ItemRow) → AreNewestFirst (newest_first items) × IsPermutation items (newest_first items)
+
+-- and of versions
+abbrev pub LatestIsRight : Type 0
+LatestIsRight = (versions : List Version) → AreLatestFirst (latest_first versions) × IsPermutation versions (latest_first versions)
 
 -- those that go for good: of the young ones those behind the longest front within the bound, and all that aren't young
 abbrev pub GoingIsRest : Type 0

@@ -1,6 +1,6 @@
 //! The walks give what the rules say without a walk, and the rules mean nothing else.
 
-ghost use Rattle.nf_retention.specs.Laws.{FittingIsOnly, FittingIsRight, GoingIsRest, KeptIsOnly, KeptIsRight, NewestIsRight, ThinnedIsRest};
+ghost use Rattle.nf_retention.specs.Laws.{FittingIsOnly, FittingIsRight, GoingIsRest, KeptIsOnly, KeptIsRight, LatestIsRight, NewestIsRight, ThinnedIsRest};
 
 /// What the walk keeps has the newest version, versions alone, neighbours a step apart, and leaves out none that is a step away.
 pub fn kept_is_right()
@@ -29,6 +29,12 @@ pub fn fitting_is_only()
 /// What is newest first are the same items in order.
 pub fn newest_is_right()
     ensures { NewestIsRight }
+{}
+
+/// And so are versions.
+#[tactic(auto, using(crate::proofs::Latest::latest_right))]
+pub fn latest_is_right()
+    ensures { LatestIsRight }
 {}
 
 /// Of items newest first those go that are there for 30 days, and of the others those behind the longest front within the bound.

@@ -1,5 +1,5 @@
 //! Which old versions of a file are kept as they age, and which versions and items of the trash stay within a bound of bytes: the rules
-//! alone, over moments and sizes. The trash goes by the second; the versions of files will go by both.
+//! alone, over moments and sizes. The trash goes by the second, and the versions of files by both.
 //!
 //! - **Thinning.** Of a file's versions, newest first, the newest is kept. Going to older ones, a version is kept exactly where it is at
 //!   least a step below the last one that was kept. The step goes by the age of that last one: below 10 seconds 2, below a minute 10,
@@ -15,7 +15,9 @@ mod budget;
 pub mod laws;
 mod thinning;
 mod trash;
+mod versions;
 
 pub use budget::{fitting, has_expired, trash_bound, versions_bound};
 pub use thinning::{step, thinned};
 pub use trash::{Trashed, going, newest_first};
+pub use versions::{Version, beyond};

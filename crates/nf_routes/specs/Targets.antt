@@ -71,13 +71,23 @@ behind_trashbin target = option_and_then (behind (codes "/remote.php/dav/trashbi
 abbrev pub trash_segments : List ℕ → List (List ℕ)
 trash_segments target = option_map_or decoded_segments (behind_trashbin target) []
 
--- the segments there of what a user's items come back to: the name, a word as it was sent, and whatever else
+-- what is behind the words of the versions, and the decoded segments there: the name of a user, a word, the number of a file, and a moment
+abbrev pub behind_versions : List ℕ → Option (List ℕ)
+behind_versions target = option_and_then (behind (codes "/remote.php/dav/versions/")) (target_path target)
+
+abbrev pub version_segments : List ℕ → List (List ℕ)
+version_segments target = option_map_or decoded_segments (behind_versions target) []
+
+-- the segments in either of what comes back by a user: the name, a word as it was sent, and whatever else
 abbrev pub is_restore_of : List ℕ → List (List ℕ) → Bool
 is_restore_of user (name ∷ word ∷ any ∷ []) = bytes_eq word (codes "restore") && bytes_eq (percent_decode name) user
 is_restore_of user other = false
 
 abbrev pub restores : List ℕ → List ℕ → Bool
 restores user target = option_map_or (λ rest. is_restore_of user (slice_split is_slash rest)) (behind_trashbin target) false
+
+abbrev pub restores_version : List ℕ → List ℕ → Bool
+restores_version user target = option_map_or (λ rest. is_restore_of user (slice_split is_slash rest)) (behind_versions target) false
 
 -- the query: what is behind the first `?` (RFC 3986, section 3.4)
 abbrev pub query_of : List ℕ → List ℕ

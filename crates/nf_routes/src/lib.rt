@@ -8,5 +8,6 @@ mod targets;
 pub use methods::{Method, allow, method_of, takes};
 pub use mounts::Routes;
 pub use targets::{
-    is_ocs, pieces, query, restores, segments, share_segment, trash_segments, user_segment,
+    is_ocs, pieces, query, restores, restores_version, segments, share_segment, trash_segments,
+    user_segment, version_segments,
 };

@@ -3,7 +3,7 @@
 ghost use Rattle.std.specs.Prelude.{◌≡◌, ◌<◌, IfOk, IfSome, codes, length, map, option_and_then, option_copied, position};
 ghost use Rattle.std.specs.List.{before_first, slice_split};
 ghost use Rattle.percent_encoding.specs.Percent.{percent_decode};
-ghost use Rattle.nf_routes.specs.Targets.{behind, behind_files as in_files, behind_trashbin as in_trashbin, decoded_segments, from_slash, is_ocs as begins_with_ocs, is_question, is_slash, path_in, query_of, is_restore_of, restores, segments_of, share_segment as segment_of_share, target_path, trash_segments as segments_of_trash, user_segment as segment_of_user, whole_path, without_slash};
+ghost use Rattle.nf_routes.specs.Targets.{behind, behind_files as in_files, behind_trashbin as in_trashbin, behind_versions as in_versions, decoded_segments, from_slash, is_ocs as begins_with_ocs, is_question, is_slash, path_in, query_of, is_restore_of, restores, restores_version, segments_of, share_segment as segment_of_share, target_path, trash_segments as segments_of_trash, user_segment as segment_of_user, version_segments as segments_of_version, whole_path, without_slash};
 
 use std::alloc::{AllocError, Global};
 
@@ -16,6 +16,8 @@ const SHARES: &[u8] = b"/ocs/v2.php/apps/files_sharing/api/v1/shares/";
 const USERS: &[u8] = b"/ocs/v2.php/cloud/users/";
 
 const TRASHBIN: &[u8] = b"/remote.php/dav/trashbin/";
+
+const VERSIONS: &[u8] = b"/remote.php/dav/versions/";
 
 const OCS: &[u8] = b"/ocs/v2.php/";
 
@@ -40,13 +42,40 @@ pub fn trash_segments(alloc: Global, target: &[u8]) -> Result<Vec<Vec<u8>>, Allo
     }
 }
 
+/// The segments of a path to versions, decoded: the name of a user, a word, the number of a file, and a moment; none of any other target.
+pub fn version_segments(alloc: Global, target: &[u8]) -> Result<Vec<Vec<u8>>, AllocError>
+    ensures { IfOk result (λ segments. map (λ segment. segment.items) segments.items ≡ segments_of_version target.now) }
+{
+    match behind_versions(target) {
+        Some(rest) => decoded_pieces(alloc, rest),
+        None => Ok(Vec::new(alloc)),
+    }
+}
+
 /// Whether a target names what items of that user's come back to: `/remote.php/dav/trashbin/USER/restore/ANY`.
 pub fn restores(alloc: Global, user: &[u8], target: &[u8]) -> Result<bool, AllocError>
     ensures { IfOk result (λ is. is ≡ restores user.now target.now) }
 {
-    let Some(rest) = behind_trashbin(target) else {
-        return Ok(false);
-    };
+    match behind_trashbin(target) {
+        Some(rest) => comes_back(alloc, user, rest),
+        None => Ok(false),
+    }
+}
+
+/// Whether it names what versions come back to by that user: `/remote.php/dav/versions/USER/restore/ANY`.
+pub fn restores_version(alloc: Global, user: &[u8], target: &[u8]) -> Result<bool, AllocError>
+    ensures { IfOk result (λ is. is ≡ restores_version user.now target.now) }
+{
+    match behind_versions(target) {
+        Some(rest) => comes_back(alloc, user, rest),
+        None => Ok(false),
+    }
+}
+
+// Whether what is behind those words, cut as it was sent, is where something of that user's comes back.
+fn comes_back(alloc: Global, user: &[u8], rest: &[u8]) -> Result<bool, AllocError>
+    ensures { IfOk result (λ is. is ≡ is_restore_of user.now (slice_split is_slash rest.now)) }
+{
     let pieces = pieces(alloc, rest)?;
     is_restore_of(alloc, user, &pieces)
 }
@@ -144,6 +173,13 @@ fn behind_trashbin(target: &[u8]) -> Option<&[u8]>
     ensures { option_copied result ≡ in_trashbin target.now }
 {
     target_path(target)?.strip_prefix(TRASHBIN)
+}
+
+// What is behind the words of the versions.
+fn behind_versions(target: &[u8]) -> Option<&[u8]>
+    ensures { option_copied result ≡ in_versions target.now }
+{
+    target_path(target)?.strip_prefix(VERSIONS)
 }
 
 fn before_slash(path: &[u8]) -> &[u8]

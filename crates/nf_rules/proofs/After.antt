@@ -25,7 +25,7 @@ use Rattle.nf_words.proofs.Found.{found_passes}
 use Rattle.nf_words.proofs.Ways.{present_row}
 use Rattle.nf_words.specs.Others.{IsKindSound, IsOfNode, IsShareSound}
 use Rattle.nf_words.specs.Prelude.{AreSound, LeadsToRoot, root_of_user}
-use Rattle.nf_rules.specs.Ruled.{AreRuled, IsGiven, IsShareRuled, IsUserRuled}
+use Rattle.nf_rules.specs.Ruled.{AreOrdered, IsGiven, IsShareRuled, IsUserRuled}
 use Rattle.nf_rules.specs.Rules.{are_share_names_there, are_share_numbers, is_given, is_in_root, is_linked, is_node, is_of_node, is_recipient_given, is_recipient_there, is_share, is_share_kept, is_user}
 use Rattle.nf_rules.proofs.Shares.{given, is_given_from}
 
@@ -42,7 +42,7 @@ user_given t next user users is =
     subst (IsGiven next) (eqb-true there.0.id user found.0) found.1
 
 -- as they were in tables that keep the rules
-pub user_was : (t : Tables) (user : ℕ) → AreRuled t → is_user t user ≡ true → IsGiven t.meta.next_user user
+pub user_was : (t : Tables) (user : ℕ) → AreOrdered t → is_user t user ≡ true → IsGiven t.meta.next_user user
 user_was t user h =
     user_given t t.meta.next_user user
     (All-weaker (IsUserRuled t) (λ (row : UserRow). IsGiven t.meta.next_user row.id) (λ row own. own.id) t.users h.users)

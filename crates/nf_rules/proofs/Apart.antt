@@ -21,7 +21,7 @@ use Rattle.nf_told.specs.Told.{numbers_of_key}
 use Rattle.nf_words.specs.Others.{AreMountsApart, IsMountSound}
 use Rattle.nf_words.specs.Sound as sound
 use Rattle.nf_rules.specs.Keys.{link_key, name_key, spelled_key}
-use Rattle.nf_rules.specs.Ruled.{AreRuled}
+use Rattle.nf_rules.specs.Ruled.{AreOrdered}
 use Rattle.nf_rules.proofs.Shared.{AreApart, AreUnshared, of_among, unshared}
 use Rattle.nf_rules.proofs.Shares.{no_child, of_child, of_mount, same_user}
 use Rattle.nf_rules.proofs.Stacked.{IsOf, each_two, kind, rows_have}
@@ -102,7 +102,7 @@ of_kind t (rows.Share row) key is = ap first (of_link row.kind key is).2
 of_kind t (rows.Mount row) key is = ap first (of_mount t row key is).is
 of_kind t row key is = absurd (none-some key is)
 
-module _ (t : Tables) (h : AreRuled t) where
+module _ (t : Tables) (h : AreOrdered t) where
   abbrev AreNamesApart : Row → Row → Type 0
   AreNamesApart a b = IsOf t a → IsOf t b → AreApart (name_key t) a b
 

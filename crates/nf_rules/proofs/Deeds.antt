@@ -25,17 +25,19 @@ use Rattle.nf_laws.proofs.Parts.{deeds_stamped, step_turn}
 use Rattle.nf_laws.proofs.Puts.{number_found}
 use Rattle.nf_laws.proofs.Rows.{folder_there, found_is, none_higher, row_is, stamp}
 use Rattle.nf_laws.specs.Numbers.{AreHigher}
-use Rattle.nf_words.proofs.Known.{KnownDeeds, KnownLeaving}
+use Rattle.nf_words.proofs.Known.{KnownDeeds, KnownLeaving, KnownSettled}
 use Rattle.nf_words.proofs.Known.KnownDeeds.{by_copying, by_crossing, by_going, by_leaving, by_moving, by_requoting, by_restoring}
-use Rattle.nf_words.specs.Prelude.{AreSound, beside, besides, copies_to, deed_done, deeds_done, discard, discarded, discards, goes_itself, IsPlaceSound, IsRequoted, item_for, joined, purged, purges, restored, row_at}
+use Rattle.nf_words.specs.Prelude.{AreSound, beside, besides, copies_to, deed_done, deeds_done, discard, discarded, discards, goes_itself, IsPlaceSound, IsRequoted, item_for, joined, purged, purges, restored, row_at, forgotten, forgets}
 use Rattle.nf_words.specs.declared.answer.Deed.{Deed}
 use Rattle.nf_words.specs.declared.answer.Deed.TheVariants as deed
-use Rattle.nf_rules.specs.Ruled.{AreRuled, IsItemRuled}
+use Rattle.nf_rules.specs.Ruled.{AreOrdered, IsItemRuled}
 use Rattle.nf_rules.specs.Rules.{is_folder_for, is_from_kept, is_user}
 use Rattle.nf_rules.proofs.After.{user_was}
 use Rattle.nf_rules.proofs.Items.{items_stay}
 use Rattle.nf_rules.proofs.Kept.{ended_ruled, ends_if}
 use Rattle.nf_rules.proofs.Peopled.{quota_ruled}
+use Rattle.nf_laws.proofs.Behind.{behind_only}
+use Rattle.nf_retention.specs.declared.versions.Version.{Version}
 
 -- where no share ends
 none_ends : (t : Tables) → t.shares ≡ map (λ (share : ShareRow). share) t.shares
@@ -54,7 +56,7 @@ from_left t node item kept =
     kept_in : Option NodeRow → Bool
     kept_in o = option_map_or (is_folder_for item) o true
 
-purged_ruled : (t : Tables) (node : ℕ) → AreRuled t → AreSound (purged t node) → AreRuled (purged t node)
+purged_ruled : (t : Tables) (node : ℕ) → AreOrdered t → AreSound (purged t node) → AreOrdered (purged t node)
 purged_ruled t node h sound =
     let made : Tables = purged t node in
     let up = none_higher t.meta t.meta.last in
@@ -66,7 +68,7 @@ purged_ruled t node h sound =
 -- ---- what is put in the trash
 
 -- it was in a folder of its owner's
-module _ (t : Tables) (now : ℕ) (row : NodeRow) (h : AreRuled t) (known : KnownLeaving t row) where
+module _ (t : Tables) (now : ℕ) (row : NodeRow) (h : AreOrdered t) (known : KnownLeaving t row) where
   abbrev item : ItemRow
   item = item_for now row
 
@@ -100,7 +102,7 @@ module _ (t : Tables) (now : ℕ) (row : NodeRow) (h : AreRuled t) (known : Know
             ∙ and_from _ _ folder.2 (eq-eqb folder.0.owner item.owner theirs);
       }
 
-  discarded_ruled : AreSound binned → AreRuled binned
+  discarded_ruled : AreSound binned → AreOrdered binned
   discarded_ruled sound =
       let up = none_higher t.meta t.meta.last in
       ended_ruled t binned (unless_gone (λ other. is_under t.nodes other item.node))
@@ -116,8 +118,8 @@ from_placed : (t : Tables) (node folder : ℕ) (name : List ℕ) (item : ItemRow
 from_placed t node folder name item =
     value_with (is_folder_for item) true t.nodes node (relinked folder name) (λ r. refl) (λ r. refl) item.from
 
-relinked_ruled : (t : Tables) (node folder : ℕ) (name : List ℕ) → AreRuled t
-    → (let made = deed_done t (deed.Relink node folder name) in AreSound made → AreRuled made)
+relinked_ruled : (t : Tables) (node folder : ℕ) (name : List ℕ) → AreOrdered t
+    → (let made = deed_done t (deed.Relink node folder name) in AreSound made → AreOrdered made)
 relinked_ruled t node folder name h sound =
     let made : Tables = deed_done t (deed.Relink node folder name) in
     let up = none_higher t.meta t.meta.last in
@@ -125,8 +127,8 @@ relinked_ruled t node folder name h sound =
     (items_stay t made h up (λ item given kept. from_placed t node folder name item ∙ kept))
 
 -- what comes back is no item any more
-restored_ruled : (t : Tables) (node folder : ℕ) (name : List ℕ) → AreRuled t
-    → (let made = restored t node folder name in AreSound made → AreRuled made)
+restored_ruled : (t : Tables) (node folder : ℕ) (name : List ℕ) → AreOrdered t
+    → (let made = restored t node folder name in AreSound made → AreOrdered made)
 restored_ruled t node folder name h sound =
     let made : Tables = restored t node folder name in
     let up = none_higher t.meta t.meta.last in
@@ -137,7 +139,7 @@ restored_ruled t node folder name h sound =
 -- ---- copies
 
 -- they are new, so no folder of an item is one of them
-joined_ruled : (t : Tables) (now : ℕ) (rows : List NodeRow) → AreRuled t → Joins t now rows → AreSound (joined t rows) → AreRuled (joined t rows)
+joined_ruled : (t : Tables) (now : ℕ) (rows : List NodeRow) → AreOrdered t → Joins t now rows → AreSound (joined t rows) → AreOrdered (joined t rows)
 joined_ruled t now rows h joins sound =
     let made : Tables = joined t rows in
     let up : AreHigher t.meta made.meta =
@@ -154,8 +156,8 @@ abbrev pub AreModest : Tables → Type 0
 AreModest t = All (λ (row : UserRow). row.quota ≤ MAX_QUOTA) t.users
 
 -- nor is one that is given
-requoted_ruled : (t : Tables) (row : UserRow) → AreRuled t → IsRequoted t row → row.quota ≤ MAX_QUOTA
-    → (let made = deed_done t (deed.Requote row) in AreSound made → AreRuled made)
+requoted_ruled : (t : Tables) (row : UserRow) → AreOrdered t → IsRequoted t row → row.quota ≤ MAX_QUOTA
+    → (let made = deed_done t (deed.Requote row) in AreSound made → AreOrdered made)
 requoted_ruled t row h is modest sound =
     let made : Tables = deed_done t (deed.Requote row) in
     let up = none_higher t.meta t.meta.last in
@@ -223,20 +225,38 @@ module _ (t : Tables) (now : ℕ) where
       (All-append IsModestDeed (besides t now transfer.replaced) (besides t now (Some transfer.node))
       (modest_besides (row_at t transfer.replaced)) (modest_besides from))))
 
+-- ---- versions
+
+forgotten_ruled : (t : Tables) (node at : ℕ) → AreOrdered t → AreSound (forgotten t node at) → AreOrdered (forgotten t node at)
+forgotten_ruled t node at h sound =
+    let made = forgotten t node at in
+    let up = none_higher t.meta t.meta.last in
+    ended_ruled t made (λ share. share) (λ share. inl refl) h sound up (none_ends t) refl (items_stay t made h up (λ item given kept. kept))
+
+-- those that go give no quota
+modest_settled : (t : Tables) (now : ℕ) (deeds : List Deed) → KnownSettled t now deeds → AreModest (deeds_done t deeds) → AreModestDeeds deeds
+modest_settled t now deeds known modest =
+    let users = ap (λ (u : Tables). u.users) (ap (deeds_done t) known.are ∙ behind_only t known.first known.gone) in
+    subst AreModestDeeds (sym known.are)
+    (All-append IsModestDeed known.first (forgets known.gone)
+    (modest_deeds t now known.first known.known (subst (All (λ (row : UserRow). row.quota ≤ MAX_QUOTA)) users modest))
+    (All-map IsModestDeed (λ (version : Version). deed.Forget version.node version.at) known.gone (λ k d within. tt)))
+
 -- ---- a deed, and those of a step
 
-deed_ruled : (t : Tables) (now : ℕ) (one : Deed) → AreRuled t → Fit t now one → IsModestDeed one → AreSound (deed_done t one)
-    → AreRuled (deed_done t one)
+deed_ruled : (t : Tables) (now : ℕ) (one : Deed) → AreOrdered t → Fit t now one → IsModestDeed one → AreSound (deed_done t one)
+    → AreOrdered (deed_done t one)
 deed_ruled t now (deed.Discard _) h (row, known, is) modest sound =
-    subst (λ (i : ItemRow). AreSound (discarded t i) → AreRuled (discarded t i)) (sym is) (discarded_ruled t now row h known) sound
+    subst (λ (i : ItemRow). AreSound (discarded t i) → AreOrdered (discarded t i)) (sym is) (discarded_ruled t now row h known) sound
 deed_ruled t now (deed.Purge node) h fit modest sound = purged_ruled t node h sound
 deed_ruled t now (deed.Restore node folder name) h fit modest sound = restored_ruled t node folder name h sound
 deed_ruled t now (deed.Relink node folder name) h fit modest sound = relinked_ruled t node folder name h sound
 deed_ruled t now (deed.Join rows) h joins modest sound = joined_ruled t now rows h joins sound
 deed_ruled t now (deed.Requote row) h is modest sound = requoted_ruled t row h is modest sound
+deed_ruled t now (deed.Forget node at) h fit modest sound = forgotten_ruled t node at h sound
 
-deeds_ruled : (t : Tables) (now : ℕ) (deeds : List Deed) → AreRuled t → t.meta.last ≡ now → InTurn t now deeds → AreModestDeeds deeds
-    → AreRuled (deeds_done t deeds)
+deeds_ruled : (t : Tables) (now : ℕ) (deeds : List Deed) → AreOrdered t → t.meta.last ≡ now → InTurn t now deeds → AreModestDeeds deeds
+    → AreOrdered (deeds_done t deeds)
 deeds_ruled t now [] h at turn modest = h
 deeds_ruled t now (one ∷ deeds) h at turn modest =
     deeds_ruled (deed_done t one) now deeds
@@ -244,16 +264,16 @@ deeds_ruled t now (one ∷ deeds) h at turn modest =
     (deed_moment t one ∙ at) turn.1 (All-tail IsModestDeed one deeds modest)
 
 -- a later moment changes nothing else
-stamp_ruled : (t : Tables) (now : ℕ) → AreRuled t → t.meta.last ≤ now → AreRuled (stamp t now)
+stamp_ruled : (t : Tables) (now : ℕ) → AreOrdered t → t.meta.last ≤ now → AreOrdered (stamp t now)
 stamp_ruled t now h later =
     let up = none_higher t.meta now in
     ended_ruled t (stamp t now) (λ share. share) (λ share. inl refl) h (stamp_sound t now h.sound later) up (none_ends t) refl
     (items_stay t (stamp t now) h up (λ item given kept. kept))
 
 -- with the deeds of a step done the tables keep the rules
-pub step_ruled : (t : Tables) (now : ℕ) (deeds : List Deed) → AreRuled t → t.meta.last ≤ now → KnownDeeds t now deeds
-    → (let made = stamp (deeds_done t deeds) now in AreModest made → AreRuled made)
+pub step_ruled : (t : Tables) (now : ℕ) (deeds : List Deed) → AreOrdered t → t.meta.last ≤ now → KnownSettled t now deeds
+    → (let made = stamp (deeds_done t deeds) now in AreModest made → AreOrdered made)
 step_ruled t now deeds h later known modest =
-    subst AreRuled (deeds_stamped t now deeds)
+    subst AreOrdered (deeds_stamped t now deeds)
     (deeds_ruled (stamp t now) now deeds (stamp_ruled t now h later) refl (step_turn t now deeds h.sound later known)
-    (modest_deeds t now deeds known modest))
+    (modest_settled t now deeds known modest))

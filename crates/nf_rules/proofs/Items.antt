@@ -18,7 +18,7 @@ use Rattle.nf_laws.specs.Numbers.{AreHigher}
 use Rattle.nf_words.specs.Others.{IsItemSound}
 use Rattle.nf_words.specs.Prelude.{after, IsSound, MayCome, Need, State}
 use Rattle.nf_words.specs.declared.history.Entry.{Entry}
-use Rattle.nf_rules.specs.Ruled.{AreRuled, IsGiven, IsItemRuled}
+use Rattle.nf_rules.specs.Ruled.{AreOrdered, IsGiven, IsItemRuled}
 use Rattle.nf_rules.specs.Rules.{are_item_numbers, is_folder_for, is_from_kept, is_item_kept, is_node, is_trash_place, is_trashed_as, is_user}
 use Rattle.nf_rules.proofs.After.{still_given}
 use Rattle.nf_rules.proofs.Shares.{given, is_given_from}
@@ -80,7 +80,7 @@ item_placed t row sound own =
 -- ---- tables that come after
 
 -- where the folder that an item was in is gone or is still one of its owner's, as of all of them
-pub items_stay : (t made : Tables) → AreRuled t → AreHigher t.meta made.meta
+pub items_stay : (t made : Tables) → AreOrdered t → AreHigher t.meta made.meta
     → ((item : ItemRow) → IsGiven t.meta.next_node item.from → is_from_kept t item ≡ true → is_from_kept made item ≡ true)
     → All (IsItemRuled made) t.items
 items_stay t made h up still =
@@ -93,13 +93,13 @@ items_stay t made h up still =
     }) t.items h.items
 
 -- where no item is another
-pub items_ruled : (t made : Tables) → AreRuled t → AreHigher t.meta made.meta → made.items ≡ t.items
+pub items_ruled : (t made : Tables) → AreOrdered t → AreHigher t.meta made.meta → made.items ≡ t.items
     → ((item : ItemRow) → IsGiven t.meta.next_node item.from → is_from_kept t item ≡ true → is_from_kept made item ≡ true)
     → All (IsItemRuled made) made.items
 items_ruled t made h up same still = subst (All (IsItemRuled made)) (sym same) (items_stay t made h up still)
 
 -- as where no node is another
-pub items_as_were : (t made : Tables) → AreRuled t → AreHigher t.meta made.meta → made.items ≡ t.items → made.nodes ≡ t.nodes
+pub items_as_were : (t made : Tables) → AreOrdered t → AreHigher t.meta made.meta → made.items ≡ t.items → made.nodes ≡ t.nodes
     → All (IsItemRuled made) made.items
 items_as_were t made h up same nodes =
     items_ruled t made h up same

@@ -10,7 +10,7 @@ use Rattle.nf_defs.specs.Prelude.{Tables}
 use Rattle.nf_laws.proofs.Upwards.{owners_there}
 use Rattle.nf_laws.specs.Numbers.{AreHigher}
 use Rattle.nf_words.specs.Prelude.{AreSound, ended_row}
-use Rattle.nf_rules.specs.Ruled.{AreRuled, AreTokensApart, IsGroupRuled, IsItemRuled, IsMemberRuled, IsMountRuled, IsShareRuled, IsTokenRuled, IsUserRuled}
+use Rattle.nf_rules.specs.Ruled.{AreOrdered, AreTokensApart, IsGroupRuled, IsItemRuled, IsMemberRuled, IsMountRuled, IsShareRuled, IsTokenRuled, IsUserRuled}
 use Rattle.nf_rules.specs.Rules.{are_share_numbers}
 use Rattle.nf_rules.proofs.After.{share_ruled, still_given}
 use Rattle.nf_rules.proofs.Rising.{nodes_rise}
@@ -33,7 +33,7 @@ ends_unless true share = inl refl
 ends_unless false share = inr refl
 
 -- what the tables keep, of shares that end, is kept
-module _ (t made : Tables) (put : ShareRow → ShareRow) (ends : EndsSome put) (h : AreRuled t) (sound : AreSound made)
+module _ (t made : Tables) (put : ShareRow → ShareRow) (ends : EndsSome put) (h : AreOrdered t) (sound : AreSound made)
     (up : AreHigher t.meta made.meta) (same_shares : made.shares ≡ map put t.shares) where
   same_of : {X : Type 0} (of : ShareRow → X) → ((share : ShareRow) → of (ended_row share) ≡ of share) → (share : ShareRow) → of (put share) ≡ of share
   same_of of same share =
@@ -66,7 +66,7 @@ module _ (t made : Tables) (put : ShareRow → ShareRow) (ends : EndsSome put) (
 -- ---- mounts
 
 -- those that were there keep the rules
-pub still_mounted : (t made : Tables) → AreRuled t → AreHigher t.meta made.meta → All (IsMountRuled made) t.mounts
+pub still_mounted : (t made : Tables) → AreOrdered t → AreHigher t.meta made.meta → All (IsMountRuled made) t.mounts
 still_mounted t made h up =
     All-weaker (IsMountRuled t) (IsMountRuled made)
     (λ row own. record {
@@ -74,21 +74,28 @@ still_mounted t made h up =
       node = still_given t.meta.next_node made.meta.next_node row.node up.nodes own.node;
     }) t.mounts h.mounts
 
--- ---- the tables with other nodes, shares, mounts and items
+-- ---- the tables with other nodes, shares, mounts, versions and items
 
-abbrev pub with_five : Tables → Tables → Tables
-with_five t made = record t { meta = made.meta; nodes = made.nodes; shares = made.shares; mounts = made.mounts; items = made.items }
+abbrev pub with_six : Tables → Tables → Tables
+with_six t made = record t {
+  meta = made.meta;
+  nodes = made.nodes;
+  shares = made.shares;
+  mounts = made.mounts;
+  versions = made.versions;
+  items = made.items;
+}
 
 -- where these keep the rules of their kinds
-pub others_ruled : (t other : Tables) → let made = with_five t other in AreRuled t → AreSound made → AreHigher t.meta made.meta
+pub others_ruled : (t other : Tables) → let made = with_six t other in AreOrdered t → AreSound made → AreHigher t.meta made.meta
     → All (IsShareRuled made) made.shares → AllPairs AreTokensApart made.shares → All (IsMountRuled made) made.mounts
-    → All (IsItemRuled made) made.items → AreRuled made
+    → All (IsItemRuled made) made.items → AreOrdered made
 others_ruled t other h sound up shares apart mounts items =
-    let made : Tables = with_five t other in
+    let made : Tables = with_six t other in
     record {
       sound = sound;
       rising = rises made h.rising.users h.rising.tokens h.rising.groups h.rising.members (nodes_rise made.nodes sound.rising)
-          sound.others.shares_rise sound.others.mounts_rise h.rising.versions sound.others.items_rise h.rising.uploads h.rising.chunks;
+          sound.others.shares_rise sound.others.mounts_rise sound.others.versions_rise sound.others.items_rise h.rising.uploads h.rising.chunks;
       owners = owners_there made sound;
       users = All-weaker (IsUserRuled t) (IsUserRuled made)
           (λ row own. record {
@@ -121,9 +128,9 @@ others_ruled t other h sound up shares apart mounts items =
     }
 
 -- as where shares end, no mount is another, and the items keep theirs
-pub ended_ruled : (t other : Tables) (put : ShareRow → ShareRow) → let made = with_five t other in EndsSome put → AreRuled t → AreSound made
-    → AreHigher t.meta made.meta → made.shares ≡ map put t.shares → made.mounts ≡ t.mounts → All (IsItemRuled made) made.items → AreRuled made
+pub ended_ruled : (t other : Tables) (put : ShareRow → ShareRow) → let made = with_six t other in EndsSome put → AreOrdered t → AreSound made
+    → AreHigher t.meta made.meta → made.shares ≡ map put t.shares → made.mounts ≡ t.mounts → All (IsItemRuled made) made.items → AreOrdered made
 ended_ruled t other put ends h sound up shares mounts items =
-    let made : Tables = with_five t other in
+    let made : Tables = with_six t other in
     others_ruled t other h sound up (shares_ruled t made put ends h sound up shares) (apart t made put ends h sound up shares)
     (subst (All (IsMountRuled made)) (sym mounts) (still_mounted t made h up)) items

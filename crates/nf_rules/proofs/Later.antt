@@ -19,7 +19,6 @@ nobody [] never = refl
 nobody (x ∷ some) never = absurd (false≢true (sym (All-head (λ x. true ≡ false) x some never)))
 
 has_none : (t : Tables) (kind : Kind) → Have (λ row. is_of row kind ≡ false) t → HasNone t kind
-has_none t later.versions h = nobody t.versions h.versions
 has_none t later.uploads h = nobody t.uploads h.uploads
 has_none t later.chunks h = nobody t.chunks h.chunks
 
@@ -39,7 +38,6 @@ pub nobody_among : {X : Type 0} (some : List X) (x : X) → some ≡ [] → IsAm
 nobody_among some x none among = let empty : length some ≡ 0 = ap length none in absurd (omega (arith, among.1))
 
 not_of : (t : Tables) (kind : Kind) (row : Row) → HasNone t kind → IsOf t row → is_of row kind ≡ false
-not_of t later.versions (rows.Version row) none among = absurd (nobody_among t.versions row none among)
 not_of t later.uploads (rows.Upload row) none among = absurd (nobody_among t.uploads row none among)
 not_of t later.chunks (rows.Chunk row) none among = absurd (nobody_among t.chunks row none among)
 not_of t kind row none among = refl

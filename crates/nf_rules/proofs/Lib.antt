@@ -17,3 +17,7 @@ pub mod Shares
 pub mod Stacked
 pub mod Stays
 pub mod Unbroken
+pub mod Settled
+pub mod Held
+pub mod Dropped
+pub mod TurnedOver

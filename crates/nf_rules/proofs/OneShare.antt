@@ -37,7 +37,7 @@ use Rattle.nf_words.specs.declared.request.Until.TheVariants as until
 use Rattle.nf_words.specs.declared.request.Wanted.TheVariants.{Share}
 use Rattle.nf_access.specs.Making.{is_token_taken}
 use Rattle.nf_access.specs.Shares.{is_link, link_row, share_row}
-use Rattle.nf_rules.specs.Ruled.{AreRuled, AreTokensApart, IsGiven, IsGroupRuled, IsMountRuled, IsShareRuled, IsUserRuled}
+use Rattle.nf_rules.specs.Ruled.{AreOrdered, AreTokensApart, IsGiven, IsGroupRuled, IsMountRuled, IsShareRuled, IsUserRuled}
 use Rattle.nf_rules.specs.Rules.{are_share_numbers, is_given, is_recipient_given}
 use Rattle.nf_rules.proofs.After.{chain_above, IsAbove, numbers_up, share_ruled, still_given, user_given, user_was}
 use Rattle.nf_rules.proofs.Pairs.{pairs_put}
@@ -135,7 +135,7 @@ no_other shares token free k d within link =
 same_higher : (meta : MetaRow) → AreHigher meta meta
 same_higher meta = record { users = omega arith; groups = omega arith; nodes = omega arith; shares = omega arith; blobs = omega arith }
 
-module _ (s : State) (e : Entry) (made : Tables) (h : AreRuled s.tables) (sound : AreSound made) (up : AreHigher s.tables.meta made.meta)
+module _ (s : State) (e : Entry) (made : Tables) (h : AreOrdered s.tables) (sound : AreSound made) (up : AreHigher s.tables.meta made.meta)
     (users : made.users ≡ s.tables.users) (groups : made.groups ≡ s.tables.groups) (is : IsSharing s e made)
     (bounds : IsInBounds is.request.wanted) where
   abbrev t : Tables

@@ -19,7 +19,7 @@ use Rattle.nf_base.specs.declared.rows.TokenRow.{TokenRow}
 use Rattle.nf_base.specs.declared.rows.UserRow.{UserRow}
 use Rattle.nf_defs.proofs.Loads.{rises}
 use Rattle.nf_defs.proofs.Puts.{all_put, dropped_length, dropped_rising, put_length, put_rising}
-use Rattle.nf_defs.specs.Prelude.{chunk_key, dropped, group_key, group_named, group_row, IsRising, member_key, node_row, put, Tables, token_key, upload_key, user_key, user_named, user_row, version_key}
+use Rattle.nf_defs.specs.Prelude.{chunk_key, dropped, group_key, group_named, group_row, IsRising, member_key, node_row, put, Tables, token_key, upload_key, user_key, user_named, user_row}
 use Rattle.nf_laws.proofs.Leaning.{any_found}
 use Rattle.nf_laws.proofs.Peopled.{group_put}
 use Rattle.nf_laws.proofs.Rows.{each_fails, found_is, no_value, row_is, row_joined}
@@ -41,8 +41,10 @@ use Rattle.nf_rules.proofs.OneShare.{node_given}
 use Rattle.nf_rules.proofs.Pairs.{pairs_put}
 use Rattle.nf_rules.proofs.Rising.{nodes_rise}
 use Rattle.nf_rules.proofs.Shares.{given}
-use Rattle.nf_rules.specs.Ruled.{AreRuled, AreTokensApart, IsGiven, IsGroupRuled, IsItemRuled, IsMemberRuled, IsMountRuled, IsShareRuled, IsTokenRuled, IsUserRuled}
+use Rattle.nf_rules.specs.Ruled.{AreOrdered, AreTokensApart, IsGiven, IsGroupRuled, IsItemRuled, IsMemberRuled, IsMountRuled, IsShareRuled, IsTokenRuled, IsUserRuled}
 use Rattle.nf_rules.specs.Rules.{are_share_numbers, is_folder_for, is_group, is_user}
+use Rattle.nf_base.specs.declared.rows.VersionRow.{VersionRow}
+use Rattle.nf_laws.proofs.Behind.{versioned}
 
 -- ---- who is there stays there
 
@@ -72,7 +74,7 @@ unnamed name number rows wanted none k d within same =
 
 -- ---- what the old rows keep
 
-module _ (t made : Tables) (h : AreRuled t) (sound : AreSound made) (up : AreHigher t.meta made.meta) (items : All (IsItemRuled made) made.items)
+module _ (t made : Tables) (h : AreOrdered t) (sound : AreSound made) (up : AreHigher t.meta made.meta) (items : All (IsItemRuled made) made.items)
     (users_stay : (user : ℕ) → is_user t user ≡ true → is_user made user ≡ true)
     (groups_stay : (group : ℕ) → is_group t group ≡ true → is_group made group ≡ true) where
   old_user : (row : UserRow) → IsUserRuled t row → IsUserRuled made row
@@ -197,12 +199,12 @@ module _ (t made : Tables) (h : AreRuled t) (sound : AreSound made) (up : AreHig
   no_rows_rise : {R : Type 0} (key : R → List ℕ) (rows : List R) → rows ≡ [] → IsRising key rows
   no_rows_rise key rows none = subst (IsRising key) (sym none) (λ i j d before within. absurd (omega (arith, before, within)))
 
-  ruled_by : UsersKept → TokensKept → GroupsKept → MembersKept → made.shares ≡ t.shares → All (IsMountRuled made) made.mounts → AreRuled made
+  ruled_by : UsersKept → TokensKept → GroupsKept → MembersKept → made.shares ≡ t.shares → All (IsMountRuled made) made.mounts → AreOrdered made
   ruled_by users tokens groups members shares mounts = record {
     sound = sound;
     rising = rises made users.rising tokens.rising groups.rising members.rising (nodes_rise made.nodes sound.rising) sound.others.shares_rise
-        sound.others.mounts_rise (no_rows_rise version_key made.versions sound.later.0) sound.others.items_rise
-        (no_rows_rise upload_key made.uploads sound.later.1.0) (no_rows_rise chunk_key made.chunks sound.later.1.1.0);
+        sound.others.mounts_rise sound.others.versions_rise sound.others.items_rise
+        (no_rows_rise upload_key made.uploads sound.later.0) (no_rows_rise chunk_key made.chunks sound.later.1.0);
     owners = owners_there made sound;
     users = users.each;
     tokens = tokens.each;
@@ -222,7 +224,7 @@ module _ (t made : Tables) (h : AreRuled t) (sound : AreSound made) (up : AreHig
 
 -- ---- each of what is asked
 
-module _ (t made : Tables) (now : ℕ) (h : AreRuled t) (sound : AreSound made) (up : AreHigher t.meta made.meta)
+module _ (t made : Tables) (now : ℕ) (h : AreOrdered t) (sound : AreSound made) (up : AreHigher t.meta made.meta)
     (items : All (IsItemRuled made) made.items) where
   abbrev UsersStay : Type 0
   UsersStay = (user : ℕ) → is_user t user ≡ true → is_user made user ≡ true
@@ -248,8 +250,9 @@ module _ (t made : Tables) (now : ℕ) (h : AreRuled t) (sound : AreSound made) 
         users = put user_key (new_user t name quota) t.users;
         tokens = put token_key (record { digest = token; user = t.meta.next_user }) t.tokens;
         nodes = t.nodes ++ new_root t now name ∷ [];
+        versions = made.versions;
       }
-      → AreRuled made
+      → AreOrdered made
   user_ruled name token quota free modest few is =
       let row : UserRow = new_user t name quota in
       let holds : TokenRow = record { digest = token; user = t.meta.next_user } in
@@ -291,8 +294,8 @@ module _ (t made : Tables) (now : ℕ) (h : AreRuled t) (sound : AreSound made) 
       (same_mounts t made h sound up items stays kept (ap (λ (u : Tables). u.mounts) is))
 
   group_ruled : (name : List ℕ) → group_named t.groups name ≡ None → people_limit t (people.NewGroup name) ≡ None
-      → made ≡ record t { meta = made.meta; groups = put group_key (record { id = t.meta.next_group; name = name }) t.groups }
-      → AreRuled made
+      → made ≡ record t { meta = made.meta; groups = put group_key (record { id = t.meta.next_group; name = name }) t.groups; versions = made.versions }
+      → AreOrdered made
   group_ruled name free few is =
       let row : GroupRow = record { id = t.meta.next_group; name = name } in
       let limits = or_parts (nat_lt MAX_GROUPS (length t.groups + 1)) (nat_lt last_short (t.meta.next_group + 1))
@@ -325,7 +328,8 @@ module _ (t made : Tables) (now : ℕ) (h : AreRuled t) (sound : AreSound made) 
 
   -- a user with another quota has the number and the name that it had
   pub quota_ruled : (quota : ℕ) (row : UserRow) → user_row t.users row.id ≡ Some row → quota ≤ MAX_QUOTA
-      → made ≡ record t { meta = made.meta; users = put user_key (record row { quota = quota }) t.users } → AreRuled made
+      → made ≡ record t { meta = made.meta; users = put user_key (record row { quota = quota }) t.users; versions = made.versions }
+      → AreOrdered made
   quota_ruled quota row there modest is =
       let new : UserRow = record row { quota = quota } in
       let users : made.users ≡ put user_key new t.users = ap (λ (u : Tables). u.users) is in
@@ -368,7 +372,8 @@ module _ (t made : Tables) (now : ℕ) (h : AreRuled t) (sound : AreSound made) 
 
   token_ruled : (token : List ℕ) (name : List ℕ) (user : ℕ) → user_named t.users name ≡ Some user
       → people_limit t (people.AddToken name token) ≡ None
-      → made ≡ record t { meta = made.meta; tokens = put token_key (record { digest = token; user = user }) t.tokens } → AreRuled made
+      → made ≡ record t { meta = made.meta; tokens = put token_key (record { digest = token; user = user }) t.tokens; versions = made.versions }
+      → AreOrdered made
   token_ruled token name user named few is =
       let row : TokenRow = record { digest = token; user = user } in
       let stays : UsersStay = users_as_were (ap (λ (u : Tables). u.users) is) in
@@ -384,8 +389,8 @@ module _ (t made : Tables) (now : ℕ) (h : AreRuled t) (sound : AreSound made) 
   -- a new member, and its mounts
   joins_ruled : (user group : List ℕ) (row : MemberRow) → membership t user group ≡ Some row → is_member t row ≡ false
       → people_limit t (people.AddMember user group) ≡ None
-      → made ≡ record t { meta = made.meta; members = put member_key row t.members; mounts = made.mounts }
-      → MountsGiven t.mounts made.mounts (IsMountJoined t row) → AreRuled made
+      → made ≡ record t { meta = made.meta; members = put member_key row t.members; mounts = made.mounts; versions = made.versions }
+      → MountsGiven t.mounts made.mounts (IsMountJoined t row) → AreOrdered made
   joins_ruled user group row named none few is mounts =
       let stays : UsersStay = users_as_were (ap (λ (u : Tables). u.users) is) in
       let kept : GroupsStay = groups_as_were (ap (λ (u : Tables). u.groups) is) in
@@ -443,8 +448,9 @@ module _ (t made : Tables) (now : ℕ) (h : AreRuled t) (sound : AreSound made) 
           (subst (IsGiven t.meta.next_group) (eqb-true at.1.id group at.4)
           (subst (λ (g : GroupRow). IsGiven t.meta.next_group g.id) at.3 (h.groups at.0 at.1 at.2).id))
 
-  leaves_ruled : (row : MemberRow) → made ≡ record t { meta = made.meta; members = dropped member_key (row.group ∷ row.user ∷ []) t.members }
-      → AreRuled made
+  leaves_ruled : (row : MemberRow)
+      → made ≡ record t { meta = made.meta; members = dropped member_key (row.group ∷ row.user ∷ []) t.members; versions = made.versions }
+      → AreOrdered made
   leaves_ruled row is =
       let stays : UsersStay = users_as_were (ap (λ (u : Tables). u.users) is) in
       let kept : GroupsStay = groups_as_were (ap (λ (u : Tables). u.groups) is) in
@@ -466,37 +472,48 @@ module _ (t made : Tables) (now : ℕ) (h : AreRuled t) (sound : AreSound made) 
       })
       (ap (λ (u : Tables). u.shares) is) (same_mounts t made h sound up items stays kept (ap (λ (u : Tables). u.mounts) is))
 
-  provided_ruled : (asked : PeopleAsk) → IsModest asked → people_limit t asked ≡ None → Provides t now made asked → AreRuled made
-  provided_ruled _ modest few (makes_user name token quota free fresh is) = user_ruled name token quota free modest few is
-  provided_ruled _ modest few (makes_group name free is) = group_ruled name free few is
-  provided_ruled _ modest few (joins user group row named none is mounts all) = joins_ruled user group row named none few is mounts
-  provided_ruled _ modest few (leaves user group row named there is) = leaves_ruled row is
-  provided_ruled _ modest few (has_quota user quota row named is) = quota_ruled quota row (row_there t now h.sound user row named) modest is
-  provided_ruled _ modest few (has_token user token id named free is) = token_ruled token user id named few is
+-- what is asked about users and groups, and versions that go then
+module _ (t between : Tables) (versions : List VersionRow) (now : ℕ) (h : AreOrdered t) (up : AreHigher t.meta between.meta) where
+  abbrev later : Tables
+  later = versioned between versions
 
--- of what is asked, no item is another, nor is a node that was there
-provided_items : (t made : Tables) (now : ℕ) (asked : PeopleAsk) → AreRuled t → AreHigher t.meta made.meta → Provides t now made asked
-    → All (IsItemRuled made) made.items
-provided_items t made now _ h up (makes_user name token quota free fresh is) =
-    items_ruled t made h up (ap (λ (u : Tables). u.items) is) (λ item from kept.
-    ap (λ (o : Option NodeRow). option_map_or (is_folder_for item) o true)
-    (ap (λ (u : Tables). node_row u.nodes item.from) is
-    ∙ row_joined t.nodes (new_root t now name ∷ []) item.from
-    (All-cons (λ (r : NodeRow). r.id ≢ item.from) (new_root t now name) [] (λ same. absurd (omega (arith, same, from.below)))
-    (All-nil (λ (r : NodeRow). r.id ≢ item.from)))) ∙ kept)
-provided_items t made now _ h up (makes_group name free is) = items_as_were t made h up (ap (λ (u : Tables). u.items) is) (ap (λ (u : Tables). u.nodes) is)
-provided_items t made now _ h up (joins user group row named none is mounts all) =
-    items_as_were t made h up (ap (λ (u : Tables). u.items) is) (ap (λ (u : Tables). u.nodes) is)
-provided_items t made now _ h up (leaves user group row named there is) =
-    items_as_were t made h up (ap (λ (u : Tables). u.items) is) (ap (λ (u : Tables). u.nodes) is)
-provided_items t made now _ h up (has_quota user quota row named is) =
-    items_as_were t made h up (ap (λ (u : Tables). u.items) is) (ap (λ (u : Tables). u.nodes) is)
-provided_items t made now _ h up (has_token user token id named free is) =
-    items_as_were t made h up (ap (λ (u : Tables). u.items) is) (ap (λ (u : Tables). u.nodes) is)
+  provided_ruled : AreSound later → All (IsItemRuled later) between.items → (asked : PeopleAsk) → IsModest asked → people_limit t asked ≡ None
+      → Provides t now between asked → AreOrdered later
+  provided_ruled sound items _ modest few (makes_user name token quota free fresh is) =
+      user_ruled t later now h sound up items name token quota free modest few (ap (λ (u : Tables). versioned u versions) is)
+  provided_ruled sound items _ modest few (makes_group name free is) =
+      group_ruled t later now h sound up items name free few (ap (λ (u : Tables). versioned u versions) is)
+  provided_ruled sound items _ modest few (joins user group row named none is mounts all) =
+      joins_ruled t later now h sound up items user group row named none few (ap (λ (u : Tables). versioned u versions) is) mounts
+  provided_ruled sound items _ modest few (leaves user group row named there is) =
+      leaves_ruled t later now h sound up items row (ap (λ (u : Tables). versioned u versions) is)
+  provided_ruled sound items _ modest few (has_quota user quota row named is) =
+      quota_ruled t later now h sound up items quota row (row_there t now h.sound user row named) modest (ap (λ (u : Tables). versioned u versions) is)
+  provided_ruled sound items _ modest few (has_token user token id named free is) =
+      token_ruled t later now h sound up items token user id named few (ap (λ (u : Tables). versioned u versions) is)
+
+  -- no item is another, nor is a node that was there
+  provided_items : (asked : PeopleAsk) → Provides t now between asked → All (IsItemRuled later) between.items
+  provided_items _ (makes_user name token quota free fresh is) =
+      items_ruled t later h up (ap (λ (u : Tables). u.items) is) (λ item from kept.
+      ap (λ (o : Option NodeRow). option_map_or (is_folder_for item) o true)
+      (ap (λ (u : Tables). node_row u.nodes item.from) is
+      ∙ row_joined t.nodes (new_root t now name ∷ []) item.from
+      (All-cons (λ (r : NodeRow). r.id ≢ item.from) (new_root t now name) [] (λ same. absurd (omega (arith, same, from.below)))
+      (All-nil (λ (r : NodeRow). r.id ≢ item.from)))) ∙ kept)
+  provided_items _ (makes_group name free is) = items_as_were t later h up (ap (λ (u : Tables). u.items) is) (ap (λ (u : Tables). u.nodes) is)
+  provided_items _ (joins user group row named none is mounts all) =
+      items_as_were t later h up (ap (λ (u : Tables). u.items) is) (ap (λ (u : Tables). u.nodes) is)
+  provided_items _ (leaves user group row named there is) =
+      items_as_were t later h up (ap (λ (u : Tables). u.items) is) (ap (λ (u : Tables). u.nodes) is)
+  provided_items _ (has_quota user quota row named is) =
+      items_as_were t later h up (ap (λ (u : Tables). u.items) is) (ap (λ (u : Tables). u.nodes) is)
+  provided_items _ (has_token user token id named free is) =
+      items_as_were t later h up (ap (λ (u : Tables). u.items) is) (ap (λ (u : Tables). u.nodes) is)
 
 -- what is asked about users and groups keeps the rules
-pub people_ruled : (s : State) (e : Entry) (made : Tables) → AreRuled s.tables → AreSound made → AreHigher s.tables.meta made.meta
-    → IsProviding s e made → AreRuled made
-people_ruled s e made h sound up is =
-    let items = provided_items s.tables made e.moment is.asked h up is.provides in
-    provided_ruled s.tables made e.moment h sound up items is.asked is.modest is.few is.provides
+pub people_ruled : (s : State) (e : Entry) (between : Tables) (versions : List VersionRow) → AreOrdered s.tables → AreSound (versioned between versions)
+    → AreHigher s.tables.meta between.meta → IsProviding s e between → AreOrdered (versioned between versions)
+people_ruled s e between versions h sound up is =
+    let items = provided_items s.tables between versions e.moment h up is.asked is.provides in
+    provided_ruled s.tables between versions e.moment h up sound items is.asked is.modest is.few is.provides

@@ -1,5 +1,5 @@
 -- The rows of tables that keep the rules break none.
-use Rattle.std.proofs.Common.{arith, ◌≡◌, ℕ, ◌==◌, Bool, true, false, not, List, length, Option, None, Some, refl, sym, ap, subst, ◌∙◌}
+use Rattle.std.proofs.Common.{arith, ◌≡◌, ℕ, ◌==◌, Bool, true, false, not, List, length, Option, None, Some, refl, sym, ap, subst, ◌∙◌, ◌≢◌, ◌<◌, [], ◌∷◌}
 use Rattle.std.specs.Prelude.{is_some, nat_lt}
 use Rattle.std.specs.List.{All, AllByRecursion}
 use Rattle.std.specs.Option.{option_map_or}
@@ -7,7 +7,7 @@ use Rattle.std.proofs.lemmas.Bool.{and_from, and_right, eq-eqb, eqb-true, false�
 use Rattle.std.proofs.lemmas.List.Elements.{All-weaker}
 use Rattle.std.proofs.lemmas.List.Folds.{list_any_none}
 use Rattle.std.proofs.lemmas.Slice.Eq.{bytes_eq-Decides}
-use Rattle.nf_base.specs.declared.limits.TheConstants.{MAX_GROUPS, MAX_MEMBERS, MAX_MOUNTS, MAX_QUOTA, MAX_SHARES, MAX_TOKENS, MAX_USERS}
+use Rattle.nf_base.specs.declared.limits.TheConstants.{MAX_GROUPS, MAX_MEMBERS, MAX_MOUNTS, MAX_QUOTA, MAX_SHARES, MAX_TOKENS, MAX_USERS, MAX_VERSIONS}
 use Rattle.nf_base.specs.declared.content.Piece.{Piece}
 use Rattle.nf_base.specs.declared.rows.MetaRow.{MetaRow}
 use Rattle.nf_base.specs.declared.rows.NodeRow.{NodeRow}
@@ -18,17 +18,17 @@ use Rattle.nf_base.specs.declared.rows.Row.TheVariants as rows
 use Rattle.nf_base.specs.declared.rows.UserRow.{UserRow}
 use Rattle.nf_defs.proofs.Tables.{tables_again}
 use Rattle.nf_defs.proofs.Walks.{node_row_each}
-use Rattle.nf_defs.specs.Prelude.{is_root_place, node_row, piece_count, rows_of, Tables, tables_of, user_row}
+use Rattle.nf_defs.specs.Prelude.{is_root_place, node_row, rows_of, Tables, tables_of, user_row, owner_of}
 use Rattle.nf_laws.proofs.Rows.{folder_there, found_is}
 use Rattle.nf_rows.specs.Spelling.{Fits}
 use Rattle.nf_words.specs.Later.{later_kinds}
-use Rattle.nf_words.specs.Others.{IsItemSound, IsMountSound}
-use Rattle.nf_words.specs.Prelude.{AreCounters, count_of, HasRoot, is_later, IsNodeSound, IsPieceSound, IsPlaceSound}
+use Rattle.nf_words.specs.Others.{IsItemSound, IsMountSound, IsVersionSound}
+use Rattle.nf_words.specs.Prelude.{AreCounters, count_of, HasRoot, is_later, IsNodeSound, IsPieceSound, IsPlaceSound, charge_of, quota_of, stored_pieces}
 use Rattle.nf_words.specs.declared.answer.Limit.TheVariants as limit
 use Rattle.nf_rules.specs.Keys.{name_key}
 use Rattle.nf_rules.specs.Laws.{RuledAreUnbroken}
-use Rattle.nf_rules.specs.Ruled.{AreRuled, IsGiven, IsGroupRuled, IsItemRuled, IsMemberRuled, IsMountRuled, IsShareRuled, IsTokenRuled, IsUserRuled}
-use Rattle.nf_rules.specs.Rules.{are_counters, are_numbers, has_ungiven_blob, is_beyond, is_given, is_lavish, is_place_given, is_place_there, is_placed, is_root_of, is_shared_well, is_user, names_are_there, rules}
+use Rattle.nf_rules.specs.Ruled.{AreOrdered, IsGiven, IsGroupRuled, IsItemRuled, IsMemberRuled, IsMountRuled, IsShareRuled, IsTokenRuled, IsUserRuled, AreSettled}
+use Rattle.nf_rules.specs.Rules.{are_counters, are_numbers, has_ungiven_blob, is_beyond, is_given, is_place_given, is_place_there, is_placed, is_root_of, is_shared_well, is_user, names_are_there, rules, is_over, held_bytes}
 use Rattle.nf_rules.proofs.Apart.{keys_unshared, names_unshared}
 use Rattle.nf_rules.proofs.Firsts.{Keep, none_broken}
 use Rattle.nf_rules.proofs.Items.{item_names, item_numbers, item_placed}
@@ -37,6 +37,9 @@ use Rattle.nf_rules.proofs.Leading.{sound_leads}
 use Rattle.nf_rules.proofs.Shared.{AreUnshared, of_among}
 use Rattle.nf_rules.proofs.Shares.{is_given_from, mount_well}
 use Rattle.nf_rules.proofs.Stacked.{IsOf, rows_have}
+use Rattle.nf_base.specs.declared.rows.VersionRow.{VersionRow}
+use Rattle.nf_retention.specs.Budget.{versions_bound}
+use Rattle.nf_laws.proofs.Files.{file_row}
 
 -- ---- numbers
 
@@ -48,7 +51,7 @@ counters_are meta h =
     (lt-ltb 0 meta.next_share h.shares)) (lt-ltb 0 meta.next_blob h.blobs)
 
 -- the number of a user that is there was given
-user_given : (t : Tables) (user : ℕ) → AreRuled t → is_user t user ≡ true → IsGiven t.meta.next_user user
+user_given : (t : Tables) (user : ℕ) → AreOrdered t → is_user t user ≡ true → IsGiven t.meta.next_user user
 user_given t user h is = here (user_row t.users user) refl is
   where
     here : (o : Option UserRow) → user_row t.users user ≡ o → is_some o ≡ true → IsGiven t.meta.next_user user
@@ -57,7 +60,7 @@ user_given t user h is = here (user_row t.users user) refl is
         let found = found_is (IsUserRuled t) (λ (row : UserRow). row.id == user) t.users row h.users e in
         subst (IsGiven t.meta.next_user) (eqb-true row.id user found.0) found.1.id
 
-place_given : (t : Tables) (row : NodeRow) (place : Place) → AreRuled t
+place_given : (t : Tables) (row : NodeRow) (place : Place) → AreOrdered t
     → IsPlaceSound t row place → is_place_given t.meta.next_node place ≡ true
 place_given t row Root h sound = refl
 place_given t row (Inside folder) h sound =
@@ -75,7 +78,7 @@ blobs_given t content pieces =
     (λ piece sound. not_from_true _ (is_given_from t.meta.next_blob piece.blob (record { first = sound.first; below = sound.given })))
     content pieces)
 
-node_numbers : (t : Tables) (row : NodeRow) → AreRuled t → IsNodeSound t row
+node_numbers : (t : Tables) (row : NodeRow) → AreOrdered t → IsNodeSound t row
     → is_user t row.owner ≡ true → are_numbers t.meta (rows.Node row) ≡ true
 node_numbers t row h sound owner =
     and_from _ _
@@ -87,7 +90,25 @@ node_numbers t row h sound owner =
     (not_from_false _ (blobs_given t row.content sound.pieces)))
     (not_from_false _ (le-ltb t.meta.last row.changed sound.changed))
 
-numbers_are : (t : Tables) (row : Row) → AreRuled t → IsOf t row → are_numbers t.meta row ≡ true
+-- a version's file is there, and its number was given
+version_numbers : (t : Tables) (row : VersionRow) → AreOrdered t → IsVersionSound t row → are_numbers t.meta (rows.Version row) ≡ true
+version_numbers t row h sound =
+    let file = file_row t.nodes row.node sound.file in
+    let found = found_is (IsNodeSound t) (λ (of : NodeRow). of.id == row.node) t.nodes file.0 h.sound.nodes file.1 in
+    let same : file.0.id ≡ row.node = eqb-true file.0.id row.node found.0 in
+    and_from _ _
+    (and_from _ _
+    (is_given_from t.meta.next_node row.node
+    (subst (IsGiven t.meta.next_node) same (record { first = found.1.some; below = found.1.given })))
+    (not_from_false _ (blobs_given t row.content sound.pieces)))
+    (not_from_false _ (le-ltb t.meta.last row.at sound.at))
+
+-- a content that isn't empty has pieces
+some_content : (content : List Piece) → content ≢ [] → 0 < length content
+some_content [] some = absurd (some refl)
+some_content (piece ∷ content) some = omega arith
+
+numbers_are : (t : Tables) (row : Row) → AreOrdered t → IsOf t row → are_numbers t.meta row ≡ true
 numbers_are t (rows.Meta row) h is = subst (λ (meta : MetaRow). are_counters meta ≡ true) (sym is) (counters_are t.meta h.sound.counters)
 numbers_are t (rows.User row) h among =
     let own = of_among (IsUserRuled t) t.users row h.users among in
@@ -105,6 +126,7 @@ numbers_are t (rows.Share row) h among = (of_among (IsShareRuled t) t.shares row
 numbers_are t (rows.Mount row) h among =
     let own = of_among (IsMountRuled t) t.mounts row h.mounts among in
     and_from _ _ (is_given_from t.meta.next_user row.user own.user) (is_given_from t.meta.next_node row.node own.node)
+numbers_are t (rows.Version row) h among = version_numbers t row h (of_among (IsVersionSound t) t.versions row h.sound.others.versions among)
 numbers_are t (rows.Item row) h among =
     item_numbers t row (of_among (IsItemSound t) t.items row h.sound.others.items among) (of_among (IsItemRuled t) t.items row h.items among)
 numbers_are t other h among = refl
@@ -116,7 +138,7 @@ place_there t row Root sound = refl
 place_there t row (Inside folder) sound = ap (λ (o : Option NodeRow). is_some o) (folder_there t.nodes folder sound.0).1
 place_there t row Trash sound = refl
 
-names_there : (t : Tables) (row : Row) → AreRuled t → IsOf t row → names_are_there t row ≡ true
+names_there : (t : Tables) (row : Row) → AreOrdered t → IsOf t row → names_are_there t row ≡ true
 names_there t (rows.User row) h among =
     ap (λ (o : Option NodeRow). is_some o) (of_among (HasRoot t) t.users row h.sound.roots among).there
 names_there t (rows.Token row) h among = (of_among (IsTokenRuled t) t.tokens row h.tokens among).user
@@ -128,6 +150,8 @@ names_there t (rows.Node row) h among =
     (place_there t row row.place (of_among (IsNodeSound t) t.nodes row h.sound.nodes among).place)
 names_there t (rows.Share row) h among = (of_among (IsShareRuled t) t.shares row h.shares among).names
 names_there t (rows.Mount row) h among = (of_among (IsMountSound t) t.mounts row h.sound.others.mounts among).user
+names_there t (rows.Version row) h among =
+    ap (λ (o : Option NodeRow). is_some o) (file_row t.nodes row.node (of_among (IsVersionSound t) t.versions row h.sound.others.versions among).file).1
 names_there t (rows.Item row) h among =
     let there = item_names t row h.owners (of_among (IsItemSound t) t.items row h.sound.others.items among) in and_from _ _ there.0 there.1
 names_there t other h among = refl
@@ -141,25 +165,28 @@ root_placed t user root =
     (and_from _ _ (and_from _ _ (ap is_root_place root.place) root.folder) (eq-eqb root.row.owner user.id root.owner))
     ((bytes_eq-Decides root.row.name user.name).1 root.name)
 
-all_placed : (t : Tables) (row : Row) → AreRuled t → IsOf t row → is_placed t row ≡ true
+all_placed : (t : Tables) (row : Row) → AreOrdered t → IsOf t row → is_placed t row ≡ true
 all_placed t (rows.User row) h among = root_placed t row (of_among (HasRoot t) t.users row h.sound.roots among)
 all_placed t (rows.Node row) h among =
     sound_leads t row h.sound (of_among (IsNodeSound t) t.nodes row h.sound.nodes among)
     (of_among (λ (row : NodeRow). node_row t.nodes row.id ≡ Some row) t.nodes row (node_row_each t.nodes h.sound.rising) among)
+all_placed t (rows.Version row) h among =
+    let own = of_among (IsVersionSound t) t.versions row h.sound.others.versions among in
+    and_from _ _ own.file (lt-ltb 0 (length row.content) (some_content row.content own.some))
 all_placed t (rows.Item row) h among =
     item_placed t row (of_among (IsItemSound t) t.items row h.sound.others.items among) (of_among (IsItemRuled t) t.items row h.items among)
 all_placed t other h among = refl
 
 -- ---- shares and mounts
 
-shared_well : (t : Tables) (row : Row) → AreRuled t → IsOf t row → is_shared_well t row ≡ true
+shared_well : (t : Tables) (row : Row) → AreOrdered t → IsOf t row → is_shared_well t row ≡ true
 shared_well t (rows.Share row) h among = (of_among (IsShareRuled t) t.shares row h.shares among).kept
 shared_well t (rows.Mount row) h among = mount_well t row (of_among (IsMountSound t) t.mounts row h.sound.others.mounts among)
 shared_well t other h among = refl
 
 -- ---- limits
 
-all_within : (t : Tables) (row : Row) → AreRuled t → is_beyond t row ≡ false
+all_within : (t : Tables) (row : Row) → AreOrdered t → is_beyond t row ≡ false
 all_within t (rows.User row) h = le-ltb MAX_USERS (length t.users) h.few_users
 all_within t (rows.Token row) h = le-ltb MAX_TOKENS (length t.tokens) h.few_tokens
 all_within t (rows.Group row) h = le-ltb MAX_GROUPS (length t.groups) h.few_groups
@@ -167,14 +194,19 @@ all_within t (rows.Member row) h = le-ltb MAX_MEMBERS (length t.members) h.few_m
 all_within t (rows.Node row) h =
     or_from _ _ (le-ltb (count_of limit.Nodes) (length t.nodes) h.sound.few_nodes)
     (and_right (nat_lt 0 (length row.content)) _
-    (le-ltb (count_of limit.Pieces) (piece_count t.nodes) (omega (arith, h.sound.few_pieces))))
+    (le-ltb (count_of limit.Pieces) (stored_pieces t) h.sound.few_pieces))
 all_within t (rows.Share row) h = le-ltb MAX_SHARES (length t.shares) h.sound.others.few_shares
 all_within t (rows.Mount row) h = le-ltb MAX_MOUNTS (length t.mounts) h.sound.others.few_mounts
+all_within t (rows.Version row) h =
+    or_from _ _ (le-ltb MAX_VERSIONS (length t.versions) h.sound.others.few_versions)
+    (le-ltb (count_of limit.Pieces) (stored_pieces t) h.sound.few_pieces)
 all_within t other h = refl
 
-none_lavish : (t : Tables) (row : Row) → AreRuled t → IsOf t row → is_lavish row ≡ false
-none_lavish t (rows.User row) h among = le-ltb MAX_QUOTA row.quota (of_among (IsUserRuled t) t.users row h.users among).quota
-none_lavish t other h among = refl
+none_over : (t : Tables) (row : Row) → AreOrdered t → AreSettled t → IsOf t row → is_over t row ≡ false
+none_over t (rows.User row) h settled among = le-ltb MAX_QUOTA row.quota (of_among (IsUserRuled t) t.users row h.users among).quota
+none_over t (rows.Version row) h settled among =
+    let user = owner_of t.nodes row.node in le-ltb (versions_bound (quota_of t user) (charge_of t user)) (held_bytes t user) (settled user)
+none_over t other h settled among = refl
 
 -- ---- all rules
 
@@ -185,14 +217,16 @@ none_fails test t again each =
     subst (λ (u : Tables). All (λ row. not (test u row) ≡ false) (rows_of t)) (sym again)
     (rows_have (λ row. not (test t row) ≡ false) t (λ row among. not_from_true (test t row) (each row among)))
 
-each_kept : (t : Tables) → All Fits (rows_of t) → AreRuled t → AllByRecursion (Keep (rows_of t)) rules
-each_kept t fits h =
+each_kept : (t : Tables) → All Fits (rows_of t) → AreOrdered t → AreSettled t → AllByRecursion (Keep (rows_of t)) rules
+each_kept t fits h settled =
     let all : List Row = rows_of t in
     let again : tables_of all ≡ t = tables_again t h.rising in
     let early = rows_have (λ row. is_later row ≡ false) t (λ row among. not_one_of t later_kinds row h.sound.later among) in
     let names = subst (λ (u : Tables). AreUnshared (name_key u) all) (sym again) (names_unshared t h) in
     let within = subst (λ (u : Tables). All (λ row. is_beyond u row ≡ false) all) (sym again)
     (rows_have (λ row. is_beyond t row ≡ false) t (λ row among. all_within t row h)) in
+    let over = subst (λ (u : Tables). All (λ row. is_over u row ≡ false) all) (sym again)
+    (rows_have (λ row. is_over t row ≡ false) t (λ row among. none_over t row h settled among)) in
     keep_more (early, refl)
     (keep_more (keys_unshared t fits h.rising, refl)
     (keep_more (none_fails (λ t row. are_numbers t.meta row) t again (λ row among. numbers_are t row h among), refl)
@@ -201,10 +235,10 @@ each_kept t fits h =
     (keep_more (none_fails is_placed t again (λ row among. all_placed t row h among), refl)
     (keep_more (none_fails is_shared_well t again (λ row among. shared_well t row h among), refl)
     (keep_more (within, refl)
-    (keep_more (rows_have (λ row. is_lavish row ≡ false) t (λ row among. none_lavish t row h among), refl) tt))))))))
+    (keep_more (over, refl) tt))))))))
   where
     keep_more : {A B : Type 0} → A → B → A × B
     keep_more one rest = (one, rest)
 
 pub ruled_are_unbroken : RuledAreUnbroken
-ruled_are_unbroken t fits h = none_broken rules (rows_of t) (each_kept t fits h)
+ruled_are_unbroken t fits h = none_broken rules (rows_of t) (each_kept t fits h.ordered h.settled)

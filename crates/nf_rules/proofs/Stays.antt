@@ -1,5 +1,5 @@
 -- Tables that keep the rules keep them by each entry that may come.
-use Rattle.std.proofs.Common.{◌≡◌, ℕ, ◌+◌, ◌<◌, ◌≤◌, ◌==◌, ◌||◌, ◌⊎◌, inl, inr, Bool, true, false, if◌then◌else◌, not, List, [], ◌∷◌, map, get_or, refl, sym, ap, ◌∙◌, subst, arith, bytes_eq}
+use Rattle.std.proofs.Common.{◌≡◌, ℕ, ◌+◌, ◌<◌, ◌≤◌, ◌==◌, ◌||◌, ◌⊎◌, inl, inr, Bool, true, false, if◌then◌else◌, not, List, [], ◌∷◌, map, get_or, refl, sym, ap, ◌∙◌, subst, arith, bytes_eq, ◌++◌}
 use Rattle.std.specs.Prelude.{None}
 use Rattle.std.specs.List.{All, AllPairs}
 use Rattle.std.specs.Option.{option_and_then}
@@ -19,7 +19,7 @@ use Rattle.nf_laws.proofs.Allowing.{changes_allowed}
 use Rattle.nf_laws.proofs.Counters.{after_up}
 use Rattle.nf_laws.proofs.Entries.{entry_has}
 use Rattle.nf_laws.proofs.Going.{purged_rest}
-use Rattle.nf_laws.proofs.Lists.{changes_have}
+use Rattle.nf_laws.proofs.Lists.{changes_have, turned_only}
 use Rattle.nf_laws.proofs.Others.{item_gone}
 use Rattle.nf_laws.proofs.Peopled.{people_alone}
 use Rattle.nf_laws.proofs.Purged.{purged_keeps}
@@ -29,7 +29,7 @@ use Rattle.nf_laws.specs.Access.{ChangesAllowed, has_quota, has_token, is_left, 
 use Rattle.nf_laws.specs.Numbers.{AreHigher}
 use Rattle.nf_words.proofs.Ends.{known_change}
 use Rattle.nf_words.proofs.Known.{Known}
-use Rattle.nf_words.specs.Prelude.{after, altered, AreSound, asker_of, Call, call_of, changed, deeds_done, ended_row, IsInBounds, IsModest, IsSound, item_if_of, MayAsk, MayCome, new_user, purged, purges, State, told}
+use Rattle.nf_words.specs.Prelude.{after, altered, AreSound, asker_of, Call, call_of, changed, deeds_done, ended_row, IsInBounds, IsModest, IsSound, item_if_of, MayAsk, MayCome, new_user, purged, purges, State, told, forgets}
 use Rattle.nf_words.specs.declared.answer.Allowed.{Allowed}
 use Rattle.nf_words.specs.declared.answer.Allowed.TheVariants as allowed
 use Rattle.nf_words.specs.declared.answer.Deed.{Deed}
@@ -40,12 +40,17 @@ use Rattle.nf_words.specs.declared.request.PeopleAsk.{PeopleAsk}
 use Rattle.nf_words.specs.declared.request.Request.{Request}
 use Rattle.nf_words.specs.declared.request.Words.{Words}
 use Rattle.nf_rules.specs.Laws.{StaysRuled}
-use Rattle.nf_rules.specs.Ruled.{AreRuled, AreTokensApart, IsGiven, IsItemRuled, IsMountRuled, IsShareRuled}
+use Rattle.nf_rules.specs.Ruled.{AreOrdered, AreTokensApart, IsGiven, IsItemRuled, IsMountRuled, IsShareRuled}
 use Rattle.nf_rules.proofs.Items.{from_still, given_gone, items_ruled}
 use Rattle.nf_rules.proofs.Kept.{apart, EndsSome, ends_unless, others_ruled, shares_ruled, still_mounted}
 use Rattle.nf_rules.proofs.OneShare.{mounts_ruled, one_apart, one_ruled}
 use Rattle.nf_rules.proofs.Peopled.{people_ruled}
 use Rattle.nf_rules.proofs.Deeds.{AreModest, step_ruled}
+use Rattle.nf_base.specs.declared.rows.VersionRow.{VersionRow}
+use Rattle.nf_laws.proofs.Behind.{versioned, forgets_only}
+use Rattle.nf_laws.proofs.InTurn.{deeds_append}
+use Rattle.nf_retention.specs.declared.versions.Version.{Version}
+use Rattle.nf_rules.proofs.Settled.{settled_after}
 
 -- ---- mounts
 
@@ -54,7 +59,7 @@ same_mount : (call : Call) (old row : MountRow) → Remounts call old row → (r
 same_mount call old _ (is_left spot asked own) = (refl, refl)
 same_mount call old _ (is_renamed source target overwrite asked own) = (refl, refl)
 
-remounted_ruled : (s : State) (e : Entry) (made : Tables) → AreRuled s.tables → AreHigher s.tables.meta made.meta
+remounted_ruled : (s : State) (e : Entry) (made : Tables) → AreOrdered s.tables → AreHigher s.tables.meta made.meta
     → IsRemounted s e made → All (IsMountRuled made) made.mounts
 remounted_ruled s e made h up is =
     subst (All (IsMountRuled made)) (sym is.mounts)
@@ -90,7 +95,7 @@ record AreKept (made : Tables) : Type 0 where
   apart : AllPairs AreTokensApart made.shares
   mounts : All (IsMountRuled made) made.mounts
 
-others_kept : (s : State) (e : Entry) (made : Tables) → AreRuled s.tables → AreSound made → AreHigher s.tables.meta made.meta
+others_kept : (s : State) (e : Entry) (made : Tables) → AreOrdered s.tables → AreSound made → AreHigher s.tables.meta made.meta
     → made.users ≡ s.tables.users → made.groups ≡ s.tables.groups
     → KeepsShares s.tables made ⊎ (IsRemounted s e made ⊎ IsSharing s e made)
     → ((words : Words) (request : Request) → e.event ≡ Begin words request → IsInBounds request.wanted) → AreKept made
@@ -134,13 +139,13 @@ record IsAfter (s : State) (e : Entry) (made : Tables) : Type 0 where
   bounds : (words : Words) (request : Request) → e.event ≡ Begin words request → IsInBounds request.wanted
 
 -- where an entry changes the nodes, the shares, the mounts and the meta row alone
-nodes_ruled : (s : State) (e : Entry) (made : Tables) → AreRuled s.tables → IsAfter s e made → made.items ≡ s.tables.items → NodesAllowed s e made
-    → AreRuled made
+nodes_ruled : (s : State) (e : Entry) (made : Tables) → AreOrdered s.tables → IsAfter s e made → made.items ≡ s.tables.items → NodesAllowed s e made
+    → AreOrdered made
 nodes_ruled s e made ruled is same changes =
     let kept = others_kept s e made ruled is.sound is.up (ap (λ (t : Tables). t.users) changes.rest) (ap (λ (t : Tables). t.groups) changes.rest)
     changes.others is.bounds in
     let items = items_ruled s.tables made ruled is.up same (from_still s e made is.none changes) in
-    subst AreRuled (sym changes.rest)
+    subst AreOrdered (sym changes.rest)
     (others_ruled s.tables made ruled (subst AreSound changes.rest is.sound) is.up
     (subst (λ (u : Tables). All (IsShareRuled u) u.shares) changes.rest kept.shares) kept.apart
     (subst (λ (u : Tables). All (IsMountRuled u) u.mounts) changes.rest kept.mounts)
@@ -160,12 +165,13 @@ items_same t now act sound known other =
     here (allowed.Change changes blob report) known other =
         changes_have (λ (u : Tables). u.items ≡ t.items) t now changes blob report sound.rising known (λ u row same it. same) (λ u row same it. same)
         (λ u row same it. same) (λ u row same it. same) (λ u change same it. ap (λ (v : Tables). v.items) (people_alone u change it) ∙ same)
-        (λ u row root same it. same) refl
+        (λ u change same it. ap (λ (v : Tables). v.items) (turned_only t u change it) ∙ same) (λ u row root same it. same) refl
     here (allowed.Deeds deeds report) known other = absurd (other deeds report refl)
     here act known other = refl
 
--- so that none of them goes
-none_goes : (s : State) (e : Entry) (made : Tables) → made.items ≡ s.tables.items → (changes : ChangesAllowed s e made) → made ≡ changes.between
+-- so that none of them goes, but versions may
+none_goes : (s : State) (e : Entry) (made : Tables) → made.items ≡ s.tables.items → (changes : ChangesAllowed s e made)
+    → (versions : List VersionRow) × (made ≡ versioned changes.between versions)
 none_goes s e made same changes = here changes.settled.tops changes.settled.items changes.settled.gone
   where
     t : Tables
@@ -174,20 +180,31 @@ none_goes s e made same changes = here changes.settled.tops changes.settled.item
     IsNot : ℕ → ItemRow → Type 0
     IsNot top item = (item.node == top) ≡ false
 
-    left : (top : ℕ) (tops : List ℕ) → All (IsNot top) (deeds_done (purged changes.between top) (purges tops)).items
-    left top tops =
+    versions : List Version
+    versions = changes.settled.versions
+
+    purges_left : (top : ℕ) (tops : List ℕ) → All (IsNot top) (deeds_done (purged changes.between top) (purges tops)).items
+    purges_left top tops =
         purged_keeps (λ (u : Tables). All (IsNot top) u.items)
         (λ u node all. All-filter (λ (item : ItemRow). not (bytes_eq (node ∷ []) (item_key item))) (IsNot top) u.items all)
         (purged changes.between top) tops
         (each_fails (λ (item : ItemRow). item.node == top) (purged changes.between top).items (item_gone top changes.between.items))
 
-    here : (tops : List ℕ) → All (IsItemSettled s e) tops → made ≡ deeds_done changes.between (purges tops) → made ≡ changes.between
-    here [] items gone = gone
+    left : (top : ℕ) (tops : List ℕ) → All (IsNot top) (deeds_done (purged changes.between top) (purges tops ++ forgets versions)).items
+    left top tops =
+        let u = purged changes.between top in
+        subst (λ (v : Tables). All (IsNot top) v.items)
+        (sym (deeds_append u (purges tops) (forgets versions) ∙ forgets_only (deeds_done u (purges tops)) versions))
+        (purges_left top tops)
+
+    here : (tops : List ℕ) → All (IsItemSettled s e) tops → made ≡ deeds_done changes.between (purges tops ++ forgets versions)
+        → (versions : List VersionRow) × (made ≡ versioned changes.between versions)
+    here [] items gone = ((deeds_done changes.between (forgets versions)).versions, gone ∙ forgets_only changes.between versions)
     here (top ∷ tops) items gone =
         let item = All-head (IsItemSettled s e) top tops items in
         let none : item_row t.items top ≡ None =
         ap (λ (rows : List ItemRow). item_row rows top) (sym same ∙ ap (λ (u : Tables). u.items) gone)
-        ∙ finds_none (λ (item : ItemRow). item.node == top) (deeds_done (purged changes.between top) (purges tops)).items (left top tops) in
+        ∙ finds_none (λ (item : ItemRow). item.node == top) (deeds_done (purged changes.between top) (purges tops ++ forgets versions)).items (left top tops) in
         absurd (none-some item.0 (sym none ∙ item.1))
 
 -- nor does one come back
@@ -198,14 +215,55 @@ none_back s e made same is =
     none-some is.item
     (sym (ap (option_and_then (item_if_of (asker_of (call_of s e.seat e.moment is.words is.request)))) none) ∙ is.own)
 
+-- versions that go make no node another
+behind_allowed : (s : State) (e : Entry) (u : Tables) (versions : List VersionRow) → NodesAllowed s e u → NodesAllowed s e (versioned u versions)
+behind_allowed s e u versions h = record {
+  nodes = h.nodes;
+  others = elim h.others [
+    | inl keeps ↦ inl (record { shares = keeps.shares; mounts = keeps.mounts })
+    | inr (inl is) ↦ inr (inl (record {
+      words = is.words;
+      request = is.request;
+      begins = is.begins;
+      old = is.old;
+      row = is.row;
+      there = is.there;
+      becomes = is.becomes;
+      mounts = is.mounts;
+      nodes = is.nodes;
+      shares = is.shares;
+    }))
+    | inr (inr is) ↦ inr (inr (record {
+      words = is.words;
+      request = is.request;
+      begins = is.begins;
+      row = is.row;
+      one = is.one;
+      shares = is.shares;
+      mounts = is.mounts;
+      mounted = is.mounted;
+      nodes = is.nodes;
+    }))
+  ];
+  items = h.items;
+  rest = ap (λ (v : Tables). versioned v versions) h.rest;
+}
+
 -- so the rules are kept
-plain_ruled : (s : State) (e : Entry) (made : Tables) → AreRuled s.tables → IsAfter s e made → made.items ≡ s.tables.items → AreRuled made
+behind_ruled : (s : State) (e : Entry) (between : Tables) (versions : List VersionRow) → AreOrdered s.tables → IsAfter s e (versioned between versions)
+    → between.items ≡ s.tables.items → NodesAllowed s e between ⊎ (IsProviding s e between ⊎ IsRestoring s e between)
+    → AreOrdered (versioned between versions)
+behind_ruled s e between versions ruled is same (inl nodes) =
+    nodes_ruled s e (versioned between versions) ruled is same (behind_allowed s e between versions nodes)
+behind_ruled s e between versions ruled is same (inr (inl people)) = people_ruled s e between versions ruled is.sound is.up people
+behind_ruled s e between versions ruled is same (inr (inr back)) = absurd (none_back s e between same back)
+
+plain_ruled : (s : State) (e : Entry) (made : Tables) → AreOrdered s.tables → IsAfter s e made → made.items ≡ s.tables.items → AreOrdered made
 plain_ruled s e made ruled is same =
-    elim (subst (λ (u : Tables). NodesAllowed s e u ⊎ (IsProviding s e u ⊎ IsRestoring s e u)) (sym (none_goes s e made same is.allowed)) is.allowed.allowed) [
-      | inl nodes ↦ nodes_ruled s e made ruled is same nodes
-      | inr (inl people) ↦ people_ruled s e made ruled is.sound is.up people
-      | inr (inr back) ↦ absurd (none_back s e made same back)
-    ]
+    let goes = none_goes s e made same is.allowed in
+    subst AreOrdered (sym goes.1)
+    (behind_ruled s e is.allowed.between goes.0 ruled (subst (IsAfter s e) goes.1 is)
+    (subst (λ (u : Tables). u.items ≡ s.tables.items) goes.1 same) is.allowed.allowed)
 
 -- ---- quotas
 
@@ -213,15 +271,15 @@ abbrev IsModestRow : UserRow → Type 0
 IsModestRow row = row.quota ≤ MAX_QUOTA
 
 -- where no user is another, no quota is beyond the greatest
-modest_as : (t made : Tables) → AreRuled t → made.users ≡ t.users → AreModest made
+modest_as : (t made : Tables) → AreOrdered t → made.users ≡ t.users → AreModest made
 modest_as t made h same = subst (All IsModestRow) (sym same) (λ k d within. (h.users k d within).quota)
 
 -- nor where one is
-modest_put : (t made : Tables) (row : UserRow) → AreRuled t → row.quota ≤ MAX_QUOTA → made.users ≡ put user_key row t.users → AreModest made
+modest_put : (t made : Tables) (row : UserRow) → AreOrdered t → row.quota ≤ MAX_QUOTA → made.users ≡ put user_key row t.users → AreModest made
 modest_put t made row h modest is =
     subst (All IsModestRow) (sym is) (all_put user_key IsModestRow row t.users modest (modest_as t t h refl))
 
-provided_modest : (t made : Tables) (now : ℕ) (asked : PeopleAsk) → AreRuled t → IsModest asked → Provides t now made asked → AreModest made
+provided_modest : (t made : Tables) (now : ℕ) (asked : PeopleAsk) → AreOrdered t → IsModest asked → Provides t now made asked → AreModest made
 provided_modest t made now _ h modest (makes_user name token quota free fresh is) =
     modest_put t made (new_user t name quota) h modest (ap (λ (u : Tables). u.users) is)
 provided_modest t made now _ h modest (makes_group name free is) = modest_as t made h (ap (λ (u : Tables). u.users) is)
@@ -232,9 +290,12 @@ provided_modest t made now _ h modest (has_quota user quota row named is) =
 provided_modest t made now _ h modest (has_token user token id named free is) = modest_as t made h (ap (λ (u : Tables). u.users) is)
 
 -- nor is one after an entry
-modest_after : (s : State) (e : Entry) (made : Tables) → AreRuled s.tables → ChangesAllowed s e made → AreModest made
+modest_after : (s : State) (e : Entry) (made : Tables) → AreOrdered s.tables → ChangesAllowed s e made → AreModest made
 modest_after s e made h changes =
-    subst (All IsModestRow) (sym (ap (λ (u : Tables). u.users) (changes.settled.gone ∙ purged_rest changes.between changes.settled.tops)))
+    subst (All IsModestRow) (sym (ap (λ (u : Tables). u.users)
+    (changes.settled.gone ∙ deeds_append changes.between (purges changes.settled.tops) (forgets changes.settled.versions)
+    ∙ forgets_only (deeds_done changes.between (purges changes.settled.tops)) changes.settled.versions)
+    ∙ ap (λ (u : Tables). u.users) (purged_rest changes.between changes.settled.tops)))
     (elim changes.allowed [
       | inl nodes ↦ modest_as s.tables changes.between h (ap (λ (u : Tables). u.users) nodes.rest)
       | inr (inl people) ↦ provided_modest s.tables changes.between e.moment people.asked h people.modest people.provides
@@ -244,20 +305,20 @@ modest_after s e made h changes =
 -- ---- histories
 
 -- each act that may come keeps the rules
-act_ruled : (s : State) (e : Entry) (act : Allowed) → AreRuled s.tables → s.tables.meta.last ≤ e.moment → Known s.tables e.moment act
-    → IsAfter s e (changed s.tables e.moment act) → AreRuled (changed s.tables e.moment act)
+act_ruled : (s : State) (e : Entry) (act : Allowed) → AreOrdered s.tables → s.tables.meta.last ≤ e.moment → Known s.tables e.moment act
+    → IsAfter s e (changed s.tables e.moment act) → AreOrdered (changed s.tables e.moment act)
 act_ruled s e (allowed.Deeds deeds report) ruled later known is =
     let act : Allowed = allowed.Deeds deeds report in
-    stamped_has (λ (u : Tables). AreModest u → AreRuled u) s.tables (altered s.tables e.moment act) e.moment (told s.tables act) (λ modest. ruled)
+    stamped_has (λ (u : Tables). AreModest u → AreOrdered u) s.tables (altered s.tables e.moment act) e.moment (told s.tables act) (λ modest. ruled)
     (step_ruled s.tables e.moment deeds ruled later known)
     (modest_after s e (changed s.tables e.moment act) ruled is.allowed)
 act_ruled s e act ruled later known is =
     plain_ruled s e (changed s.tables e.moment act) ruled is
     (items_same s.tables e.moment act ruled.sound known (λ deeds report same. cc))
 
-ruled_after : (n : ℕ) (s : State) (e : Entry) → AreRuled s.tables → IsSound s → MayCome n s e → AreRuled (after s e).tables
+ruled_after : (n : ℕ) (s : State) (e : Entry) → AreOrdered s.tables → IsSound s → MayCome n s e → AreOrdered (after s e).tables
 ruled_after n s e ruled sound may =
-    entry_has (λ t tickets blob. IsAfter s e t → AreRuled t) s e e.mark (λ is. ruled)
+    entry_has (λ t tickets blob. IsAfter s e t → AreOrdered t) s e e.mark (λ is. ruled)
     (λ act is. act_ruled s e act ruled (omega (arith, sound.seen, may.not_before)) (known_change s e.seat e.moment e.event act sound may.asked is))
     (record {
       sound = (sound_after n s e sound may).rows;
@@ -270,4 +331,6 @@ ruled_after n s e ruled sound may =
 pub stays_ruled : StaysRuled
 stays_ruled n s [] ruled sound legal = ruled
 stays_ruled n s (e ∷ es) ruled sound legal =
-    stays_ruled (n + 1) (after s e) es (ruled_after n s e ruled sound legal.0) (sound_after n s e sound legal.0) legal.1
+    stays_ruled (n + 1) (after s e) es
+    (record { ordered = ruled_after n s e ruled.ordered sound legal.0; settled = settled_after n s e ruled.settled sound legal.0 })
+    (sound_after n s e sound legal.0) legal.1

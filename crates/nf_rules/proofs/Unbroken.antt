@@ -1,14 +1,14 @@
 -- Rows that break no rule make tables that keep the rules.
-use Rattle.std.proofs.Common.{◌≡◌, ℕ, ◌<◌, ◌≤◌, Bool, true, false, not, List, [], ◌∷◌, length, get_or, Option, None, Some, refl, sym, ap, ◌∙◌, arith, ⊎_elim}
+use Rattle.std.proofs.Common.{◌≡◌, ℕ, ◌<◌, ◌≤◌, Bool, true, false, not, List, [], ◌∷◌, length, get_or, Option, None, Some, refl, sym, ap, ◌∙◌, arith, ⊎_elim, filter, sum_by, inl, inr, ◌==◌, subst}
 use Rattle.std.specs.Prelude.{nat_lt}
-use Rattle.std.specs.List.{All, AllPairs}
+use Rattle.std.specs.List.{All, AllPairs, Contains}
 use Rattle.std.specs.Option.{option_map_or}
 use Rattle.std.specs.declared.cmp.Ordering.TheVariants.{Less, Equal}
-use Rattle.std.proofs.lemmas.Bool.{and_cases, and_parts, cases_lt, eqb-true, false≢true, ltb-false, ltb-true, not-false, not-true, or_parts}
-use Rattle.std.proofs.lemmas.List.Elements.{All-cons, All-head, All-nil, All-tail, All-weaker}
+use Rattle.std.proofs.lemmas.Bool.{and_cases, and_parts, cases_lt, eqb-true, false≢true, ltb-false, ltb-true, not-false, not-true, or_parts, cases_Bool}
+use Rattle.std.proofs.lemmas.List.Elements.{All-cons, All-head, All-nil, All-tail, All-weaker, All-contains}
 use Rattle.std.proofs.lemmas.List.Sums.{sum_by-cons}
 use Rattle.std.proofs.lemmas.Slice.Eq.{bytes_eq-Decides}
-use Rattle.nf_base.specs.declared.limits.TheConstants.{MAX_GROUPS, MAX_MEMBERS, MAX_MOUNTS, MAX_QUOTA, MAX_SHARES, MAX_TOKENS, MAX_USERS}
+use Rattle.nf_base.specs.declared.limits.TheConstants.{MAX_GROUPS, MAX_MEMBERS, MAX_MOUNTS, MAX_QUOTA, MAX_SHARES, MAX_TOKENS, MAX_USERS, MAX_VERSIONS}
 use Rattle.nf_access.specs.Mounts.{root_folder}
 use Rattle.nf_base.proofs.Naming.{slice_cmp-Equal}
 use Rattle.nf_base.specs.Keys.{key_of}
@@ -27,16 +27,16 @@ use Rattle.nf_base.specs.declared.rows.UserRow.{UserRow}
 use Rattle.nf_defs.proofs.Tables.{tables_rise}
 use Rattle.nf_defs.proofs.Puts.{below_one}
 use Rattle.nf_defs.proofs.Walks.{node_row_each}
-use Rattle.nf_defs.specs.Prelude.{group_key, is_folder_kind, is_root_place, IsRising, key_cmp, mount_key, node_key, node_row, numbers_of, piece_count, share_key, Tables, tables_of, user_key}
-use Rattle.nf_words.specs.Prelude.{AreCounters, AreSound, count_of, HasRoot, is_later, IsNodeSound, stored_pieces}
+use Rattle.nf_defs.specs.Prelude.{group_key, is_folder_kind, is_root_place, IsRising, key_cmp, mount_key, node_key, node_row, numbers_of, piece_count, share_key, Tables, tables_of, user_key, owner_of}
+use Rattle.nf_words.specs.Prelude.{AreCounters, AreSound, count_of, HasRoot, is_later, IsNodeSound, stored_pieces, charge_of, quota_of, content_size}
 use Rattle.nf_words.specs.Later.{later_kinds}
-use Rattle.nf_words.specs.Others.{AreOthersSound, IsShareSound}
+use Rattle.nf_words.specs.Others.{AreOthersSound, IsShareSound, IsVersionSound}
 use Rattle.nf_words.specs.declared.answer.Limit.TheVariants as limit
 use Rattle.nf_rules.specs.Keys.{child_key, link_key, name_key}
 use Rattle.nf_rules.specs.Laws.{UnbrokenAreRuled}
-use Rattle.nf_rules.specs.Ruled.{IsGiven, IsMountRuled, IsShareRuled}
-use Rattle.nf_rules.specs.Rules.{AreUnbroken, are_counters, are_numbers, has_ungiven_blob, is_beyond, is_given, is_lavish, is_placed, is_root_of, is_shared_well, lacks_meta, leads, names_are_there, rules}
-use Rattle.nf_rules.proofs.Among.{Have, all_have, meta_has}
+use Rattle.nf_rules.specs.Ruled.{IsGiven, IsMountRuled, IsShareRuled, AreSettled}
+use Rattle.nf_rules.specs.Rules.{AreUnbroken, are_counters, are_numbers, has_ungiven_blob, is_beyond, is_given, is_placed, is_root_of, is_shared_well, lacks_meta, leads, names_are_there, rules, is_over, held_bytes, are_unsettled}
+use Rattle.nf_rules.proofs.Among.{all_have, meta_has}
 use Rattle.nf_rules.proofs.Firsts.{keep_each}
 use Rattle.nf_rules.proofs.Items.{item_ruled, item_sound}
 use Rattle.nf_rules.proofs.Later.{nobody, none_of}
@@ -44,6 +44,9 @@ use Rattle.nf_rules.proofs.Leading.{climbs, place_of_leading}
 use Rattle.nf_rules.proofs.Shared.{AreUnshared, IsAmong, each_among, one_has}
 use Rattle.nf_rules.proofs.Shared as shared
 use Rattle.nf_rules.proofs.Shares.{given, mount_key_is, mount_sound, name_free, share_sound}
+use Rattle.nf_base.specs.declared.rows.VersionRow.{VersionRow}
+use Rattle.nf_base.specs.declared.rows.ChunkRow.{ChunkRow}
+use Rattle.nf_retention.specs.Budget.{versions_bound}
 
 -- ---- numbers
 
@@ -157,24 +160,39 @@ no_pieces (x ∷ some) none =
       no_pieces some (All-tail (λ (row : NodeRow). length row.content ≡ 0) x some none),
     )
 
-few_pieces : (t : Tables) → All (λ (row : NodeRow). is_beyond t (rows.Node row) ≡ false) t.nodes → piece_count t.nodes ≤ count_of limit.Pieces
-few_pieces t within =
+-- no version is there, where each would pass the limit
+no_versions : (some : List VersionRow) → ((row : VersionRow) → Contains some row → ⊥) → sum_by (λ (row : VersionRow). length row.content) some ≡ 0
+no_versions [] none = refl
+no_versions (x ∷ some) none = absurd (none x (0, omega arith, refl))
+
+few_pieces : (t : Tables) → All (λ (row : NodeRow). is_beyond t (rows.Node row) ≡ false) t.nodes
+    → All (λ (row : VersionRow). is_beyond t (rows.Version row) ≡ false) t.versions → t.chunks ≡ [] → stored_pieces t ≤ count_of limit.Pieces
+few_pieces t within versions chunks =
     ⊎_elim
     (λ more. absurd (omega (
       arith,
       no_pieces t.nodes (All-weaker (λ (row : NodeRow). is_beyond t (rows.Node row) ≡ false)
           (λ (row : NodeRow). length row.content ≡ 0) (none more) t.nodes within),
+      no_versions t.versions (λ row among. fewer more row (All-contains (λ (row : VersionRow). is_beyond t (rows.Version row) ≡ false)
+          t.versions row versions among)),
+      ap (λ (some : List ChunkRow). sum_by (λ row. length row.content) some) chunks,
+      more,
     )))
     (λ le. le)
-    (cases_lt (count_of limit.Pieces) (piece_count t.nodes))
+    (cases_lt (count_of limit.Pieces) (stored_pieces t))
   where
-    none : count_of limit.Pieces < piece_count t.nodes → (row : NodeRow) → is_beyond t (rows.Node row) ≡ false → length row.content ≡ 0
+    fewer : count_of limit.Pieces < stored_pieces t → (row : VersionRow) → is_beyond t (rows.Version row) ≡ false → ⊥
+    fewer more row is =
+        let parts = or_parts (nat_lt MAX_VERSIONS (length t.versions)) (nat_lt (count_of limit.Pieces) (stored_pieces t)) is in
+        omega (arith, more, ltb-false (count_of limit.Pieces) (stored_pieces t) parts.1)
+
+    none : count_of limit.Pieces < stored_pieces t → (row : NodeRow) → is_beyond t (rows.Node row) ≡ false → length row.content ≡ 0
     none more row is =
         let parts = or_parts (nat_lt (count_of limit.Nodes) (length t.nodes)) _ is in
         ⊎_elim
         (λ e. omega (arith, ltb-false 0 (length row.content) e))
-        (λ e. absurd (omega (arith, ltb-false (count_of limit.Pieces) (piece_count t.nodes) e)))
-        (and_cases (nat_lt 0 (length row.content)) (nat_lt (count_of limit.Pieces) (piece_count t.nodes)) parts.1)
+        (λ e. absurd (omega (arith, ltb-false (count_of limit.Pieces) (stored_pieces t) e)))
+        (and_cases (nat_lt 0 (length row.content)) (nat_lt (count_of limit.Pieces) (stored_pieces t)) parts.1)
 
 -- ---- the tables
 
@@ -188,7 +206,7 @@ record Known (all : List Row) : Type 0 where
   placed : All (λ row. is_placed (tables_of all) row ≡ true) all
   well : All (λ row. is_shared_well (tables_of all) row ≡ true) all
   few : All (λ row. is_beyond (tables_of all) row ≡ false) all
-  modest : All (λ row. is_lavish row ≡ false) all
+  modest : All (λ row. is_over (tables_of all) row ≡ false) all
 
 passes : (test : Row → Bool) (all : List Row) → All (λ row. not (test row) ≡ false) all → All (λ row. test row ≡ true) all
 passes test all = All-weaker (λ row. not (test row) ≡ false) (λ row. test row ≡ true) (λ row fails. not-false (test row) fails) all
@@ -209,6 +227,57 @@ known all none =
       modest = kept.1.1.1.1.1.1.1.1.0.0;
     }
 
+-- ---- versions
+
+version_sound : (t : Tables) (row : VersionRow) → are_numbers t.meta (rows.Version row) ≡ true → IsKept (rows.Version row)
+    → is_placed t (rows.Version row) ≡ true → IsVersionSound t row
+version_sound t row numbers kept placed =
+    let last = and_parts _ _ numbers in
+    let blobs = and_parts _ _ last.0 in
+    let blob = none_ungiven t.meta.next_blob row.content (not-true (has_ungiven_blob t.meta.next_blob row.content) blobs.1) in
+    let place = and_parts _ _ placed in
+    record {
+      at = ltb-false t.meta.last row.at (not-true (nat_lt t.meta.last row.at) last.1);
+      file = place.0;
+      some = λ empty. let none : length row.content ≡ 0 = ap length empty in omega (arith, none, ltb-true 0 (length row.content) place.1);
+      pieces = λ k d within.
+          let sized = kept.sized k d within in
+          record { some = sized.some; few = sized.few; first = (blob k d within).first; given = (blob k d within).below };
+    }
+
+-- a test that no row passes keeps none
+none_kept : (test : VersionRow → Bool) (some : List VersionRow) → All (λ (row : VersionRow). test row ≡ false) some → filter test some ≡ []
+none_kept test [] none = refl
+none_kept test (x ∷ some) none =
+    simp (All-head (λ (row : VersionRow). test row ≡ false) x some none)
+    (none_kept test some (All-tail (λ (row : VersionRow). test row ≡ false) x some none))
+
+-- where no version is one of too many, each user's are within their bound
+settled_from : (t : Tables) → All (λ (row : VersionRow). is_over t (rows.Version row) ≡ false) t.versions → AreSettled t
+settled_from t none user =
+    ⊎_elim
+    (λ more. absurd (omega (
+      arith,
+      more,
+      ap (λ (some : List VersionRow). sum_by (λ (row : VersionRow). content_size row.content) some)
+          (none_kept (λ (row : VersionRow). owner_of t.nodes row.node == user) t.versions
+          (All-weaker (λ (row : VersionRow). is_over t (rows.Version row) ≡ false) (λ (row : VersionRow). (owner_of t.nodes row.node == user) ≡ false)
+          (other more) t.versions none)),
+    )))
+    (λ le. le)
+    (cases_lt (versions_bound (quota_of t user) (charge_of t user)) (held_bytes t user))
+  where
+    other : versions_bound (quota_of t user) (charge_of t user) < held_bytes t user → (row : VersionRow) → is_over t (rows.Version row) ≡ false
+        → (owner_of t.nodes row.node == user) ≡ false
+    other more row within =
+        elim (cases_Bool (owner_of t.nodes row.node == user)) [
+          | inl own ↦
+              (let le = ltb-false (versions_bound (quota_of t user) (charge_of t user)) (held_bytes t user)
+              (subst (λ (u : ℕ). are_unsettled t u ≡ false) (eqb-true (owner_of t.nodes row.node) user own) within) in
+              absurd (omega (arith, more, le)))
+          | inr not ↦ not
+        ]
+
 -- ---- shares and mounts
 
 shares_ruled : (all : List Row) → Known all → All (IsShareRuled (tables_of all)) (tables_of all).shares
@@ -227,9 +296,10 @@ mounts_ruled all h =
     let parts = and_parts _ _ (numbers.mounts k d less) in
     record { user = given t.meta.next_user _ parts.0; node = given t.meta.next_node _ parts.1 }
 
-others : (all : List Row) → Known all → AreOthersSound (tables_of all)
-others all h =
+others : (all : List Row) → All IsKept all → Known all → AreOthersSound (tables_of all)
+others all kept h =
     let t : Tables = tables_of all in
+    let keeps = all_have IsKept all kept in
     let rising = tables_rise all in
     let among = all_have (IsAmong all) all (each_among all) in
     let early = all_have (λ row. is_later row ≡ false) all h.early in
@@ -256,7 +326,13 @@ others all h =
           (mount_key_is t b other ∙ ap (λ (user : ℕ). Some (6 ∷ root_folder t.users user ∷ b.name)) (sym users)
           ∙ ap (λ (name : List ℕ). Some (6 ∷ root_folder t.users a.user ∷ name)) (sym same));
       few_mounts = few t.mounts MAX_MOUNTS within.mounts;
-      versions = λ k d less. absurd (false≢true (sym (early.versions k d less)));
+      versions = λ k d less.
+          version_sound t (get_or t.versions k d) (numbers.versions k d less) (keeps.versions k d less) (placed.versions k d less);
+      versions_rise = rising.versions;
+      few_versions = few t.versions MAX_VERSIONS
+          (All-weaker (λ (row : VersionRow). is_beyond t (rows.Version row) ≡ false)
+          (λ (row : VersionRow). nat_lt MAX_VERSIONS (length t.versions) ≡ false)
+          (λ row fails. (or_parts (nat_lt MAX_VERSIONS (length t.versions)) _ fails).0) t.versions within.versions);
       items = λ k d less. item_sound t (get_or t.items k d) (numbers.items k d less) (placed.items k d less);
       items_rise = rising.items;
       uploads = λ k d less. absurd (false≢true (sym (early.uploads k d less)));
@@ -264,10 +340,6 @@ others all h =
     }
 
 -- ---- all of them
-
--- where there are no versions and no chunks, the nodes have all pieces
-pieces_early : (t : Tables) → Have (λ row. is_later row ≡ false) t → stored_pieces t ≡ piece_count t.nodes
-pieces_early t early = rw (nobody t.versions early.versions, nobody t.chunks early.chunks) (omega arith)
 
 sound : (all : List Row) → All IsKept all → Known all → AreSound (tables_of all)
 sound all kept h =
@@ -302,9 +374,9 @@ sound all kept h =
           (All-weaker (λ (row : NodeRow). is_beyond t (rows.Node row) ≡ false)
           (λ (row : NodeRow). nat_lt (count_of limit.Nodes) (length t.nodes) ≡ false)
           (λ row fails. (or_parts (nat_lt (count_of limit.Nodes) (length t.nodes)) _ fails).0) t.nodes within.nodes);
-      few_pieces = rw (pieces_early t early) (few_pieces t within.nodes);
+      few_pieces = few_pieces t within.nodes within.versions (nobody t.chunks early.chunks);
       later = none_of t later_kinds early;
-      others = others all h;
+      others = others all kept h;
     }
 
 pub unbroken_are_ruled : UnbrokenAreRuled
@@ -317,42 +389,45 @@ unbroken_are_ruled all kept none =
     let there = all_have (λ row. names_are_there t row ≡ true) all h.there in
     let placed = all_have (λ row. is_placed t row ≡ true) all h.placed in
     let within = all_have (λ row. is_beyond t row ≡ false) all h.few in
-    let modest = all_have (λ row. is_lavish row ≡ false) all h.modest in
+    let modest = all_have (λ row. is_over t row ≡ false) all h.modest in
     let users = names_differ user_key rows.User (λ row. refl) t all t.users h.names rising.users among.users in
     let groups = names_differ group_key rows.Group (λ row. refl) t all t.groups h.names rising.groups among.groups in
     let shares = names_differ share_key rows.Share (λ row. refl) t all t.shares h.names rising.shares among.shares in
     record {
-      sound = sound all kept h;
-      rising = rising;
-      owners = λ k d less. (and_parts _ _ (there.nodes k d less)).0;
-      users = λ k d less.
-          let parts = and_parts _ _ (numbers.users k d less) in
-          record {
-            id = given t.meta.next_user _ parts.0;
-            root = given t.meta.next_node _ parts.1;
-            quota = ltb-false MAX_QUOTA _ (modest.users k d less);
-          };
-      tokens = λ k d less. record { given = given t.meta.next_user _ (numbers.tokens k d less); user = there.tokens k d less };
-      groups = λ k d less. record { id = given t.meta.next_group _ (numbers.groups k d less) };
-      members = λ k d less.
-          let parts = and_parts _ _ (numbers.members k d less) in
-          let names = and_parts _ _ (there.members k d less) in
-          record {
-            given_group = given t.meta.next_group _ parts.0;
-            given_user = given t.meta.next_user _ parts.1;
-            group = names.0;
-            user = names.1;
-          };
-      shares = shares_ruled all h;
-      mounts = mounts_ruled all h;
-      items = λ k d less. item_ruled t (get_or t.items k d) (numbers.items k d less) (placed.items k d less);
-      user_names = λ i j d before less same. users i j d before less (2 ∷ (get_or t.users i d).name) refl
-          (ap (λ (name : List ℕ). Some (2 ∷ name)) (sym same));
-      group_names = λ i j d before less same. groups i j d before less (4 ∷ (get_or t.groups i d).name) refl
-          (ap (λ (name : List ℕ). Some (4 ∷ name)) (sym same));
-      tokens_apart = λ i j d before less token first second. shares i j d before less (7 ∷ token) (ap link_key first) (ap link_key second);
-      few_users = few t.users MAX_USERS within.users;
-      few_groups = few t.groups MAX_GROUPS within.groups;
-      few_tokens = few t.tokens MAX_TOKENS within.tokens;
-      few_members = few t.members MAX_MEMBERS within.members;
+      settled = settled_from t modest.versions;
+      ordered = record {
+        sound = sound all kept h;
+        rising = rising;
+        owners = λ k d less. (and_parts _ _ (there.nodes k d less)).0;
+        users = λ k d less.
+            let parts = and_parts _ _ (numbers.users k d less) in
+            record {
+              id = given t.meta.next_user _ parts.0;
+              root = given t.meta.next_node _ parts.1;
+              quota = ltb-false MAX_QUOTA _ (modest.users k d less);
+            };
+        tokens = λ k d less. record { given = given t.meta.next_user _ (numbers.tokens k d less); user = there.tokens k d less };
+        groups = λ k d less. record { id = given t.meta.next_group _ (numbers.groups k d less) };
+        members = λ k d less.
+            let parts = and_parts _ _ (numbers.members k d less) in
+            let names = and_parts _ _ (there.members k d less) in
+            record {
+              given_group = given t.meta.next_group _ parts.0;
+              given_user = given t.meta.next_user _ parts.1;
+              group = names.0;
+              user = names.1;
+            };
+        shares = shares_ruled all h;
+        mounts = mounts_ruled all h;
+        items = λ k d less. item_ruled t (get_or t.items k d) (numbers.items k d less) (placed.items k d less);
+        user_names = λ i j d before less same. users i j d before less (2 ∷ (get_or t.users i d).name) refl
+            (ap (λ (name : List ℕ). Some (2 ∷ name)) (sym same));
+        group_names = λ i j d before less same. groups i j d before less (4 ∷ (get_or t.groups i d).name) refl
+            (ap (λ (name : List ℕ). Some (4 ∷ name)) (sym same));
+        tokens_apart = λ i j d before less token first second. shares i j d before less (7 ∷ token) (ap link_key first) (ap link_key second);
+        few_users = few t.users MAX_USERS within.users;
+        few_groups = few t.groups MAX_GROUPS within.groups;
+        few_tokens = few t.tokens MAX_TOKENS within.tokens;
+        few_members = few t.members MAX_MEMBERS within.members;
+      };
     }

@@ -1,16 +1,17 @@
 -- The rules that stored rows keep. A row breaks a rule among all the rows that were loaded; rows that break a rule together each
 -- break it.
-use Rattle.std.specs.Prelude.{◌≡◌, ℕ, zero, suc, ◌==◌, ◌&&◌, ◌||◌, Bool, false, true, not, nat_lt, bytes_eq, List, [], ◌∷◌, map, length, Option, None, Some, option_map, is_some, if◌then◌else◌}
+use Rattle.std.specs.Prelude.{◌≡◌, ℕ, zero, suc, ◌==◌, ◌&&◌, ◌||◌, Bool, false, true, not, nat_lt, bytes_eq, List, [], ◌∷◌, filter, map, length, sum_by, Option, None, Some, option_map, is_some, if◌then◌else◌}
 use Rattle.std.specs.List.{list_any}
 use Rattle.std.specs.Option.{option_map_or, option_or}
 use Rattle.nf_access.specs.Shares.{chain_within, perms_of_share, share_row}
-use Rattle.nf_base.specs.declared.limits.TheConstants.{MAX_CHAIN, MAX_DEPTH, MAX_GROUPS, MAX_MEMBERS, MAX_MOUNTS, MAX_QUOTA, MAX_SHARES, MAX_TOKENS, MAX_USERS}
+use Rattle.nf_base.specs.declared.limits.TheConstants.{MAX_CHAIN, MAX_DEPTH, MAX_GROUPS, MAX_MEMBERS, MAX_MOUNTS, MAX_QUOTA, MAX_SHARES, MAX_TOKENS, MAX_USERS, MAX_VERSIONS}
 use Rattle.nf_base.specs.declared.content.Piece.{Piece}
 use Rattle.nf_base.specs.declared.rows.MetaRow.{MetaRow}
 use Rattle.nf_base.specs.declared.rows.NodeRow.{NodeRow}
 use Rattle.nf_base.specs.declared.rows.UserRow.{UserRow}
 use Rattle.nf_base.specs.declared.rows.GroupRow.{GroupRow}
 use Rattle.nf_base.specs.declared.rows.ItemRow.{ItemRow}
+use Rattle.nf_base.specs.declared.rows.VersionRow.{VersionRow}
 use Rattle.nf_base.specs.declared.rows.Row.{Row}
 use Rattle.nf_base.specs.declared.rows.Row.TheVariants as rows
 use Rattle.nf_base.specs.declared.rows.ShareKind.{ShareKind}
@@ -18,8 +19,11 @@ use Rattle.nf_base.specs.declared.rows.ShareKind.TheVariants as to
 use Rattle.nf_base.specs.declared.rows.ShareRow.{ShareRow}
 use Rattle.nf_base.specs.declared.rows.Place.{Place}
 use Rattle.nf_base.specs.declared.rows.Place.TheVariants.{Root, Inside, Trash}
-use Rattle.nf_defs.specs.Prelude.{is_folder_kind, is_root_place, is_under, item_row, node_row, piece_count, Tables, tables_of, user_row}
-use Rattle.nf_words.specs.Prelude.{count_of, is_end_moment, is_later, root_of_user}
+use Rattle.nf_defs.specs.Prelude.{is_file, is_folder_kind, is_root_place, is_under, item_row, node_row, owner_of, Tables, tables_of, user_row}
+use Rattle.nf_retention.specs.Budget.{versions_bound}
+use Rattle.nf_words.specs.Charges.{charge_of}
+use Rattle.nf_words.specs.Prelude.{count_of, is_end_moment, is_later, quota_of, root_of_user, stored_pieces}
+use Rattle.nf_words.specs.Versions.{content_size}
 use Rattle.nf_words.specs.declared.answer.Limit.TheVariants as limit
 use Rattle.nf_rules.specs.Keys.{is_shared, name_key, spelled_key}
 
@@ -72,6 +76,11 @@ abbrev pub are_item_numbers : MetaRow → ItemRow → Bool
 are_item_numbers meta row =
     is_given meta.next_node row.node && is_given meta.next_user row.owner && is_given meta.next_node row.from && not (nat_lt meta.last row.at)
 
+-- the version's node was given, and the blobs of its content, and it isn't of a moment to come
+abbrev pub are_version_numbers : MetaRow → VersionRow → Bool
+are_version_numbers meta row =
+    is_given meta.next_node row.node && not (has_ungiven_blob meta.next_blob row.content) && not (nat_lt meta.last row.at)
+
 abbrev pub are_numbers : MetaRow → Row → Bool
 are_numbers meta (rows.Meta row) = are_counters row
 are_numbers meta (rows.User row) = is_given meta.next_user row.id && is_given meta.next_node row.root
@@ -83,6 +92,7 @@ are_numbers meta (rows.Node row) =
     && not (has_ungiven_blob meta.next_blob row.content) && not (nat_lt meta.last row.changed)
 are_numbers meta (rows.Share row) = are_share_numbers meta row
 are_numbers meta (rows.Mount row) = is_given meta.next_user row.user && is_given meta.next_node row.node
+are_numbers meta (rows.Version row) = are_version_numbers meta row
 are_numbers meta (rows.Item row) = are_item_numbers meta row
 are_numbers meta other = true
 
@@ -124,6 +134,7 @@ names_are_there t (rows.Member row) = is_group t row.group && is_user t row.user
 names_are_there t (rows.Node row) = is_user t row.owner && is_place_there t row.place
 names_are_there t (rows.Share row) = are_share_names_there t row
 names_are_there t (rows.Mount row) = is_user t row.user
+names_are_there t (rows.Version row) = is_node t row.node
 names_are_there t (rows.Item row) = is_user t row.owner && is_node t row.node
 names_are_there t other = true
 
@@ -132,7 +143,7 @@ names_are_there t other = true
 abbrev pub is_namesake : List Row → Row → Bool
 is_namesake all row = let t = tables_of all in is_shared (map (name_key t) all) (name_key t row)
 
--- ---- 5: users have their roots, nodes lead to them or into the trash, and items are of what is in the trash
+-- ---- 5: users have their roots, nodes lead to them or into the trash, items are of what is in the trash, and versions of files
 
 abbrev pub is_root_of : UserRow → NodeRow → Bool
 is_root_of user node = is_root_place node.place && is_folder_kind node.kind && node.owner == user.id && bytes_eq node.name user.name
@@ -172,9 +183,14 @@ is_from_kept t row = option_map_or (is_folder_for row) (node_row t.nodes row.fro
 abbrev pub is_item_kept : Tables → ItemRow → Bool
 is_item_kept t row = option_map_or (is_trashed_as row) (node_row t.nodes row.node) false && is_from_kept t row
 
+-- a version is of a file, and has a content
+abbrev pub is_version_kept : Tables → VersionRow → Bool
+is_version_kept t row = is_file t.nodes row.node && nat_lt 0 (length row.content)
+
 abbrev pub is_placed : Tables → Row → Bool
 is_placed t (rows.User row) = option_map_or (is_root_of row) (node_row t.nodes row.root) false
 is_placed t (rows.Node row) = leads t row
+is_placed t (rows.Version row) = is_version_kept t row
 is_placed t (rows.Item row) = is_item_kept t row
 is_placed t other = true
 
@@ -215,16 +231,33 @@ is_beyond t (rows.Group row) = nat_lt MAX_GROUPS (length t.groups)
 is_beyond t (rows.Member row) = nat_lt MAX_MEMBERS (length t.members)
 is_beyond t (rows.Node row) =
     nat_lt (count_of limit.Nodes) (length t.nodes)
-    || nat_lt 0 (length row.content) && nat_lt (count_of limit.Pieces) (piece_count t.nodes)
+    || nat_lt 0 (length row.content) && nat_lt (count_of limit.Pieces) (stored_pieces t)
 is_beyond t (rows.Share row) = nat_lt MAX_SHARES (length t.shares)
 is_beyond t (rows.Mount row) = nat_lt MAX_MOUNTS (length t.mounts)
+is_beyond t (rows.Version row) = nat_lt MAX_VERSIONS (length t.versions) || nat_lt (count_of limit.Pieces) (stored_pieces t)
 is_beyond t other = false
 
--- ---- 8: the quotas
+-- ---- 8: the quotas, and the bounds of versions
 
 abbrev pub is_lavish : Row → Bool
 is_lavish (rows.User row) = nat_lt MAX_QUOTA row.quota
 is_lavish other = false
+
+-- the bytes of the versions of a user's files, in the trash too
+abbrev pub held_bytes : Tables → ℕ → ℕ
+held_bytes t user =
+    sum_by (λ (row : VersionRow). content_size row.content) (filter (λ (row : VersionRow). owner_of t.nodes row.node == user) t.versions)
+
+-- they are beyond half of what the charge leaves of the quota
+abbrev pub are_unsettled : Tables → ℕ → Bool
+are_unsettled t user = nat_lt (versions_bound (quota_of t user) (charge_of t user)) (held_bytes t user)
+
+abbrev pub is_unsettled : Tables → VersionRow → Bool
+is_unsettled t row = are_unsettled t (owner_of t.nodes row.node)
+
+abbrev pub is_over : Tables → Row → Bool
+is_over t (rows.Version row) = is_unsettled t row
+is_over t other = is_lavish other
 
 -- ---- all of them
 
@@ -248,7 +281,7 @@ rules =
     ∷ record { number = 5; breaks = λ all row. not (is_placed (tables_of all) row); lacks = nothing }
     ∷ record { number = 6; breaks = λ all row. not (is_shared_well (tables_of all) row); lacks = nothing }
     ∷ record { number = 7; breaks = λ all row. is_beyond (tables_of all) row; lacks = nothing }
-    ∷ record { number = 8; breaks = λ all row. is_lavish row; lacks = nothing }
+    ∷ record { number = 8; breaks = λ all row. is_over (tables_of all) row; lacks = nothing }
     ∷ []
 
 -- the first index of a row that passes the test

@@ -56,6 +56,7 @@ stored_responding a b now body (Ok (reply.Listing lines)) v ends is = absurd end
 stored_responding a b now body (Ok (reply.Share line)) v ends is = absurd ends.answered
 stored_responding a b now body (Ok (reply.Shares lines)) v ends is = absurd ends.answered
 stored_responding a b now body (Ok (reply.Items lines)) v ends is = absurd ends.answered
+stored_responding a b now body (Ok (reply.Versions lines)) v ends is = absurd ends.answered
 stored_responding a b now body (Ok reply.Plain) v ends is = absurd ends.answered
 stored_responding a b now body (Ok (reply.Granted goal)) v ends is = absurd is
 stored_responding a b now body answer v ends is = subst (λ (z : Response). IsResponding b z) (sym is) (enters_holds a b now _ answer ends.enters)

@@ -79,6 +79,7 @@ granted (Ok (reply.Listing lines)) = None
 granted (Ok (reply.Share line)) = None
 granted (Ok (reply.Shares lines)) = None
 granted (Ok (reply.Items lines)) = None
+granted (Ok (reply.Versions lines)) = None
 granted (Ok reply.Plain) = None
 granted (Err refusal) = None
 
@@ -184,6 +185,7 @@ IsOfBegin (Ok (reply.Listing lines)) = Unit {0}
 IsOfBegin (Ok (reply.Share line)) = Unit {0}
 IsOfBegin (Ok (reply.Shares lines)) = Unit {0}
 IsOfBegin (Ok (reply.Items lines)) = Unit {0}
+IsOfBegin (Ok (reply.Versions lines)) = Unit {0}
 IsOfBegin (Ok reply.Plain) = Unit {0}
 IsOfBegin (Ok reply.Closed) = ⊥
 IsOfBegin (Err refusal) = Unit {0}
@@ -290,6 +292,7 @@ IsOfBody (Ok (reply.Listing lines)) = ⊥
 IsOfBody (Ok (reply.Share line)) = ⊥
 IsOfBody (Ok (reply.Shares lines)) = ⊥
 IsOfBody (Ok (reply.Items lines)) = ⊥
+IsOfBody (Ok (reply.Versions lines)) = ⊥
 IsOfBody (Ok reply.Plain) = ⊥
 IsOfBody (Err refusal) = Unit {0}
 

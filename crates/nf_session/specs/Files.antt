@@ -53,6 +53,7 @@ IsResponding b (response.Listing lines) = held b ≡ None
 IsResponding b (response.Share line) = held b ≡ None
 IsResponding b (response.Shares lines) = held b ≡ None
 IsResponding b (response.Items lines) = held b ≡ None
+IsResponding b (response.Versions lines) = held b ≡ None
 IsResponding b response.Plain = held b ≡ None
 
 -- what is written of a file once some of its pieces were given

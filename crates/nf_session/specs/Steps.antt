@@ -155,6 +155,7 @@ is_granted (begun.Asked (Ok (reply.Listing lines))) = false
 is_granted (begun.Asked (Ok (reply.Share line))) = false
 is_granted (begun.Asked (Ok (reply.Shares lines))) = false
 is_granted (begun.Asked (Ok (reply.Items lines))) = false
+is_granted (begun.Asked (Ok (reply.Versions lines))) = false
 is_granted (begun.Asked (Ok reply.Plain)) = false
 is_granted (begun.Asked (Err refusal)) = false
 
@@ -224,6 +225,7 @@ IsResponse (Ok (reply.Listing lines)) v = v ≡ response.Listing lines
 IsResponse (Ok (reply.Share line)) v = v ≡ response.Share line
 IsResponse (Ok (reply.Shares lines)) v = v ≡ response.Shares lines
 IsResponse (Ok (reply.Items lines)) v = v ≡ response.Items lines
+IsResponse (Ok (reply.Versions lines)) v = v ≡ response.Versions lines
 IsResponse (Ok reply.Plain) v = v ≡ response.Plain
 IsResponse (Err refusal) v = v ≡ response.Denied refusal
 

@@ -5,7 +5,7 @@ use Rattle.nf_http.specs.declared.wire.WireFault.{WireFault}
 use Rattle.nf_outside.specs.Lent.{Taken}
 use Rattle.nf_words.specs.declared.answer.Denial.{Denial}
 use Rattle.nf_words.specs.declared.answer.Denial.TheVariants as denial
-use Rattle.nf_dav.specs.Reply.{refusal_reply, listing_reply, made_reply, done_reply, items_reply, share_reply, shares_reply, plain_reply}
+use Rattle.nf_dav.specs.Reply.{refusal_reply, listing_reply, made_reply, done_reply, items_reply, share_reply, shares_reply, plain_reply, versions_reply}
 use Rattle.nf_dav.specs.declared.replies.Manner.{Manner}
 use Rattle.nf_routes.specs.Targets.{is_ocs}
 use Rattle.nf_session.specs.Book.{denial_of_piece}
@@ -41,6 +41,7 @@ end_of closes (response.Listing lines) = end_of_close closes
 end_of closes (response.Share line) = end_of_close closes
 end_of closes (response.Shares lines) = end_of_close closes
 end_of closes (response.Items lines) = end_of_close closes
+end_of closes (response.Versions lines) = end_of_close closes
 end_of closes response.Plain = end_of_close closes
 
 -- ---- the response
@@ -75,6 +76,7 @@ Writes manner (response.Listing lines) a b result = Says a b (listing_reply mann
 Writes manner (response.Share line) a b result = Says a b (share_reply manner.close line) result
 Writes manner (response.Shares lines) a b result = Says a b (shares_reply manner.close lines) result
 Writes manner (response.Items lines) a b result = Says a b (items_reply manner.close lines) result
+Writes manner (response.Versions lines) a b result = Says a b (versions_reply manner.close lines) result
 Writes manner response.Plain a b result = Says a b (plain_reply manner.close) result
 
 -- the response is written, and how it ends the session; or what kept it from being written
@@ -93,6 +95,7 @@ stays_granted (response.Listing lines) = false
 stays_granted (response.Share line) = false
 stays_granted (response.Shares lines) = false
 stays_granted (response.Items lines) = false
+stays_granted (response.Versions lines) = false
 stays_granted response.Plain = false
 
 -- a file that was written whole is sent
@@ -107,6 +110,7 @@ how_of (response.Listing lines) result = ending.Gone
 how_of (response.Share line) result = ending.Gone
 how_of (response.Shares lines) result = ending.Gone
 how_of (response.Items lines) result = ending.Gone
+how_of (response.Versions lines) result = ending.Gone
 how_of response.Plain result = ending.Gone
 
 -- how the message ends the session: by what kept its response from being written, or as the response says

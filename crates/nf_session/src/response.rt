@@ -8,7 +8,7 @@ ghost use Rattle.nf_session.specs.Turn.{how_of, stays_granted as stays};
 use crate::backend::{Ending, PieceFault};
 use crate::ended::Ended;
 use nf_base::Content;
-use nf_words::{Answer, Denial, Items, Listing, Reply, ShareLine, ShareLines};
+use nf_words::{Answer, Denial, Items, Listing, Reply, ShareLine, ShareLines, Versions};
 
 /// What a message is answered.
 #[derive(Drop)]
@@ -26,6 +26,8 @@ pub enum Response {
     Shares(ShareLines),
     /// What is in the trash is told.
     Items(Items),
+    /// Which versions a file has is told.
+    Versions(Versions),
     /// What was asked of a share was done.
     Plain,
     /// The first piece of the file isn't given.

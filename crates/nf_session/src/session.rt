@@ -23,7 +23,7 @@ use crate::response::Response;
 use nf_base::{Content, MAX_MESSAGES, Moment};
 use nf_dav::{
     Manner, Unasked, continue_answer, done, file_head, items, listing, made, plain, refusal,
-    request, share, shares,
+    request, share, shares, versions,
 };
 use nf_http::{Buffer, Message, WireFault, next_message, read_body, send, skip_body};
 use nf_outside::{Clock, Dice, Sink, Source};
@@ -247,6 +247,7 @@ where
             Begun::Asked(Ok(Reply::Share(line))) => Response::Share(line),
             Begun::Asked(Ok(Reply::Shares(lines))) => Response::Shares(lines),
             Begun::Asked(Ok(Reply::Items(lines))) => Response::Items(lines),
+            Begun::Asked(Ok(Reply::Versions(lines))) => Response::Versions(lines),
             Begun::Asked(Ok(Reply::Plain)) => Response::Plain,
             Begun::Asked(Ok(Reply::Granted(Goal::Store { .. }) | Reply::Closed)) => unreachable!(),
             Begun::Asked(Err(denial)) | Begun::Unasked(denial) => Response::Denied(denial),
@@ -322,6 +323,7 @@ where
             Response::Share(line) => self.say(share(self.alloc, line, manner.close)),
             Response::Shares(lines) => self.say(shares(self.alloc, lines, manner.close)),
             Response::Items(lines) => self.say(items(self.alloc, lines, manner.close)),
+            Response::Versions(lines) => self.say(versions(self.alloc, lines, manner.close)),
             Response::Plain => self.say(plain(self.alloc, manner.close)),
             Response::Lost(fault) => self.say(refusal(self.alloc, &fault.denial(), manner)),
             Response::File { content, first } => self.send_file(content, first, manner.close),

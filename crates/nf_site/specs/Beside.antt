@@ -15,6 +15,7 @@ use Rattle.nf_words.specs.declared.answer.Report.TheVariants as report
 abbrev pub beside_report : Report → Reply
 beside_report (report.Shares lines) = Closed
 beside_report (report.Items lines) = Closed
+beside_report (report.Versions lines) = Closed
 beside_report other = reported other
 
 abbrev pub beside : Allowed → Reply

@@ -4,7 +4,7 @@ ghost use Rattle.std.specs.Prelude.{◌≡◌, ◌++◌, OnOk};
 ghost use Rattle.std.specs.List.{flat_map};
 ghost use Rattle.nf_laws.specs.Named.{blobs_of, goal_blobs};
 
-use nf_base::{BlobId, NodeRow, Piece};
+use nf_base::{BlobId, NodeRow, Piece, VersionRow};
 use nf_words::{Goal, Ticket};
 use std::alloc::AllocError;
 
@@ -13,6 +13,19 @@ pub(crate) fn name_nodes(blobs: &mut Vec<BlobId>, nodes: &[NodeRow]) -> Result<(
     ensures { OnOk result (blobs.new.items ≡ blobs.old.items ++ flat_map (λ row. blobs_of row.content) nodes.now) }
 {
     for row in nodes {
+        name_pieces(blobs, row.content.pieces())?;
+    }
+    Ok(())
+}
+
+/// Those of versions.
+pub(crate) fn name_versions(
+    blobs: &mut Vec<BlobId>,
+    versions: &[VersionRow],
+) -> Result<(), AllocError>
+    ensures { OnOk result (blobs.new.items ≡ blobs.old.items ++ flat_map (λ row. blobs_of row.content) versions.now) }
+{
+    for row in versions {
         name_pieces(blobs, row.content.pieces())?;
     }
     Ok(())

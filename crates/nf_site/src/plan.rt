@@ -161,6 +161,7 @@ fn handed_over(report: Report, reply: Reply) -> Reply
     match report {
         Report::Shares(lines) => Reply::Shares(lines),
         Report::Items(lines) => Reply::Items(lines),
+        Report::Versions(lines) => Reply::Versions(lines),
         Report::Made | Report::Done | Report::Share(_) | Report::Plain => reply,
     }
 }
@@ -197,7 +198,7 @@ fn beside_report(report: &Report) -> Result<Reply, AllocError>
         Report::Made => Ok(Reply::Made),
         Report::Done => Ok(Reply::Done),
         Report::Share(line) => Ok(Reply::Share(copy_share(line)?)),
-        Report::Shares(_) | Report::Items(_) => Ok(Reply::Closed),
+        Report::Shares(_) | Report::Items(_) | Report::Versions(_) => Ok(Reply::Closed),
         Report::Plain => Ok(Reply::Plain),
     }
 }

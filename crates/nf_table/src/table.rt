@@ -1,7 +1,7 @@
 //! A table of rows.
 
-ghost use Rattle.std.specs.Prelude.{◌≡◌, ◌+◌, ◌≤◌, ◌<◌, [], None, bytes_eq, filter, length, map, nat_lt, reverse, IsOk, OnOk, option_copied};
-ghost use Rattle.std.specs.Fn.{FnOnceReturnsAtMut};
+ghost use Rattle.std.specs.Prelude.{◌≡◌, ◌+◌, ◌≤◌, ◌<◌, [], Bool, None, bytes_eq, filter, length, map, nat_lt, reverse, IsOk, OnOk, option_copied};
+ghost use Rattle.std.specs.Fn.{FnOnceReturnsAtMut, FnReturnsAt};
 ghost use Rattle.std.specs.List.{list_any};
 ghost use Rattle.nf_defs.specs.Prelude.{dropped, IsRising, put};
 ghost use Rattle.nf_table.specs.Rows.{AreSorted, Changes, all_dropped, begins, row_at};
@@ -163,6 +163,17 @@ impl<R: Keyed + Drop> Table<R> {
         ensures room { self.new.room ≡ self.old.room }
     {
         self.rows.retain(|row| !has_key(keys, row));
+    }
+
+    /// Keeps the rows that pass a test, in one pass over the rows. It takes no memory.
+    pub fn keep<F: Fn(&R) -> bool>(&mut self, test: F)
+        requires calls { F.IsAlwaysCallable test }
+        ensures rows { (passes : R → Bool) → ((row : R) (told : Bool) → FnReturnsAt F.Fn test row told → told ≡ passes row)
+            → self.new.rows ≡ filter passes self.old.rows }
+        ensures room { self.new.room ≡ self.old.room }
+        ensures count { length self.new.rows ≤ length self.old.rows }
+    {
+        self.rows.retain(|row| test(row));
     }
 
     /// Gives a key the row that it is to have, and the swap the row that it had. It takes no memory.

@@ -163,6 +163,7 @@ nothing_known t now = record {
   rows = no_more (raised t now [] None);
   lean = none_lean t;
   stored = λ none. refl;
+  next = tt;
   next_user = omega arith;
   next_group = omega arith;
   next_node = omega arith;
@@ -184,6 +185,7 @@ other_known t now row is given =
           (share_differs t row (λ same. is.other (same_Some row is.old (sym same ∙ is.there))))
           (λ i j d before within. absurd (omega (arith, before, within)), All-nil (λ (m : MountRow). mount_row t.mounts m.user m.node ≢ Some m));
       stored = λ none. absurd (cc);
+      next = tt;
       next_user = omega arith;
       next_group = omega arith;
       next_node = omega arith;
@@ -530,6 +532,7 @@ module _ (call : Call) (user : UserRow) (sound : AreSound call.state.tables) (is
               (mountable (made up (Put (rows.Share row))) refl refl) (mounts_fit t.mounts mounts limits.2));
           lean = lean_with t (Put (rows.Share row)) mounts (λ m same. absurd (cc)) (share_differs t row fresh) (ensured_lean t pairs);
           stored = λ none. absurd (cc);
+          next = tt;
           next_user = rw meta (omega arith);
           next_group = rw meta (omega arith);
           next_node = rw meta (omega arith);

@@ -1,5 +1,5 @@
 -- What is known of a Begin that no rule refuses.
-use Rattle.std.proofs.Common.{◌≡◌, ℕ, ◌+◌, ◌<◌, ◌≤◌, ◌==◌, ◌||◌, ◌&&◌, not, Bool, true, false, List, [], ◌∷◌, ◌++◌, Option, option_map, Ok, if◌then◌else◌, refl, sym, ap, subst, ◌∙◌, arith}
+use Rattle.std.proofs.Common.{◌≡◌, ℕ, ◌+◌, ◌<◌, ◌≤◌, ◌==◌, ◌||◌, ◌&&◌, not, inl, Bool, true, false, List, [], ◌∷◌, ◌++◌, map, Option, option_map, Ok, if◌then◌else◌, refl, sym, ap, subst, ◌∙◌, arith}
 use Rattle.std.specs.Prelude.{None, Some, is_some}
 use Rattle.std.specs.List.{All}
 use Rattle.std.specs.Option.{IfSome, option_map_or, option_or}
@@ -23,7 +23,9 @@ use Rattle.nf_defs.specs.declared.Seeker.{Seeker}
 use Rattle.nf_defs.specs.declared.Seeker.TheVariants.{User}
 use Rattle.nf_words.proofs.Fits.{new_known, within}
 use Rattle.nf_words.proofs.Found.{found_has, found_passes}
-use Rattle.nf_words.proofs.Known.{IsItem, Known, KnownDeeds, KnownLeaving}
+use Rattle.nf_words.proofs.Known.{alone, IsItem, Known, KnownDeeds, KnownLeaving}
+use Rattle.nf_words.proofs.Forgetting.{AreTwo, IsVersion, no_pairs}
+use Rattle.nf_words.proofs.Versioned.{versions_known}
 use Rattle.nf_words.proofs.Known.KnownDeeds.{by_going, by_leaving}
 use Rattle.nf_words.proofs.Mounting.{IsFreeName, left_known, renamed_known}
 use Rattle.nf_words.proofs.Passing.{acts_pass, call_passes, no_fault, no_limit, Passes, PlacePasses, place_passes, no_rule}
@@ -36,7 +38,7 @@ use Rattle.nf_words.specs.Calls.{link_by}
 use Rattle.nf_words.specs.declared.request.Caller.{Caller}
 use Rattle.nf_words.specs.declared.request.Caller.TheVariants.{Link}
 use Rattle.nf_words.specs.History.{IsShort}
-use Rattle.nf_words.specs.Prelude.{access_of, AreSound, asked_of, asked_of_trash, asker_of, beside, by_of, Call, call_decision, caller_row, deleted, discard, exists_rule, fault_by, folder_seen, found, given, is_about_files, is_by_link, is_free_in, IsLinkTo, IsNodeSound, is_off_mount, is_owner, is_root_at, IsSound, is_taken, is_there, is_within, last_name, limit_at, limit_by, limited, limit_rule, linked_of, link_of, listing_of, made_folder, may_by, MayWant, mount_left, mount_of, mount_renamed, moved, Need, needs, needs_between, needs_in, node_at, node_found, nothing_done, own_item, people_done, people_limit, places_by, requoted, room_rule, root_of, row_at, row_named, seeker_of, served, sharing_rule, stored, taken, target_rule, transfer_between, transfer_of, trash_done, unfit, unfit_between, unreached, user_of, way_by, way_of, ways_for}
+use Rattle.nf_words.specs.Prelude.{access_of, AreSound, asked_of, asked_of_trash, asker_of, beside, by_of, Call, call_decision, caller_row, deleted, discard, exists_rule, fault_by, folder_seen, found, given, is_about_files, is_by_link, is_free_in, IsLinkTo, IsNodeSound, is_off_mount, is_owner, is_root_at, IsSound, is_taken, is_there, is_within, items_of, last_name, limit_at, limit_by, limited, limit_rule, linked_of, link_of, listing_of, made_folder, may_by, MayWant, mount_left, mount_of, mount_renamed, moved, named_rule, Need, needs, needs_between, needs_in, node_at, node_found, nothing_done, own_item, people_done, people_limit, places_by, purges, requoted, room_rule, root_of, row_at, row_named, seeker_of, served, sharing_rule, stored, taken, target_rule, transfer_between, transfer_of, trash_done, unfit, unfit_between, unnamed_by, unreached, user_of, version_lost, version_rule, way_by, way_of, ways_for}
 use Rattle.nf_words.specs.Needed.{target_needs}
 use Rattle.nf_words.specs.Sound.{MayStoreBy}
 use Rattle.nf_words.specs.declared.answer.Allowed.{Allowed}
@@ -48,7 +50,7 @@ use Rattle.nf_words.specs.declared.request.Making.TheVariants as making
 use Rattle.nf_words.specs.declared.request.Places.{Places}
 use Rattle.nf_words.specs.declared.request.Spot.{Spot}
 use Rattle.nf_words.specs.declared.request.Wanted.{Wanted}
-use Rattle.nf_words.specs.declared.request.Wanted.TheVariants.{Get, Put, Mkcol, Delete, Move, Copy, Share, People, Trash}
+use Rattle.nf_words.specs.declared.request.Wanted.TheVariants.{Get, Put, Mkcol, Delete, Move, Copy, Share, People, Trash, Version}
 use Rattle.nf_words.specs.declared.request.ShareAsk.{ShareAsk}
 use Rattle.nf_words.specs.declared.request.ShareAsk.TheVariants as ask
 use Rattle.nf_words.proofs.Provided.{not_taken, people_known, row_there}
@@ -86,7 +88,7 @@ module _ (call : Call) (spot : Spot) (sound : AreSound call.state.tables) (is : 
       here true folds = tt
       here false folds = record {
         no_folder = folds;
-        of_node = refl;
+        of_node = inl refl;
         there = way_there call spot sound is node reached leads;
         present = node_present call spot sound is node reached leads;
       }
@@ -206,9 +208,9 @@ module _ (call : Call) (spot : Spot) (sound : AreSound call.state.tables) (is : 
   folder_known (At node) leads some = tt
   folder_known (Free folder) leads some =
       let slot = slot_known call spot sound is folder reached leads in
-      new_known t call.now folder (last_name spot) Folder [] None 0 sound slot.folds (slot_present call spot sound is folder reached leads) slot.free
+      new_known t call.now folder (last_name spot) Folder [] None 0 [] sound slot.folds (slot_present call spot sound is folder reached leads) slot.free
       slot.unmounted
-      (within t 1 (depth t.nodes folder + 1) 0 0 some) (omega arith) refl (λ _. refl)
+      (within t 1 (depth t.nodes folder + 1) 0 0 0 some) (omega arith) refl (λ _. refl) (All-nil (IsVersion t)) (no_pairs AreTwo)
   folder_known (Missing found) leads some = tt
 
   -- what is deleted is in a folder: it is no root, and present
@@ -220,7 +222,7 @@ module _ (call : Call) (spot : Spot) (sound : AreSound call.state.tables) (is : 
 
   deleted_known : (place : Found) → found call spot ≡ place → is_there (λ node. node == root_of call || is_root t.nodes node) (Some place) ≡ false
       → Known t call.now (deleted t call.now (node_at (Some place)))
-  deleted_known place leads fits = here (row_at t (node_at (Some place))) refl
+  deleted_known place leads fits = alone t call.now _ (here (row_at t (node_at (Some place))) refl)
     where
       here : (o : Option NodeRow) → row_at t (node_at (Some place)) ≡ o
           → KnownDeeds t call.now (option_map_or (λ row. discard t call.now row ∷ []) o [] ++ option_map_or (beside t call.now) o [])
@@ -284,6 +286,8 @@ pub record WantedPasses (call : Call) (wanted : Wanted) : Type 0 where
   pub may : All (λ (need : Need). may_by (access_of call.state) call.state.tables.nodes (seeker_of call) call.now need.act need.node need.mount ≡ true)
       (needs_between call.state.tables.nodes (root_of call) (asked_of wanted) (option_map (way_of call) (asked_of wanted).source)
       (option_map (way_of call) (asked_of wanted).target))
+  pub named : unnamed_by call wanted ≡ None
+  pub version : version_lost call wanted ≡ None
   pub free : taken call.state.tables.nodes (places_at call wanted) (asked_of wanted).makes ≡ None
   pub fits : unfit call.state.tables.nodes (root_of call) (asked_of wanted) (ways_for call (asked_of wanted)) ≡ None
   pub few : limited call.state.tables (places_at call wanted) (asked_of wanted).makes ≡ None
@@ -361,7 +365,8 @@ module _ (call : Call) (sound : AreSound call.state.tables) (is : IsAsking call)
   trash_known : (asked : TrashAsk) → limited all (places_at call (Trash asked)) (asked_of_trash asked).makes ≡ None → IsKnown (trash_done call asked)
   trash_known (trash.List user) few = nothing_known all call.now
   trash_known (trash.Drop user item) few = dropped_known all sound call.now (asker_of call) item (own_item call item) refl
-  trash_known (trash.Empty user) few = emptied_known all sound call.now (asker_of call)
+  trash_known (trash.Empty user) few =
+      alone all call.now (purges (map (λ item. item.node) (items_of all (asker_of call)))) (emptied_known all sound call.now (asker_of call))
   trash_known (trash.Restore user item) few = restored_known all sound call.now (asker_of call) item (own_item call item) refl few
 
   pub wanted_known : (wanted : Wanted) → WantedPasses call wanted → IsKnown (given (access_of call.state) call (places_at call wanted) wanted)
@@ -380,14 +385,17 @@ module _ (call : Call) (sound : AreSound call.state.tables) (is : IsAsking call)
       asks_known call asker.0 sound asker.1 (places_at call (Share asked)) asked (of_place asked p.place) p.sharing p.room
   wanted_known (People asked) p = persons_known asked (not_taken _ rule.Taken p.sharing) p.room
   wanted_known (Trash asked) p = trash_known asked p.few
+  wanted_known (Version asked) p = versions_known call sound (places_at call (Version asked)) asked p.named p.version p.few
 
 pub wanted_passes : (call : Call) → MayWant call.request → Passes (access_of call.state) call → WantedPasses call call.request.wanted
-unfolding exists_rule target_rule limit_rule sharing_rule room_rule
+unfolding named_rule version_rule exists_rule target_rule limit_rule sharing_rule room_rule
 wanted_passes call may p = record {
   files = only_files call p.token;
   short = may.short;
   place = place_passes (access_of call.state) call p.place;
   may = acts_pass (access_of call.state) call p.acts;
+  named = p.named;
+  version = p.version;
   free = p.exists;
   fits = no_fault _ p.target;
   few = no_limit _ p.limit;

@@ -1,21 +1,19 @@
 -- The content of a body.
-use Rattle.std.proofs.Common.{◌≡◌, ℕ, ◌+◌, ◌≤◌, ◌==◌, ◌&&◌, bytes_eq, sym, Bool, true, false, List, [], ◌∷◌, length, ◌∙◌, Option, if◌then◌else◌, refl, ap, subst, arith}
+use Rattle.std.proofs.Common.{◌≡◌, ℕ, ◌+◌, ◌≤◌, ◌==◌, bytes_eq, sym, Bool, true, false, List, [], ◌∷◌, length, ◌∙◌, Option, if◌then◌else◌, refl, ap, subst, arith}
 use Rattle.std.specs.Prelude.{nat_eq, None, Some}
 use Rattle.std.specs.Bool.{Decides}
 use Rattle.std.specs.List.{All}
-use Rattle.std.proofs.lemmas.Bool.{and_from, and_parts, cond_both, eq-eqb, eqb-true}
+use Rattle.std.proofs.lemmas.Bool.{and_from, and_parts, eq-eqb, eqb-true}
 use Rattle.std.proofs.lemmas.Bool.Decides.{nat_tests}
 use Rattle.std.proofs.lemmas.List.Elements.{All-cons, All-head, All-nil}
 use Rattle.std.proofs.lemmas.Slice.Eq.{bytes_eq-Decides, slice_eq-Decides}
 use Rattle.nf_base.specs.Content.{content_eq, piece_eq}
-use Rattle.nf_base.specs.declared.changes.Change.TheVariants.{Put}
 use Rattle.nf_base.specs.declared.content.Piece.{Piece}
 use Rattle.nf_base.specs.declared.limits.TheConstants.{MAX_BODY}
 use Rattle.nf_base.specs.declared.rows.MetaRow.{MetaRow}
 use Rattle.nf_base.specs.declared.rows.NodeRow.{NodeRow}
-use Rattle.nf_base.specs.declared.rows.Row.TheVariants.{Node}
-use Rattle.nf_defs.specs.Prelude.{filled, Tables}
-use Rattle.nf_words.specs.Prelude.{AreCounters, blob_after, blob_for, content_in, IsPieceSound, pieces_of, refilled}
+use Rattle.nf_defs.specs.Prelude.{Tables}
+use Rattle.nf_words.specs.Prelude.{AreCounters, blob_after, blob_for, content_in, IsPieceSound, is_same, pieces_of}
 
 -- none, or one piece in the next blob
 abbrev pub IsOfBody : MetaRow → Option ℕ → List Piece → Type 0
@@ -24,6 +22,18 @@ IsOfBody meta (Some blob) content =
     (blob ≡ meta.next_blob)
     × ((size : ℕ) × (digest : List ℕ) × (1 ≤ size) × (size ≤ MAX_BODY)
     × (content ≡ record { blob = blob; size = size; digest = digest } ∷ []))
+
+-- a blob that is stored has the next number
+abbrev pub IsNext : ℕ → Option ℕ → Type 0
+IsNext next None = Unit {0}
+IsNext next (Some id) = id ≡ next
+
+pub body_next : (meta : MetaRow) (blob : Option ℕ) (content : List Piece) → IsOfBody meta blob content → IsNext meta.next_blob blob
+body_next meta None content of_body = tt
+body_next meta (Some id) content of_body = of_body.0
+
+pub none_next : (next : ℕ) (blob : Option ℕ) → blob ≡ None → IsNext next blob
+none_next next blob none = subst (IsNext next) (sym none) tt
 
 -- it has so many pieces, and its blob is counted once
 pub record IsBody (meta : MetaRow) (size : ℕ) (blob : Option ℕ) (content : List Piece) : Type 0 where
@@ -73,15 +83,11 @@ content_decides a b = slice_eq-Decides piece_decides a b (content_eq a b) refl
 
 -- no row names a blob that wasn't given, so a new blob makes another content
 pub refills_none : (t : Tables) (row : NodeRow) (now : ℕ) (content : List Piece) (blob : Option ℕ) → All (IsPieceSound t) row.content
-    → IsOfBody t.meta blob content → refilled (Some row) now content ≡ [] → blob ≡ None
-refills_none t row now content None sound of_body none = refl
-refills_none t row now content (Some id) sound of_body none =
+    → IsOfBody t.meta blob content → is_same now content row ≡ true → blob ≡ None
+refills_none t row now content None sound of_body same = refl
+refills_none t row now content (Some id) sound of_body same =
     let piece : Piece = record { blob = id; size = of_body.1.0; digest = of_body.1.1 } in
-    cond_both (content_eq row.content content && row.changed == now) [] (Put (Node (filled content now row)) ∷ [])
-    (λ changes. changes ≡ [] → Some id ≡ None)
-    (λ same none.
     let is : row.content ≡ piece ∷ [] =
     (content_decides row.content content).0 (and_parts (content_eq row.content content) (row.changed == now) same).0 ∙ of_body.1.4 in
-    let old = All-head (IsPieceSound t) piece [] (subst (All (IsPieceSound t)) is sound) in
-    absurd (omega (arith, old.given, of_body.0)))
-    (λ other none. absurd (cc)) none
+    let old = All-head (IsPieceSound t) piece [] (subst (λ (c : List Piece). All (IsPieceSound t) c) is sound) in
+    absurd (omega (arith, old.given, of_body.0))

@@ -1,21 +1,25 @@
 -- What is known of an End, and of every step, that no rule refuses.
-use Rattle.std.proofs.Common.{◌≡◌, ℕ, ◌+◌, ◌≤◌, ◌==◌, ◌&&◌, inl, not, sym, Bool, true, false, List, Result, Ok, Option, refl, subst, arith, flat_map}
+use Rattle.std.proofs.Common.{◌≡◌, ℕ, ◌+◌, ◌≤◌, ◌==◌, ◌&&◌, inl, not, sym, Bool, true, false, List, [], length, max, ap, ◌∙◌, Result, Ok, Option, refl, subst, arith, flat_map}
 use Rattle.std.specs.Prelude.{None, Some, is_some, option_map, if◌then◌else◌}
 use Rattle.std.specs.Option.{IfSome, option_map_or}
-use Rattle.std.proofs.lemmas.Bool.{not-true}
+use Rattle.std.proofs.lemmas.Bool.{eqb-true, not-true}
 use Rattle.nf_access.specs.Mounts.{mount_at}
 use Rattle.nf_base.specs.declared.limits.TheConstants.{MAX_BODY}
 use Rattle.nf_base.specs.declared.rows.NodeKind.TheVariants.{File}
 use Rattle.nf_base.specs.declared.rows.NodeRow.{NodeRow}
 use Rattle.nf_defs.specs.Prelude.{Access, depth, is_folder_kind, is_root, node_row, owner_of, Tables}
 use Rattle.nf_words.proofs.Begins.{call_known}
-use Rattle.nf_words.proofs.Bodies.{body_known}
-use Rattle.nf_words.proofs.Fits.{Within, new_known, over_known, within}
-use Rattle.nf_words.proofs.Found.{found_has}
-use Rattle.nf_words.proofs.Known.{by_going, Known}
+use Rattle.nf_words.proofs.Asks.{nothing_known}
+use Rattle.nf_words.proofs.Bodies.{body_known, IsOfBody, refills_none}
+use Rattle.nf_words.proofs.Forgetting.{unsettled_there, unsettled_two}
+use Rattle.nf_words.proofs.Refilling.{added_one, refills_known}
+use Rattle.nf_base.specs.declared.content.Piece.{Piece}
+use Rattle.nf_words.proofs.Fits.{KnownChange, Within, new_known, within}
+use Rattle.nf_words.proofs.Found.{found_has, found_passes}
+use Rattle.nf_words.proofs.Known.{alone, by_going, Known}
 use Rattle.nf_words.proofs.Passing.{end_passes, not_refused}
 use Rattle.nf_words.proofs.Sweeping.{swept_goes}
-use Rattle.nf_words.specs.Prelude.{access_of, AreSound, blob_for, call_of, content_in, decision_of, end_lost, end_refusal, ends_at, ends_goal, goal_at, gone_from, HoldsFor, IsGoalSound, IsHeld, IsSound, IsStorable, IsTicketSound, IsUnmounted, LeadsToRoot, limit_at, MayAsk, MayBring, MayEnd, node_of_key, owners_of, pieces_of, place_of, refilled, State, stored_at, swept, ticket_of}
+use Rattle.nf_words.specs.Prelude.{access_of, AreSound, blob_after, blob_for, call_of, charged, content_size, is_same, IsNodeSound, last_number, new_node, purges, refills, unsettled, versions_added, content_in, decision_of, end_lost, end_refusal, ends_at, ends_goal, goal_at, gone_from, HoldsFor, IsGoalSound, IsHeld, IsSound, IsStorable, IsTicketSound, IsUnmounted, LeadsToRoot, limit_at, MayAsk, MayBring, MayEnd, node_of_key, owners_of, pieces_of, place_of, refilled, State, stored_at, swept, ticket_of}
 use Rattle.nf_words.specs.declared.answer.Allowed.{Allowed}
 use Rattle.nf_words.specs.declared.answer.Allowed.TheVariants as allowed
 use Rattle.nf_words.specs.declared.answer.Denial.TheVariants as denial
@@ -25,7 +29,6 @@ use Rattle.nf_words.specs.declared.answer.Goal.TheVariants.{Serve, Store}
 use Rattle.nf_words.specs.declared.answer.Hold.{Hold}
 use Rattle.nf_words.specs.declared.answer.LockKey.{LockKey}
 use Rattle.nf_words.specs.declared.answer.LockKey.TheVariants.{Node, Slot}
-use Rattle.nf_words.specs.declared.answer.Report.TheVariants.{Done}
 use Rattle.nf_words.specs.declared.history.Event.{Event}
 use Rattle.nf_words.specs.declared.history.Event.TheVariants.{Begin, End, Sweep}
 use Rattle.nf_words.specs.declared.history.Outcome.{Outcome}
@@ -48,6 +51,28 @@ file_row : (o : Option NodeRow) → option_map_or (λ row. not (is_folder_kind r
 file_row None is = absurd (cc)
 file_row (Some row) is = (row, refl, not-true (is_folder_kind row.kind) is)
 
+over_known : (t : Tables) (now node : ℕ) (content : List Piece) (blob : Option ℕ) (row : NodeRow) → AreSound t → node_row t.nodes node ≡ Some row
+    → is_folder_kind row.kind ≡ false → LeadsToRoot t.nodes node → Within t 0 0 (versions_added t node None) (length content) (length content)
+    → blob_after t.meta.next_blob blob ≤ max t.meta.next_blob last_number → IsOfBody t.meta blob content
+    → KnownChange t now (refilled t now content row) blob
+over_known t now node content blob row sound there file present fits counts body = here (is_same now content row) refl
+  where
+    id : row.id ≡ node
+    id = eqb-true row.id node (found_passes (λ (one : NodeRow). one.id == node) t.nodes row there)
+
+    none : is_same now content row ≡ true → blob ≡ None
+    none same = refills_none t row now content blob is.pieces body same
+      where
+        is : IsNodeSound t row
+        is = subst (λ (o : Option NodeRow). IfSome o (IsNodeSound t)) there
+            (found_has (IsNodeSound t) (λ (one : NodeRow). one.id == node) t.nodes sound.nodes)
+
+    here : (b : Bool) → is_same now content row ≡ b → KnownChange t now (if b then [] else refills t now None content row) blob
+    here true e = subst (λ (o : Option ℕ). KnownChange t now [] o) (sym (none e)) (nothing_known t now)
+    here false e =
+        refills_known t now None content row sound (ap (node_row t.nodes) id ∙ there) file (subst (LeadsToRoot t.nodes) (sym id) present) tt blob
+        fits.pieces (λ becomes. omega (arith, fits.versions, added_one t node None row there becomes)) counts (inl body) none
+
 key_known : (t : Tables) (now : ℕ) (key : LockKey) (digest : List ℕ) (size : ℕ) → AreSound t → size ≤ MAX_BODY
     → IsHeld t key × LeadsToRoot t.nodes (node_of_key key) → end_lost t key ≡ None → limit_at t (pieces_of size) (place_of key) ≡ None
     → Known t now (stored_at t now key digest size)
@@ -56,17 +81,22 @@ key_known t now (Node node) digest size sound few held there some =
     let blob = blob_for t.meta.next_blob size in
     let content = content_in blob digest size in
     let file = file_row (node_row t.nodes node) held.0 in
-    subst (λ (o : Option NodeRow). Known t now (allowed.Change (refilled o now content) blob Done)) (sym file.1)
+    let added = versions_added t node None in
+    let fits = within t 0 0 added (pieces_of size) (pieces_of size) some in
+    subst (λ (o : Option NodeRow). KnownChange t now (option_map_or (refilled t now content) o []) blob) (sym file.1)
     (over_known t now node content blob file.0 sound file.1 file.2 held.1
-    (omega (arith, body.counted, (within t 0 0 (pieces_of size) (pieces_of size) some).next_blob))
-    (inl (omega (arith, body.pieces, (within t 0 0 (pieces_of size) (pieces_of size) some).pieces))) (inl body.of_body))
+    (subst (λ (n : ℕ). Within t 0 0 added n n) (sym body.pieces) fits) (omega (arith, body.counted, fits.next_blob)) body.of_body)
 key_known t now (Slot folder name) digest size sound few held there some =
     let body = body_known t.meta digest size few in
     let blob = blob_for t.meta.next_blob size in
-    new_known t now folder name File (content_in blob digest size) blob (pieces_of size) sound held.0.0 held.1 held.0.1 (name_unmounted t folder name there)
-    (subst (λ (n : ℕ). Within t 1 (depth t.nodes folder + 1) n (pieces_of size)) (sym body.pieces)
-    (within t 1 (depth t.nodes folder + 1) (pieces_of size) (pieces_of size) some))
-    (omega (arith, body.counted)) body.of_body (λ e. absurd (cc))
+    let content = content_in blob digest size in
+    let row = new_node t now folder name File content in
+    let to = charged t row.owner 0 (content_size content) in
+    new_known t now folder name File content blob (pieces_of size) (unsettled t to []) sound held.0.0 held.1 held.0.1
+    (name_unmounted t folder name there)
+    (subst (λ (n : ℕ). Within t 1 (depth t.nodes folder + 1) 0 n (pieces_of size)) (sym body.pieces)
+    (within t 1 (depth t.nodes folder + 1) 0 (pieces_of size) (pieces_of size) some))
+    (omega (arith, body.counted)) body.of_body (λ e. absurd (cc)) (unsettled_there t to []) (unsettled_two t to [] sound.others.versions_rise)
 
 closes : (t : Tables) (now : ℕ) (act : Allowed) → ◌≡◌ {A = Result Allowed Denial} (Ok allowed.Close) (Ok act) → Known t now act
 closes t now act is = let e : allowed.Close ≡ act = cc in subst (λ (a : Allowed). Known t now a) e tt
@@ -120,4 +150,5 @@ known_change s seat now (End outcome) act sound asked is =
     end_known (access_of s) s.tables now (goal_at s seat) outcome act sound.rows (goal_sound s seat sound) (goal_held s seat sound) asked is
 known_change s seat now Sweep act sound asked is =
     let same : swept s.tables now ≡ act = cc in
-    subst (Known s.tables now) same (by_going (flat_map (gone_from s.tables now) (owners_of s.tables.items)) (swept_goes s.tables sound.rows now))
+    let gone = flat_map (gone_from s.tables now) (owners_of s.tables.items) in
+    subst (Known s.tables now) same (alone s.tables now (purges gone) (by_going gone (swept_goes s.tables sound.rows now)))

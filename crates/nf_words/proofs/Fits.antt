@@ -1,53 +1,63 @@
 -- What is known of a new node, and of another content of a file, where no limit is passed.
-use Rattle.std.proofs.Common.{◌≡◌, ◌≢◌, ◌⊎◌, ℕ, ◌+◌, ◌<◌, ◌≤◌, ◌==◌, ◌||◌, ◌&&◌, inl, inr, sym, Bool, true, false, List, [], ◌∷◌, length, max, ◌∙◌, Option, if◌then◌else◌, refl, ap, subst, arith, le_refl}
+use Rattle.std.proofs.Common.{◌≡◌, ◌≢◌, ◌⊎◌, ℕ, ◌+◌, ◌<◌, ◌≤◌, ◌==◌, ◌||◌, inl, sym, Bool, true, false, List, [], ◌∷◌, length, map, max, ◌∙◌, Option, if◌then◌else◌, refl, ap, subst, arith, le_refl}
 use Rattle.std.specs.Prelude.{None, Some}
-use Rattle.std.specs.List.{All}
+use Rattle.std.specs.List.{All, AllPairs}
 use Rattle.std.specs.Option.{IfSome}
-use Rattle.std.proofs.lemmas.Bool.{and_from, both_ways, cases_Bool, eq-eqb, eqb-true, ltb-false}
-use Rattle.std.proofs.lemmas.List.Elements.{All-cons, All-nil, All-weaker}
-use Rattle.std.proofs.lemmas.Option.{same_Some}
-use Rattle.nf_base.specs.Content.{content_eq}
+use Rattle.std.proofs.lemmas.Bool.{eq-eqb, eqb-true, ltb-false}
+use Rattle.std.proofs.lemmas.List.Elements.{All-cons, All-map, All-nil, All-weaker}
+use Rattle.std.proofs.lemmas.List.Kept.{AllPairs-cons}
 use Rattle.nf_base.specs.declared.changes.Change.{Change}
-use Rattle.nf_base.specs.declared.changes.Change.TheVariants.{Put}
+use Rattle.nf_base.specs.declared.changes.Change.TheVariants.{Drop, Put}
+use Rattle.nf_base.specs.declared.changes.RowKey.TheVariants as keys
 use Rattle.nf_base.specs.declared.content.Piece.{Piece}
-use Rattle.nf_base.specs.declared.limits.TheConstants.{MAX_DEPTH, MAX_NODES, MAX_STORED_PIECES}
+use Rattle.nf_base.specs.declared.limits.TheConstants.{MAX_DEPTH, MAX_NODES, MAX_STORED_PIECES, MAX_VERSIONS}
 use Rattle.nf_base.specs.declared.rows.NodeKind.{NodeKind}
 use Rattle.nf_base.specs.declared.rows.MountRow.{MountRow}
 use Rattle.nf_base.specs.declared.rows.NodeRow.{NodeRow}
 use Rattle.nf_base.specs.declared.rows.Row.TheVariants as rows
 use Rattle.nf_base.specs.declared.rows.ShareRow.{ShareRow}
+use Rattle.nf_base.specs.declared.rows.MetaRow.{MetaRow}
 use Rattle.nf_base.specs.declared.rows.UserRow.{UserRow}
-use Rattle.nf_defs.specs.Prelude.{child_of, depth, filled, is_folder, is_folder_kind, made, node_key, node_row, put, Tables}
-use Rattle.nf_words.proofs.Bodies.{IsOfBody, body_sound, content_decides, refills_none}
-use Rattle.nf_words.proofs.Found.{found_has, found_passes, put_is_found}
-use Rattle.nf_words.specs.Prelude.{AreSound, blob_after, counted, IsBorn, IsFilled, IsLean, IsMountSound, IsNewMount, IsNewShare, IsNewUser, IsNodeSound, IsOfPeople, IsOtherShare, IsPieceSound, IsRemounted, IsShareSound, IsUnmounted, last_number, LeadsToRoot, last_short, limit_passed, new_node, raised, refilled, stored_pieces}
+use Rattle.nf_base.specs.declared.rows.VersionRow.{VersionRow}
+use Rattle.nf_retention.specs.declared.versions.Version.{Version}
+use Rattle.nf_words.proofs.Forgetting.{AreTwo, drop_differs, IsVersion, pairs_map}
+use Rattle.nf_words.specs.Lean.{changed_key}
+use Rattle.nf_words.specs.Versions.{drop_version, version_for, version_row}
+use Rattle.nf_defs.specs.Prelude.{child_of, depth, is_folder, is_folder_kind, made, node_key, node_row, put, Tables}
+use Rattle.nf_words.proofs.Bodies.{IsOfBody, body_sound, IsNext, body_next}
+use Rattle.nf_words.proofs.Found.{found_has, put_is_found}
+use Rattle.nf_words.specs.Prelude.{AreSound, blob_after, counted, IsBorn, IsFilled, IsLean, IsMountSound, IsNewMount, IsNewShare, IsNewUser, IsNewVersion, IsNodeSound, IsOfPeople, IsOtherShare, IsRemounted, IsShareSound, IsUnmounted, last_number, LeadsToRoot, last_short, limit_passed, new_node, raised, stored_pieces}
 use Rattle.nf_words.specs.declared.answer.Limit.TheVariants as limit
 
 -- ---- limits
 
--- so many nodes and pieces more, and a node so deep, pass no limit
-pub record Within (t : Tables) (n d p b : ℕ) : Type 0 where
+-- so many nodes, versions and pieces more, and a node so deep, pass no limit
+pub record Within (t : Tables) (n d v p b : ℕ) : Type 0 where
   pub nodes : length t.nodes + n ≤ MAX_NODES
   pub next_node : t.meta.next_node + n ≤ last_number
   pub deep : d ≤ MAX_DEPTH
+  pub versions : length t.versions + v ≤ MAX_VERSIONS
   pub pieces : stored_pieces t + p ≤ MAX_STORED_PIECES
   pub next_blob : t.meta.next_blob + b ≤ last_number
 
-none_passed : (a b c d e : Bool)
-    → (if a || b then Some limit.Nodes else if c then Some limit.Depth else if d || e then Some limit.Pieces else None) ≡ None
-    → (a ≡ false) × (b ≡ false) × (c ≡ false) × (d ≡ false) × (e ≡ false)
-none_passed false false false false false none = (refl, refl, refl, refl, refl)
-none_passed a b c d e none = absurd (cc)
+none_passed : (a b c v d e : Bool)
+    → (if a || b then Some limit.Nodes else if c then Some limit.Depth else if v then Some limit.Versions
+    else if d || e then Some limit.Pieces else None) ≡ None
+    → (a ≡ false) × (b ≡ false) × (c ≡ false) × (v ≡ false) × (d ≡ false) × (e ≡ false)
+none_passed false false false false false false none = (refl, refl, refl, refl, refl, refl)
+none_passed a b c v d e none = absurd (cc)
 
-pub within : (t : Tables) (nodes deep pieces blobs : ℕ) → limit_passed t nodes deep pieces blobs ≡ None → Within t nodes deep pieces blobs
-within t nodes deep pieces blobs none =
-    let h = none_passed _ _ _ _ _ none in
+pub within : (t : Tables) (nodes deep versions pieces blobs : ℕ) → limit_passed t nodes deep versions pieces blobs ≡ None
+    → Within t nodes deep versions pieces blobs
+within t nodes deep versions pieces blobs none =
+    let h = none_passed _ _ _ _ _ _ none in
     record {
       nodes = ltb-false _ _ h.0;
       next_node = ltb-false _ _ h.1;
       deep = ltb-false _ _ h.2;
-      pieces = ltb-false _ _ h.3;
-      next_blob = ltb-false _ _ h.4;
+      versions = ltb-false _ _ h.3;
+      pieces = ltb-false _ _ h.4;
+      next_blob = ltb-false _ _ h.5;
     }
 
 -- ---- what is known of changes
@@ -58,11 +68,28 @@ pub record KnownBorn (first : Tables) (blob : Option ℕ) (t : Tables) (row : No
   pub fresh : first.meta.next_node ≤ row.id
   pub body : IsOfBody first.meta blob row.content
 
--- a file, with the content of a body or the one that it has
+-- the content of a version of a file
+abbrev pub IsOfVersion : Tables → ℕ → List Piece → Type 0
+IsOfVersion t node content = (version : VersionRow) × (at : ℕ) × (version_row t.versions node at ≡ Some version) × (content ≡ version.content)
+
+-- a file, with the content of a body or of a version of it
 pub record KnownFilled (first : Tables) (blob : Option ℕ) (t : Tables) (row : NodeRow) : Type 0 where
   pub filled : IsFilled t row
   pub given : row.id < first.meta.next_node
-  pub body : IsOfBody first.meta blob row.content ⊎ ((blob ≡ None) × (row.content ≡ filled.old.content))
+  pub body : IsOfBody first.meta blob row.content ⊎ ((blob ≡ None) × IsOfVersion first row.id row.content)
+
+-- a version, of what a file had before the step
+pub record KnownVersion (first t : Tables) (row : VersionRow) : Type 0 where
+  pub version : IsNewVersion t row
+  pub was : NodeRow
+  pub there : node_row first.nodes row.node ≡ Some was
+  pub of_was : row ≡ version_for was
+
+-- what becomes of versions
+abbrev pub IsTurned : Tables → Tables → Change → Type 0
+IsTurned first t (Put (rows.Version row)) = KnownVersion first t row
+IsTurned first t (Drop (keys.Version node at)) = Unit {0}
+IsTurned first t other = ⊥
 
 -- what is known of a change in the tables that it meets, by the kind of its row; a kind that isn't built yet isn't changed
 abbrev pub KnownRow : Tables → Option ℕ → Tables → Change → Type 0
@@ -70,6 +97,8 @@ KnownRow first blob t (Put (rows.Node row)) = KnownBorn first blob t row ⊎ Kno
 KnownRow first blob t (Put (rows.Mount row)) = (blob ≡ None) × (IsRemounted t row ⊎ IsNewMount t row)
 KnownRow first blob t (Put (rows.Share row)) =
     (blob ≡ None) × ((IsNewShare t row × (first.meta.next_share ≤ row.id)) ⊎ (IsOtherShare t row × (row.id < first.meta.next_share)))
+KnownRow first blob t (Put (rows.Version row)) = IsTurned first t (Put (rows.Version row))
+KnownRow first blob t (Drop (keys.Version node at)) = IsTurned first t (Drop (keys.Version node at))
 KnownRow first blob t other = (blob ≡ None) × IsOfPeople t other
 
 -- a new user and its root, which has a number that wasn't given before
@@ -93,6 +122,7 @@ pub record KnownChange (t : Tables) (now : ℕ) (changes : List Change) (blob : 
   pub rows : KnownRows t blob (raised t now changes blob) changes
   pub lean : IsLean t changes
   pub stored : changes ≡ [] → blob ≡ None
+  pub next : IsNext t.meta.next_blob blob
   pub next_user : (counted t.meta changes).next_user ≤ max t.meta.next_user last_short
   pub next_group : (counted t.meta changes).next_group ≤ max t.meta.next_group last_short
   pub next_node : (counted t.meta changes).next_node ≤ max t.meta.next_node last_number
@@ -108,15 +138,46 @@ put_found row old =
     (λ x same. ap (λ (n : ℕ). n ∷ []) (eqb-true x.id row.id same))
 
 -- so one whose row isn't there makes other tables
-put_differs : (t : Tables) (row : NodeRow) → node_row t.nodes row.id ≢ Some row → made t (Put (rows.Node row)) ≢ t
+pub put_differs : (t : Tables) (row : NodeRow) → node_row t.nodes row.id ≢ Some row → made t (Put (rows.Node row)) ≢ t
 put_differs t row other = λ same. other (sym (ap (λ (u : Tables). node_row u.nodes row.id) same) ∙ put_found row t.nodes)
 
-one_lean : (t : Tables) (row : NodeRow) → node_row t.nodes row.id ≢ Some row → IsLean t (Put (rows.Node row) ∷ [])
-one_lean t row other = record {
-  once = λ i j d before within. absurd (omega arith);
-  differ = All-cons (λ (change : Change). made t change ≢ t) (Put (rows.Node row)) [] (put_differs t row other)
-      (All-nil (λ (change : Change). made t change ≢ t));
+-- ---- versions that go beside
+
+abbrev pub drops : List Version → List Change
+drops gone = map drop_version gone
+
+-- they count for nothing
+pub drops_count : (meta : MetaRow) (gone : List Version) → counted meta (drops gone) ≡ meta
+drops_count meta [] = refl
+drops_count meta (version ∷ gone) = drops_count meta gone
+
+pub drops_rows : (first : Tables) (blob : Option ℕ) (u : Tables) (gone : List Version) → KnownRows first blob u (drops gone)
+drops_rows first blob u [] = no_more u
+drops_rows first blob u (version ∷ gone) =
+    one_more u (drop_version version) (drops gone) tt (drops_rows first blob (made u (drop_version version)) gone)
+
+abbrev pub Differs : Tables → Change → Type 0
+Differs t change = made t change ≢ t
+
+abbrev pub AreApart : Change → Change → Type 0
+AreApart a b = changed_key a ≢ changed_key b
+
+pub drops_lean : (t : Tables) (gone : List Version) → All (IsVersion t) gone → AllPairs AreTwo gone → IsLean t (drops gone)
+drops_lean t gone there two = record {
+  once = pairs_map AreApart drop_version gone (λ i j d before within same. two i j d before within (cc) (cc));
+  differ = All-map (Differs t) drop_version gone (All-weaker (IsVersion t) (λ (version : Version). Differs t (drop_version version)) (drop_differs t) gone there);
 }
+
+-- a change of another row in front
+pub lean_more : (t : Tables) (change : Change) (changes : List Change) → Differs t change → All (AreApart change) changes → IsLean t changes
+    → IsLean t (change ∷ changes)
+lean_more t change changes differs apart lean = record {
+  once = AllPairs-cons AreApart change changes apart lean.once;
+  differ = All-cons (Differs t) change changes differs lean.differ;
+}
+
+pub node_apart : (row : NodeRow) (gone : List Version) → All (AreApart (Put (rows.Node row))) (drops gone)
+node_apart row gone = All-map (AreApart (Put (rows.Node row))) drop_version gone (λ k d within same. cc)
 
 pub none_lean : (t : Tables) → IsLean t []
 none_lean t = record { once = λ i j d before within. absurd (omega arith); differ = All-nil (λ (change : Change). made t change ≢ t) }
@@ -133,16 +194,18 @@ not_there t row sound id = λ is.
     (found_has (λ (old : NodeRow). old.id < t.meta.next_node) (λ (old : NodeRow). old.id == row.id) t.nodes (newest t sound)) in
     absurd (omega (arith, given, id))
 
-pub new_known : (t : Tables) (now folder : ℕ) (name : List ℕ) (kind : NodeKind) (content : List Piece) (blob : Option ℕ) (blobs : ℕ)
+pub new_known : (t : Tables) (now folder : ℕ) (name : List ℕ) (kind : NodeKind) (content : List Piece) (blob : Option ℕ) (blobs : ℕ) (gone : List Version)
     → AreSound t → is_folder t.nodes folder ≡ true → LeadsToRoot t.nodes folder → child_of t.nodes folder name ≡ None → IsUnmounted t folder name
-    → Within t 1 (depth t.nodes folder + 1) (length content) blobs → blob_after t.meta.next_blob blob ≤ t.meta.next_blob + blobs
-    → IsOfBody t.meta blob content → (is_folder_kind kind ≡ true → content ≡ [])
-    → KnownChange t now (Put (rows.Node (new_node t now folder name kind content)) ∷ []) blob
-new_known t now folder name kind content blob blobs sound there present free unmounted fits counts body empty =
+    → Within t 1 (depth t.nodes folder + 1) 0 (length content) blobs → blob_after t.meta.next_blob blob ≤ t.meta.next_blob + blobs
+    → IsOfBody t.meta blob content → (is_folder_kind kind ≡ true → content ≡ []) → All (IsVersion t) gone → AllPairs AreTwo gone
+    → KnownChange t now (Put (rows.Node (new_node t now folder name kind content)) ∷ drops gone) blob
+new_known t now folder name kind content blob blobs gone sound there present free unmounted fits counts body empty versions two =
     let row = new_node t now folder name kind content in
-    let up = raised t now (Put (rows.Node row) ∷ []) blob in
+    let up = raised t now (Put (rows.Node row) ∷ drops gone) blob in
+    let count = drops_count (record t.meta { next_node = max t.meta.next_node (row.id + 1) }) gone in
+    let next = ap (λ (meta : MetaRow). meta.next_node) count in
     record {
-      rows = one_more up (Put (rows.Node row)) []
+      rows = one_more up (Put (rows.Node row)) (drops gone)
           (inl (record {
             born = record {
               folder = folder;
@@ -155,7 +218,7 @@ new_known t now folder name kind content blob blobs sound there present free unm
               newest = newest t sound;
               unshared = All-weaker (IsShareSound t) (λ (share : ShareRow). share.node < t.meta.next_node) (λ share s. s.node) t.shares sound.others.shares;
               unused = All-weaker (IsMountSound t) (λ (mount : MountRow). mount.node < t.meta.next_node) (λ mount s. s.node) t.mounts sound.others.mounts;
-              given = omega arith;
+              given = omega (arith, next);
               changed = le_refl _;
               pieces = body_sound t.meta up blob content sound.counters body (le_refl _);
               empty = empty;
@@ -166,96 +229,13 @@ new_known t now folder name kind content blob blobs sound there present free unm
             fresh = le_refl _;
             body = body;
           }))
-          (no_more (made up (Put (rows.Node row))));
-      lean = one_lean t row (not_there t row sound refl);
+          (drops_rows t blob (made up (Put (rows.Node row))) gone);
+      lean = lean_more t (Put (rows.Node row)) (drops gone) (put_differs t row (not_there t row sound refl)) (node_apart row gone) (drops_lean t gone versions two);
       stored = λ none. absurd (cc);
-      next_user = omega arith;
-      next_group = omega arith;
-      next_node = omega (arith, fits.next_node);
-      next_share = omega arith;
+      next = body_next t.meta blob content body;
+      next_user = omega (arith, ap (λ (meta : MetaRow). meta.next_user) count);
+      next_group = omega (arith, ap (λ (meta : MetaRow). meta.next_group) count);
+      next_node = omega (arith, fits.next_node, next);
+      next_share = omega (arith, ap (λ (meta : MetaRow). meta.next_share) count);
       next_blob = omega (arith, fits.next_blob, counts);
     }
-
--- ---- another content
-
-pub over_known : (t : Tables) (now node : ℕ) (content : List Piece) (blob : Option ℕ) (old : NodeRow)
-    → AreSound t → node_row t.nodes node ≡ Some old → is_folder_kind old.kind ≡ false → LeadsToRoot t.nodes node
-    → blob_after t.meta.next_blob blob ≤ max t.meta.next_blob last_number
-    → (stored_pieces t + length content ≤ MAX_STORED_PIECES) ⊎ (content ≡ old.content)
-    → IsOfBody t.meta blob content ⊎ ((blob ≡ None) × (content ≡ old.content))
-    → KnownChange t now (refilled (Some old) now content) blob
-over_known t now node content blob old sound there file present counts few body =
-    elim (cases_Bool (content_eq old.content content && old.changed == now)) [
-      | inl same ↦ simp same (record {
-        rows = no_more (raised t now [] blob);
-        lean = none_lean t;
-        stored = λ none. elim body [ inl of ↦ refills_none t old now content blob is.pieces of (rw same refl) | inr kept ↦ kept.0 ];
-        next_user = omega arith;
-        next_group = omega arith;
-        next_node = omega arith;
-        next_share = omega arith;
-        next_blob = counts;
-      })
-      | inr other ↦ simp other (changed other)
-    ]
-  where
-    id : old.id ≡ node
-    id = eqb-true old.id node (found_passes (λ (row : NodeRow). row.id == node) t.nodes old there)
-
-    is : IsNodeSound t old
-    is = subst (λ (o : Option NodeRow). IfSome o (IsNodeSound t)) there
-        (found_has (IsNodeSound t) (λ (row : NodeRow). row.id == node) t.nodes sound.nodes)
-
-    row : NodeRow
-    row = filled content now old
-
-    sound_in : (up : Tables) → blob_after t.meta.next_blob blob ≤ up.meta.next_blob → All (IsPieceSound up) content
-    sound_in up given =
-        elim body [
-          | inl of ↦ body_sound t.meta up blob content sound.counters of given
-          | inr kept ↦
-              (let up_to : t.meta.next_blob ≤ up.meta.next_blob = subst (λ (o : Option ℕ). blob_after t.meta.next_blob o ≤ up.meta.next_blob) kept.0 given in
-              subst (λ (c : List Piece). All (IsPieceSound up) c) (sym kept.1)
-              (All-weaker (IsPieceSound t) (IsPieceSound up)
-              (λ piece s. record { some = s.some; few = s.few; first = s.first; given = omega (arith, s.given, up_to) }) old.content is.pieces))
-        ]
-
-    at : node_row t.nodes row.id ≡ Some old
-    at = subst (λ (n : ℕ). node_row t.nodes n ≡ Some old) (sym id) there
-
-    differs : (content_eq old.content content && old.changed == now) ≡ false → node_row t.nodes row.id ≢ Some row
-    differs other = λ same.
-        let it : old ≡ row = same_Some old row (sym at ∙ same) in
-        both_ways (content_eq old.content content && old.changed == now) other
-        (and_from (content_eq old.content content) (old.changed == now)
-        ((content_decides old.content content).1 (ap (λ (r : NodeRow). r.content) it))
-        (eq-eqb old.changed now (ap (λ (r : NodeRow). r.changed) it)))
-
-    changed : (content_eq old.content content && old.changed == now) ≡ false → KnownChange t now (Put (rows.Node row) ∷ []) blob
-    changed other =
-        let up = raised t now (Put (rows.Node row) ∷ []) blob in
-        record {
-          rows = one_more up (Put (rows.Node row)) []
-              (inr (record {
-                filled = record {
-                  old = old;
-                  there = at;
-                  file = file;
-                  present = subst (LeadsToRoot t.nodes) (sym id) present;
-                  same = refl;
-                  changed = le_refl _;
-                  pieces = sound_in up (le_refl _);
-                  few_pieces = few;
-                };
-                given = is.given;
-                body = body;
-              }))
-              (no_more (made up (Put (rows.Node row))));
-          lean = one_lean t row (differs other);
-          stored = λ none. absurd (cc);
-          next_user = omega arith;
-          next_group = omega arith;
-          next_node = omega (arith, is.given);
-          next_share = omega arith;
-          next_blob = counts;
-        }

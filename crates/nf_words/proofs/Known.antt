@@ -1,5 +1,7 @@
 -- What is known of a change that no rule refuses.
-use Rattle.std.proofs.Common.{◌≡◌, ◌≢◌, ℕ, ◌+◌, ◌≤◌, ◌==◌, true, false, List, ◌∷◌, length}
+use Rattle.std.proofs.Common.{◌≡◌, ◌≢◌, ℕ, ◌+◌, ◌≤◌, ◌==◌, true, false, List, [], ◌∷◌, ◌++◌, ◌⊎◌, length, flat_map, refl, sym}
+use Rattle.std.proofs.lemmas.List.{append-nil}
+use Rattle.std.proofs.lemmas.List.Elements.{All-nil}
 use Rattle.std.specs.Prelude.{Some, is_some}
 use Rattle.std.specs.List.{All, AllPairs}
 use Rattle.std.specs.Option.{option_map_or}
@@ -10,9 +12,12 @@ use Rattle.nf_base.specs.declared.rows.NodeRow.{NodeRow}
 use Rattle.nf_base.specs.declared.rows.Place.TheVariants.{Inside}
 use Rattle.nf_base.specs.declared.rows.UserRow.{UserRow}
 use Rattle.nf_defs.specs.Prelude.{child_of, content_of, is_folder, is_root, is_under, item_row, node_row, Tables, walk_of}
-use Rattle.nf_words.proofs.Fits.{KnownChange}
+use Rattle.nf_words.proofs.Fits.{IsOfVersion, KnownChange}
+use Rattle.nf_words.proofs.Forgetting.{IsVersion, unsettled_there}
+use Rattle.nf_words.specs.Changes.{Charged}
+use Rattle.nf_retention.specs.declared.versions.Version.{Version}
 use Rattle.nf_words.proofs.Ways.{HasRow}
-use Rattle.nf_words.specs.Prelude.{beside, copies, crosses, crossing, deepest_in, discard, home_of, IsHeld, IsRequoted, IsUnmounted, last_number, LeadsToRoot, MayStoreAt, moves, name_back, node_of_key, pieces_in, purges, stored_pieces}
+use Rattle.nf_words.specs.Prelude.{beside, copies, crosses, crossing, deepest_in, discard, forgets, home_of, IsHeld, IsRequoted, IsUnmounted, last_number, LeadsToRoot, MayStoreAt, moves, name_back, node_of_key, pieces_in, purged_by, purges, settled_by, stored_pieces, unsettled}
 use Rattle.nf_words.specs.declared.answer.Allowed.{Allowed}
 use Rattle.nf_words.specs.declared.answer.Allowed.TheVariants as allowed
 use Rattle.nf_words.specs.declared.answer.By.{By}
@@ -21,9 +26,10 @@ use Rattle.nf_words.specs.declared.answer.Deed.TheVariants as deed
 use Rattle.nf_words.specs.declared.answer.LockKey.{LockKey}
 use Rattle.nf_words.specs.declared.request.Transfer.{Transfer}
 
+-- what is sent is what a file has, or a version of it
 pub record KnownServed (t : Tables) (node : ℕ) (content : List Piece) : Type 0 where
   pub no_folder : is_folder t.nodes node ≡ false
-  pub of_node : content ≡ content_of t.nodes node
+  pub of_node : (content ≡ content_of t.nodes node) ⊎ IsOfVersion t node content
   pub there : HasRow t.nodes node
   pub present : LeadsToRoot t.nodes node
 
@@ -110,10 +116,32 @@ pub data KnownDeeds (t : Tables) (now : ℕ) : List Deed → Type 0 where
   by_copying : (transfer : Transfer) (name : List ℕ) → KnownCopies t transfer name → KnownDeeds t now (copies t now name transfer)
   by_crossing : (transfer : Transfer) (name : List ℕ) → KnownCross t transfer name → KnownDeeds t now (crossing t now name transfer)
 
+-- deeds that are known, and then versions that go
+pub record KnownSettled (t : Tables) (now : ℕ) (deeds : List Deed) : Type 0 where
+  pub first : List Deed
+  pub gone : List Version
+  pub are : deeds ≡ first ++ forgets gone
+  pub known : KnownDeeds t now first
+  pub there : All (IsVersion t) gone
+
+-- where none goes
+pub alone : (t : Tables) (now : ℕ) (deeds : List Deed) → KnownDeeds t now deeds → KnownSettled t now deeds
+alone t now deeds known = record { first = deeds; gone = []; are = sym (append-nil deeds); known = known; there = All-nil (IsVersion t) }
+
+-- where an owner's do that are beyond their bound then
+pub settled_known : (t : Tables) (now : ℕ) (to : Charged) (deeds : List Deed) → KnownDeeds t now deeds → KnownSettled t now (settled_by t to deeds)
+settled_known t now to deeds known = record {
+  first = deeds;
+  gone = unsettled t to (flat_map purged_by deeds);
+  are = refl;
+  known = known;
+  there = unsettled_there t to (flat_map purged_by deeds);
+}
+
 abbrev pub Known : Tables → ℕ → Allowed → Type 0
 Known t now (allowed.Get node content) = KnownServed t node content
 Known t now (allowed.List listing) = Unit {0}
 Known t now (allowed.Put by key length) = KnownGranted t by key length
 Known t now (allowed.Change changes blob report) = KnownChange t now changes blob
-Known t now (allowed.Deeds deeds report) = KnownDeeds t now deeds
+Known t now (allowed.Deeds deeds report) = KnownSettled t now deeds
 Known t now allowed.Close = Unit {0}

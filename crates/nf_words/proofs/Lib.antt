@@ -2,7 +2,9 @@ pub mod Steps
 pub mod Passing
 pub mod Found
 pub mod Bodies
+pub mod Forgetting
 pub mod Fits
+pub mod Refilling
 pub mod Known
 pub mod Spared
 pub mod Starts
@@ -10,6 +12,7 @@ pub mod Transfers
 pub mod Ways
 pub mod Mounting
 pub mod Ensured
+pub mod Versioned
 pub mod Begins
 pub mod Ends
 pub mod Histories

@@ -18,7 +18,7 @@ use Rattle.nf_words.specs.declared.request.Spot.{Spot}
 use Rattle.nf_defs.specs.Prelude.{Access, is_root, owner_of, Tables}
 use Rattle.nf_defs.specs.declared.Found.{Found}
 use Rattle.nf_defs.specs.declared.Found.TheVariants.{At, Missing}
-use Rattle.nf_words.specs.Prelude.{access_of, acts_rule, allowed_of, answer_at, answered_by, answer_to, asked_by, asks_by_link, broken_by, Call, caller_row, call_of, decision_of, earlier_rules, end_lost, end_refusal, ends_at, ends_goal, end_unallowed, end_unreached, exceeded, excess_at, exists_rule, fault_by, first_refused, first_that_holds, forbidden_rule, goal_at, has_forbidden, is_caller, is_kept, is_owner, is_refused, is_transfer, key_in_way, lacks_item, later_rules, limit_at, limit_by, limited, limit_rule, locked_rule, may_ask, named_rule, Need, need_broken, needed, needed_by, node_of_key, not_you_rule, overwrite_rule, own_item, Pass, paths_of, pieces_of, place_of, place_rule, places_of, quota_rule, refusal_of, room_rule, root_of, Rule, seeker_of, sharing_rule, source_lost, source_refused, State, stored_at, taken, target_lost, target_refused, target_rule, token_rule, told_broken, touches, unfit, unless_refused, unlinked, unnamed, unnamed_by, unreached, unreached_by, untrashed, users_of, Way, way_of, ways_of}
+use Rattle.nf_words.specs.Prelude.{access_of, acts_rule, allowed_of, answer_at, answered_by, answer_to, asked_by, asks_by_link, broken_by, Call, caller_row, call_of, decision_of, earlier_rules, end_lost, end_refusal, ends_at, ends_goal, end_unallowed, end_unreached, exceeded, excess_at, exists_rule, fault_by, first_refused, first_that_holds, forbidden_rule, goal_at, has_forbidden, is_caller, is_kept, is_owner, is_refused, is_transfer, key_in_way, lacks_item, later_rules, limit_at, limit_by, limited, limit_rule, locked_rule, may_ask, named_rule, Need, need_broken, needed, needed_by, needed_for, node_of_key, not_you_rule, overwrite_rule, own_item, Pass, paths_of, pieces_of, place_of, place_rule, places_of, quota_rule, refusal_of, room_rule, root_of, Rule, seeker_of, sharing_rule, source_lost, source_refused, State, stored_at, taken, target_lost, target_refused, target_rule, token_rule, told_broken, touches, unfit, unless_refused, unlinked, unnamed, unnamed_by, unreached, unreached_by, untrashed, users_of, version_lost, version_rule, Way, way_of, ways_of}
 use Rattle.nf_words.specs.declared.answer.Allowed.{Allowed}
 use Rattle.nf_words.specs.declared.answer.By.{By}
 use Rattle.nf_words.specs.declared.answer.Denial.{Denial}
@@ -247,11 +247,27 @@ named_fine access call = here call.request.wanted
     here (wanted.Share asked) = of_ask asked
     here (wanted.People asked) = unless_test _ denial.NotFound refl
     here (wanted.Trash asked) = of_trash asked
+    here (wanted.Version asked) = unless_test _ denial.NotFound refl
     here other = tt
 
 acts_fine : (access : Access) (call : Call) → IsEarly (acts_rule access call)
 unfolding acts_rule
-acts_fine access call = needs_fine access (ground_of call.state.tables) (seeker_of call) call.now (needed call)
+acts_fine access call = needs_fine access (ground_of call.state.tables) (seeker_of call) call.now
+    (needed call ++ needed_for access call call.request.wanted)
+
+-- a folder has no versions, and a file has the one that is asked about or not
+version_fine : (access : Access) (call : Call) → IsEarly (version_rule access call)
+unfolding version_rule
+version_fine access call = here call.request.wanted
+  where
+    lost : (b c : Bool) → IsEarly (if b then Some denial.Kind else if c then Some denial.NotFound else None)
+    lost true c = refl
+    lost false true = refl
+    lost false false = tt
+
+    here : (wanted : Wanted) → IsEarly (version_lost call wanted)
+    here (wanted.Version asked) = lost _ _
+    here other = tt
 
 exists_fine : (access : Access) (call : Call) → IsEarly (exists_rule access call)
 unfolding exists_rule
@@ -296,7 +312,7 @@ quota_fine access call = quotas (exceeded call.state.tables (places_of call) (as
 
 pub early : AreEarly earlier_rules
 early =
-    (token_fine, (not_you_fine, (forbidden_fine, (place_fine, (named_fine, (acts_fine, (exists_fine, (fit_fine, (overwrite_fine, (sharing_fine, tt))))))))))
+    (token_fine, (not_you_fine, (forbidden_fine, (place_fine, (named_fine, (acts_fine, (version_fine, (exists_fine, (fit_fine, (overwrite_fine, (sharing_fine, tt)))))))))))
 
 any_later : (a b c d : Option Denial) → IsRefusal a → IsRefusal b → IsRefusal c → IsRefusal d
     → IsRefusal (option_or a (option_or b (option_or c (option_or d None))))

@@ -148,6 +148,7 @@ remount_known t now row is =
           (no_more (made up (Put (rows.Mount row))));
       lean = remount_lean t row (λ same. is.other (same_Some row is.old (sym same ∙ is.there)));
       stored = λ none. absurd (cc);
+      next = tt;
       next_user = omega arith;
       next_group = omega arith;
       next_node = omega arith;

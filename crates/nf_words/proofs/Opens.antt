@@ -1,12 +1,12 @@
 -- What an event isn't answered.
-use Rattle.std.proofs.Common.{◌≡◌, ◌≢◌, ℕ, Bool, true, false, List, Result, Ok, Err, refl, sym, ap, ◌∙◌, subst, [], ◌==◌, ◌∷◌}
+use Rattle.std.proofs.Common.{◌≡◌, ◌≢◌, ℕ, Bool, true, false, List, Result, Ok, Err, refl, sym, ap, ◌∙◌, subst, [], ◌==◌}
 use Rattle.std.specs.Prelude.{Option, None, Some, is_some, if◌then◌else◌}
 use Rattle.std.specs.Option.{option_and_then, option_map_or, option_or}
 use Rattle.nf_base.specs.declared.rows.NodeRow.{NodeRow}
 use Rattle.nf_defs.specs.Prelude.{Access, content_of, is_folder, Tables}
 use Rattle.nf_defs.specs.declared.Found.{Found}
 use Rattle.nf_defs.specs.declared.Found.TheVariants.{At, Free, Missing}
-use Rattle.nf_words.specs.Prelude.{access_of, allowed_of, answered_by, answer_to, asked_of, by_of, Call, call_of, copied, decided, decision_of, deleted, done, end_refusal, ends_at, exists_rule, found, given, goal_at, goal_of, gone_of, hold_of, is_off_mount, is_root_at, item_dropped, item_restored, items_of, last_name, listing_of, made_folder, mount_left, mount_renamed, moved, node_at, node_found, nothing_done, offered, own_item, people_done, perms_after, purges, refusal_of, reply_to, reported, requoted, root_of, row_named, served, shared, share_ended, share_made, share_set, share_shown, share_steered, share_told, shown, source_lost, State, step, stored, stored_at, taken, target_lost, target_rule, transfer_between, transfer_by, transfer_of, transfer_to, trash_done, unfit, unfit_between, unless_refused, until_after, Way, way_of, ways_for, with_goal}
+use Rattle.nf_words.specs.Prelude.{access_of, allowed_of, answered_by, answer_to, asked_of, by_of, Call, call_of, charged_to, copied, decided, decision_of, deleted, done, end_refusal, ends_at, exists_rule, found, given, goal_at, goal_of, hold_of, is_off_mount, is_root_at, item_dropped, item_restored, last_name, listing_of, made_folder, mount_left, mount_renamed, moved, node_at, node_found, nothing_done, offered, own_item, people_done, perms_after, refusal_of, reply_to, reported, requoted, root_of, row_named, served, shared, share_ended, share_made, share_set, share_shown, share_steered, share_told, shown, source_lost, State, step, stored, stored_at, taken, target_lost, target_rule, transfer_between, transfer_by, transfer_of, transfer_to, trash_done, unfit, unfit_between, unless_refused, until_after, Way, way_of, ways_for, with_goal, requoting, settled_by, brought_back, version_done, version_row}
 use Rattle.nf_words.specs.declared.answer.Allowed.{Allowed}
 use Rattle.nf_words.specs.declared.answer.Allowed.TheVariants as allowed
 use Rattle.nf_words.specs.declared.answer.Denial.{Denial}
@@ -33,7 +33,7 @@ use Rattle.nf_words.specs.declared.request.Transfer.{Transfer}
 use Rattle.nf_words.specs.declared.request.Words.{Words}
 use Rattle.nf_words.specs.declared.request.Wanted.{Wanted}
 use Rattle.nf_words.specs.declared.route.Route.TheVariants.{Files}
-use Rattle.nf_words.specs.declared.request.Wanted.TheVariants.{Get, Put, Mkcol, Delete, Move, Copy, Share, People, Trash}
+use Rattle.nf_words.specs.declared.request.Wanted.TheVariants.{Get, Put, Mkcol, Delete, Move, Copy, Share, People, Trash, Version}
 use Rattle.nf_words.proofs.Begins.{only_at, places_at}
 use Rattle.nf_words.proofs.Passing.{no_fault, PlacePasses, place_passes, unrefused}
 use Rattle.nf_words.proofs.Transfers.{fit_parts, FitParts, same_transfer}
@@ -42,9 +42,11 @@ use Rattle.nf_base.specs.declared.rows.ItemRow.{ItemRow}
 use Rattle.nf_base.specs.declared.rows.UserRow.{UserRow}
 use Rattle.nf_words.specs.declared.request.PeopleAsk.{PeopleAsk}
 use Rattle.nf_words.specs.declared.request.TrashAsk.{TrashAsk}
+use Rattle.nf_words.specs.declared.request.VersionAsk.{VersionAsk}
+use Rattle.nf_words.specs.declared.request.VersionAsk.TheVariants as version
+use Rattle.nf_base.specs.declared.rows.VersionRow.{VersionRow}
 use Rattle.nf_words.specs.declared.request.PeopleAsk.TheVariants as people
 use Rattle.nf_words.specs.declared.request.TrashAsk.TheVariants as trash
-use Rattle.nf_words.specs.declared.answer.Deed.TheVariants as deed
 use Rattle.std.proofs.lemmas.Bool.{cond_both}
 
 -- ---- never as the End of what stores nothing
@@ -55,6 +57,7 @@ report_opens report.Done = λ is. cc
 report_opens (report.Share line) = λ is. cc
 report_opens (report.Shares lines) = λ is. cc
 report_opens (report.Items lines) = λ is. cc
+report_opens (report.Versions lines) = λ is. cc
 report_opens report.Plain = λ is. cc
 
 closes : (act : Allowed) → reply_to act ≡ Closed → act ≡ allowed.Close
@@ -88,7 +91,7 @@ open_deleted t now node = λ is. cc
 open_requoted : (t : Tables) (now quota : ℕ) (row : UserRow) → requoted t now quota row ≢ allowed.Close
 open_requoted t now quota row =
     cond_both (row.quota == quota) nothing_done
-    (done (deed.Requote (record row { quota = quota }) ∷ purges (gone_of t now quota (items_of t row.id))) report.Plain)
+    (done (settled_by t (charged_to t quota row) (requoting t now quota row)) report.Plain)
     (λ (a : Allowed). a ≢ allowed.Close) (λ e is. cc) (λ e is. cc)
 
 open_people : (t : Tables) (now : ℕ) (asked : PeopleAsk) → people_done t now asked ≢ allowed.Close
@@ -110,6 +113,19 @@ open_trash call (trash.Empty user) = λ is. cc
 open_trash call (trash.Restore user item) = here (own_item call item)
   where
     here : (o : Option ItemRow) → option_map_or (item_restored call.state.tables call.now) o nothing_done ≢ allowed.Close
+    here None = λ is. cc
+    here (Some row) = λ is. cc
+
+open_version : (t : Tables) (now : ℕ) (asked : VersionAsk) → version_done t now asked ≢ allowed.Close
+open_version t now (version.List user node) = λ is. cc
+open_version t now (version.Get user node at) = here (version_row t.versions node at)
+  where
+    here : (o : Option VersionRow) → option_map_or (λ (row : VersionRow). allowed.Get node row.content) o nothing_done ≢ allowed.Close
+    here None = λ is. cc
+    here (Some row) = λ is. cc
+open_version t now (version.Restore user node at) = here (version_row t.versions node at)
+  where
+    here : (o : Option VersionRow) → option_map_or (brought_back t now node) o nothing_done ≢ allowed.Close
     here None = λ is. cc
     here (Some row) = λ is. cc
 
@@ -209,6 +225,7 @@ open_given call (Copy source to overwrite) led free fits =
 open_given call (Share asked) led free fits = open_shared (access_of call.state) call (places_at call (Share asked)) asked
 open_given call (People asked) led free fits = open_people call.state.tables call.now asked
 open_given call (Trash asked) led free fits = open_trash call asked
+open_given call (Version asked) led free fits = open_version call.state.tables call.now asked
 
 -- a Begin isn't
 pub begins_open : (s : State) (seat now : ℕ) (words : Words) (request : Request) → answer_to s seat now (Begin words request) ≢ Ok Closed

@@ -1,14 +1,14 @@
 -- What a call that no rule refuses passes, by the names of the rules.
-use Rattle.std.proofs.Common.{◌≡◌, ℕ, ◌&&◌, Bool, true, false, not, List, [], ◌∷◌, Ok, refl, sym, ap, ◌∙◌}
+use Rattle.std.proofs.Common.{◌≡◌, ℕ, ◌&&◌, Bool, true, false, not, List, [], ◌∷◌, ◌++◌, Ok, refl, sym, ap, ◌∙◌}
 use Rattle.std.specs.Prelude.{None, Option, Some, find, option_map, option_and_then, if◌then◌else◌}
 use Rattle.std.specs.List.{All}
 use Rattle.std.specs.Option.{IfSome, option_or}
-use Rattle.std.proofs.lemmas.List.Elements.{All-cons, All-nil}
+use Rattle.std.proofs.lemmas.List.Elements.{All-cons, All-head, All-nil, All-tail}
 use Rattle.nf_access.specs.Shares.{Ground, ground_of}
 use Rattle.nf_defs.specs.Prelude.{Access, Tables}
 use Rattle.nf_defs.specs.declared.Seeker.{Seeker}
 use Rattle.nf_words.specs.Asked.{Asked}
-use Rattle.nf_words.specs.Prelude.{access_of, acts_rule, allowed_of, asked_by, Call, call_decision, end_lost, end_refusal, end_unallowed, end_unreached, excess_at, exists_rule, first_refused, first_that_holds, forbidden_rule, found, is_refused, limit_at, limit_rule, locked_rule, may_by, named_rule, Need, need_broken, needed, node_of_key, not_you_rule, overwrite_rule, Pass, pieces_of, place_of, place_rule, quota_rule, refusal_of, room_rule, Rule, rules, seeker_of, sharing_rule, source_lost, source_refused, target_lost, target_refused, target_rule, token_rule, unless_refused, unlinked, unreached, Way, way_of}
+use Rattle.nf_words.specs.Prelude.{access_of, acts_rule, allowed_of, asked_by, Call, call_decision, end_lost, end_refusal, end_unallowed, end_unreached, excess_at, exists_rule, first_refused, first_that_holds, forbidden_rule, found, is_refused, limit_at, limit_rule, locked_rule, may_by, named_rule, Need, need_broken, needed, needed_for, node_of_key, not_you_rule, overwrite_rule, Pass, pieces_of, place_of, place_rule, quota_rule, refusal_of, room_rule, Rule, rules, seeker_of, sharing_rule, source_lost, source_refused, target_lost, target_refused, target_rule, token_rule, unless_refused, unlinked, unreached, version_rule, Way, way_of}
 use Rattle.nf_words.specs.declared.answer.Allowed.{Allowed}
 use Rattle.nf_words.specs.declared.answer.By.{By}
 use Rattle.nf_words.specs.declared.answer.Denial.{Denial}
@@ -28,6 +28,7 @@ pub record Passes (access : Access) (call : Call) : Type 0 where
   pub place : place_rule access call ≡ None
   pub named : named_rule access call ≡ None
   pub acts : acts_rule access call ≡ None
+  pub version : version_rule access call ≡ None
   pub exists : exists_rule access call ≡ None
   pub target : target_rule access call ≡ None
   pub overwrite : overwrite_rule access call ≡ None
@@ -38,13 +39,14 @@ pub record Passes (access : Access) (call : Call) : Type 0 where
   pub quota : quota_rule access call ≡ None
 
 named : (access : Access) (call : Call) → Pass rules access call → Passes access call
-named access call (token, (not_you, (forbidden, (place, (names, (acts, (exists, (target, (overwrite, (sharing, (locked, (limit, (room, (quota, end)))))))))))))) = record {
+named access call (token, (not_you, (forbidden, (place, (names, (acts, (version, (exists, (target, (overwrite, (sharing, (locked, (limit, (room, (quota, end))))))))))))))) = record {
   token = token;
   not_you = not_you;
   forbidden = forbidden;
   place = place;
   named = names;
   acts = acts;
+  version = version;
   exists = exists;
   target = target;
   overwrite = overwrite;
@@ -69,14 +71,17 @@ in_order access call p = (
           (
             p.acts,
             (
-              p.exists,
+              p.version,
               (
-                p.target,
+                p.exists,
                 (
-                  p.overwrite,
+                  p.target,
                   (
-                    p.sharing,
-                    (p.locked, (p.limit, (p.room, (p.quota, tt)))),
+                    p.overwrite,
+                    (
+                      p.sharing,
+                      (p.locked, (p.limit, (p.room, (p.quota, tt)))),
+                    ),
                   ),
                 ),
               ),
@@ -169,10 +174,32 @@ needs_pass access g seeker now needs none =
     map_none None none = refl
     map_none (Some need) none = absurd (cc)
 
-pub acts_pass : (access : Access) (call : Call) → acts_rule access call ≡ None
-    → All (λ (need : Need). may_by access call.state.tables.nodes (seeker_of call) call.now need.act need.node need.mount ≡ true) (needed call)
+all_front : {X : Type 0} (P : X → Type 0) (xs ys : List X) → All P (xs ++ ys) → All P xs
+all_front P [] ys all = All-nil P
+all_front P (x ∷ xs) ys all = All-cons P x xs (All-head P x (xs ++ ys) all) (all_front P xs ys (All-tail P x (xs ++ ys) all))
+
+all_behind : {X : Type 0} (P : X → Type 0) (xs ys : List X) → All P (xs ++ ys) → All P ys
+all_behind P [] ys all = all
+all_behind P (x ∷ xs) ys all = all_behind P xs ys (All-tail P x (xs ++ ys) all)
+
+-- who asks may do all that the paths need, and what is needed of a version
+abbrev pub MayDo : Access → Call → Need → Type 0
+MayDo access call need = may_by access call.state.tables.nodes (seeker_of call) call.now need.act need.node need.mount ≡ true
+
+pub all_acts_pass : (access : Access) (call : Call) → acts_rule access call ≡ None
+    → All (MayDo access call) (needed call ++ needed_for access call call.request.wanted)
 unfolding acts_rule
-acts_pass access call none = needs_pass access (ground_of call.state.tables) (seeker_of call) call.now (needed call) none
+all_acts_pass access call none =
+    needs_pass access (ground_of call.state.tables) (seeker_of call) call.now (needed call ++ needed_for access call call.request.wanted) none
+
+pub acts_pass : (access : Access) (call : Call) → acts_rule access call ≡ None → All (MayDo access call) (needed call)
+acts_pass access call none =
+    all_front (MayDo access call) (needed call) (needed_for access call call.request.wanted) (all_acts_pass access call none)
+
+pub version_acts_pass : (access : Access) (call : Call) → acts_rule access call ≡ None
+    → All (MayDo access call) (needed_for access call call.request.wanted)
+version_acts_pass access call none =
+    all_behind (MayDo access call) (needed call) (needed_for access call call.request.wanted) (all_acts_pass access call none)
 
 -- what isn't refused passes every rule
 pub unrefused : (access : Access) (call : Call) → refusal_of access call ≡ None → Passes access call

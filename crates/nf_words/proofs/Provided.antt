@@ -211,6 +211,7 @@ module _ (t : Tables) (now : ℕ) (sound : AreSound t) where
               (All-cons (Differs t) (Put (rows.Token holds)) [] (token_differs t holds (none_of _ unnamed.1)) (All-nil (Differs t))));
         };
         stored = λ none. refl;
+        next = tt;
         next_user = omega (arith, ltb-false _ _ users.1);
         next_group = omega arith;
         next_node = omega (arith, ltb-false _ _ nodes.1);
@@ -232,6 +233,7 @@ module _ (t : Tables) (now : ℕ) (sound : AreSound t) where
             (no_more (made up (Put (rows.Group row))));
         lean = one_lean t (Put (rows.Group row)) (group_differs t row fresh);
         stored = λ none. refl;
+        next = tt;
         next_user = omega arith;
         next_group = omega (arith, ltb-false _ _ passed.1);
         next_node = omega arith;
@@ -256,6 +258,7 @@ module _ (t : Tables) (now : ℕ) (sound : AreSound t) where
             (no_more (made up (Put (rows.Token row))));
         lean = one_lean t (Put (rows.Token row)) (token_differs t row (none_of _ free));
         stored = λ none. refl;
+        next = tt;
         next_user = omega arith;
         next_group = omega arith;
         next_node = omega arith;
@@ -325,6 +328,7 @@ module _ (t : Tables) (now : ℕ) (sound : AreSound t) where
                 (mounts_fit t.mounts mounts fits.1));
             lean = lean_with t (Put (rows.Member row)) mounts (λ m same. absurd (cc)) (member_differs t row e) (ensured_lean t pairs);
             stored = λ none. refl;
+            next = tt;
             next_user = rw meta (omega arith);
             next_group = rw meta (omega arith);
             next_node = rw meta (omega arith);
@@ -342,6 +346,7 @@ module _ (t : Tables) (now : ℕ) (sound : AreSound t) where
             rows = one_more up (Drop (keys.Member row.group row.user)) [] (refl, e) (no_more (made up (Drop (keys.Member row.group row.user))));
             lean = one_lean t (Drop (keys.Member row.group row.user)) (left_differs t row e);
             stored = λ none. refl;
+            next = tt;
             next_user = omega arith;
             next_group = omega arith;
             next_node = omega arith;

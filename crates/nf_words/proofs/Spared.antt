@@ -7,7 +7,6 @@ use Rattle.std.proofs.lemmas.Bool.{both_ways, cond_both, eq-eqb, eqb-true, not-t
 use Rattle.std.proofs.lemmas.List.Elements.{All-append, All-cons, All-filter, All-head, All-map, All-nil, All-tail, All-weaker, filter_passes}
 use Rattle.std.proofs.lemmas.Option.{none-some, same_Some}
 use Rattle.std.proofs.lemmas.Slice.Eq.{bytes_eq-Decides}
-use Rattle.nf_base.specs.Content.{content_eq}
 use Rattle.nf_base.specs.declared.changes.Change.{Change}
 use Rattle.nf_base.specs.declared.changes.Change.TheVariants.{Drop, Put}
 use Rattle.nf_base.specs.declared.changes.RowKey.TheVariants as keys
@@ -20,7 +19,7 @@ use Rattle.nf_base.specs.declared.rows.NodeRow.{NodeRow}
 use Rattle.nf_base.specs.declared.rows.Place.TheVariants.{Inside}
 use Rattle.nf_base.specs.declared.rows.Row.TheVariants as rows
 use Rattle.nf_base.specs.declared.rows.UserRow.{UserRow}
-use Rattle.nf_defs.specs.Prelude.{Access, content_of, is_folder, is_under, node_row, Tables, user_named, walk_of}
+use Rattle.nf_defs.specs.Prelude.{Access, content_of, filled, is_folder, is_under, node_row, owner_of, Tables, user_named, walk_of}
 use Rattle.nf_defs.specs.declared.Found.{Found}
 use Rattle.nf_defs.specs.declared.Found.TheVariants.{At, Free, Missing}
 use Rattle.nf_words.proofs.Begins.{delete_leaves, only_at, places_at, wanted_passes, WantedPasses}
@@ -31,7 +30,7 @@ use Rattle.nf_words.proofs.Passing.{place_passes, call_passes, no_key, not_refus
 use Rattle.nf_words.proofs.Starts.{has_asker, IsAsking}
 use Rattle.nf_words.proofs.Steps.{fails_each}
 use Rattle.nf_words.proofs.Transfers.{copies_known, replaced_leaves, row_leaves, transfer_known}
-use Rattle.nf_words.specs.Prelude.{access_of, AreApartHolds, AreKeysApart, AreSound, asked_by, asked_of, asked_of_trash, asker_of, beside, besides, blob_for, blocks, by_of, Call, call_decision, call_of, carry_limit, clashes, content_in, copied, copies, copies_to, copy_limit, crosses, crossing, decision_of, deepest_in, deleted, discard, discards, done, end_decision, ended_row, end_refusal, ends_at, ends_goal, found, given, goes_itself, gone_beside, gone_from, gone_of, HoldsFor, home_of, is_exclusive, is_member, IsNodeSound, IsSound, IsTicketSound, item_dropped, item_for, item_restored, items_of, joined_by, key_in_way, last_name, least, left_by, left_row, lesser, limited, listing_of, locked_rule, made_folder, makes, MayAsk, MayWant, membership, mount_left, mount_renamed, mounts_for, mounts_joined, moved, move_limit, moves, name_back, named_row, new_node, new_root, new_share, new_user, node_at, node_of_key, nothing_done, offered, owners_of, own_item, own_mount, people_changed, people_done, perms_after, pieces_in, places_of, purges, put_mounts, refilled, requoted, restore_touches, root_of, row_at, row_named, same_end, same_key, served, set_row, shared, share_ended, share_made, share_set, share_shown, share_steered, share_told, source_touches, State, stored, stored_at, swept, target_touches, ticket_of, Touch, touched, touches, touch_key, touch_under, transfer_of, transfer_touches, trash_done, unfit_between, unreached, until_after, way_of, with_mount_row, without, without_ticket}
+use Rattle.nf_words.specs.Prelude.{access_of, AreApartHolds, AreKeysApart, AreSound, asked_by, asked_of, asked_of_trash, asker_of, beside, besides, blob_for, blocks, by_of, Call, call_decision, call_of, carry_limit, clashes, content_in, copied, copies, copies_to, copy_limit, crosses, crossing, decision_of, deepest_in, deleted, discard, discards, done, end_decision, ended_row, end_refusal, ends_at, ends_goal, found, given, goes_itself, gone_beside, gone_from, gone_of, HoldsFor, home_of, is_exclusive, is_member, IsNodeSound, IsSound, IsTicketSound, item_dropped, item_for, item_restored, items_of, joined_by, key_in_way, last_name, least, left_by, left_row, lesser, limited, listing_of, locked_rule, made_folder, MayAsk, MayWant, membership, mount_left, mount_renamed, mounts_for, mounts_joined, moved, move_limit, moves, name_back, named_row, new_node, new_root, new_share, new_user, node_at, node_of_key, nothing_done, offered, owners_of, own_item, own_mount, people_changed, people_done, perms_after, pieces_in, places_of, purges, put_mounts, refilled, requoted, restore_touches, root_of, row_at, row_named, same_end, same_key, served, set_row, shared, share_ended, share_made, share_set, share_shown, share_steered, share_told, source_touches, State, stored, stored_at, swept, target_touches, ticket_of, Touch, touched, touches, touch_key, touch_under, transfer_of, transfer_touches, trash_done, unfit_between, unreached, until_after, way_of, with_mount_row, without, without_ticket, asked_of_version, becomes_version, brought_back, charged, charged_for, charged_to, content_size, drop_version, forgets, gone_after, is_same, item_size, purged_by, refills, requoting, restoring, settled_by, turned_over, turns_over, unsettled, version_done, version_row}
 use Rattle.nf_words.specs.declared.answer.Allowed.{Allowed}
 use Rattle.nf_words.specs.declared.answer.Allowed.TheVariants as allowed
 use Rattle.nf_words.specs.declared.answer.By.{By}
@@ -71,6 +70,12 @@ use Rattle.nf_base.specs.declared.rows.ItemRow.{ItemRow}
 use Rattle.nf_words.specs.declared.answer.Deed.{Deed}
 use Rattle.nf_words.specs.declared.answer.Deed.TheVariants as deed
 use Rattle.nf_words.specs.declared.request.TrashAsk.{TrashAsk}
+use Rattle.nf_words.specs.declared.request.VersionAsk.{VersionAsk}
+use Rattle.nf_words.specs.declared.request.VersionAsk.TheVariants as version
+use Rattle.nf_base.specs.declared.rows.VersionRow.{VersionRow}
+use Rattle.nf_retention.specs.declared.versions.Version.{Version}
+use Rattle.nf_words.specs.Changes.{Charged}
+use Rattle.nf_words.specs.Versions.{drop_back, drop_gone, has_already, is_version, put_replaced, stays_version, version_for}
 use Rattle.nf_words.specs.declared.request.TrashAsk.TheVariants as trash
 
 -- ---- what a step leaves alone
@@ -103,6 +108,7 @@ SparesDeed t now key (deed.Relink node folder name) = SparesUnder t key node × 
 SparesDeed t now key (deed.Join rows) =
     (transfer : Transfer) × (name : List ℕ) × (rows ≡ copies_to t now transfer name) × key ≢ Slot transfer.folder name
 SparesDeed t now key (deed.Requote row) = Unit {0}
+SparesDeed t now key (deed.Forget node at) = Unit {0}
 
 -- an act leaves alone what is held, and what it grants is another key, or both read
 abbrev pub Spares : Tables → ℕ → Hold → Allowed → Type 0
@@ -151,17 +157,67 @@ no_other f touch others = here (f touch) (list_any f others)
 -- ---- rows
 
 -- a new row is under no name that is held
-new_spared : (t : Tables) (now folder : ℕ) (name : List ℕ) (kind : NodeKind) (content : List Piece) (blob : Option ℕ) (hold : Hold)
-    → hold.key ≢ Slot folder name → Spares t now hold (makes (new_node t now folder name kind content) blob)
-new_spared t now folder name kind content blob hold other =
-    All-cons (SparesChange t hold.key) (Put (rows.Node (new_node t now folder name kind content))) []
+new_spared : (t : Tables) (now folder : ℕ) (name : List ℕ) (kind : NodeKind) (content : List Piece) (hold : Hold) (more : List Change)
+    → hold.key ≢ Slot folder name → All (SparesChange t hold.key) more
+    → All (SparesChange t hold.key) (Put (rows.Node (new_node t now folder name kind content)) ∷ more)
+new_spared t now folder name kind content hold more other rest =
+    All-cons (SparesChange t hold.key) (Put (rows.Node (new_node t now folder name kind content))) more
     (record {
       node = λ given. absurd (omega (arith, given));
       slot = λ fresh at place. subst (λ (n : ℕ). hold.key ≢ Slot n name) (inside folder at place) other;
-    }) (All-nil (SparesChange t hold.key))
+    }) rest
   where
     inside : (a b : ℕ) → Inside a ≡ Inside b → a ≡ b
     inside a b same = cc
+
+-- ---- versions, which nobody holds
+
+-- those that go behind other deeds
+settled_spared : (t : Tables) (now : ℕ) (key : LockKey) (to : Charged) (deeds : List Deed) → All (SparesDeed t now key) deeds
+    → All (SparesDeed t now key) (settled_by t to deeds)
+settled_spared t now key to deeds all =
+    let gone = unsettled t to (flat_map purged_by deeds) in
+    All-append (SparesDeed t now key) deeds (forgets gone) all
+    (All-map (SparesDeed t now key) (λ (version : Version). deed.Forget version.node version.at) gone (λ k d within. tt))
+
+drops_spared : (t : Tables) (key : LockKey) (gone : List Version) → All (SparesChange t key) (map drop_version gone)
+drops_spared t key gone = All-map (SparesChange t key) drop_version gone (λ k d within. tt)
+
+-- what becomes of them where a content becomes another
+turned_spared : (t : Tables) (key : LockKey) (back : Option ℕ) (row : NodeRow) (gone : List Version) → All (SparesChange t key) (turned_over t back row gone)
+turned_spared t key back row gone =
+    let stays = stays_version t back row gone in
+    All-append (SparesChange t key) (put_replaced t row stays) (drop_back back row stays ++ drop_gone (becomes_version t.versions back row) row gone)
+    (cond_both (stays && not (has_already t.versions row)) (Put (rows.Version (version_for row)) ∷ []) [] (All (SparesChange t key))
+    (λ e. All-cons (SparesChange t key) (Put (rows.Version (version_for row))) [] tt (All-nil (SparesChange t key))) (λ e. All-nil (SparesChange t key)))
+    (All-append (SparesChange t key) (drop_back back row stays) (drop_gone (becomes_version t.versions back row) row gone) (here back stays)
+    (drops_spared t key (filter (λ version. not (becomes_version t.versions back row && is_version row.id row.changed version)) gone)))
+  where
+    here : (o : Option ℕ) (b : Bool) → All (SparesChange t key) (drop_back o row b)
+    here None b = All-nil (SparesChange t key)
+    here (Some at) b =
+        cond_both (b && at == row.changed) [] (Drop (keys.Version row.id at) ∷ []) (All (SparesChange t key)) (λ e. All-nil (SparesChange t key))
+        (λ e. All-cons (SparesChange t key) (Drop (keys.Version row.id at)) [] tt (All-nil (SparesChange t key)))
+
+-- a file that is there and isn't held
+refills_spared : (t : Tables) (now node : ℕ) (back : Option ℕ) (content : List Piece) (row : NodeRow) (key : LockKey) → AreSound t → key ≢ Node node
+    → node_row t.nodes node ≡ Some row → All (SparesChange t key) (refills t now back content row)
+refills_spared t now node back content row key sound other there =
+    let to = charged t row.owner (content_size row.content) (content_size content) in
+    All-append (SparesChange t key) (if is_same now content row then [] else Put (rows.Node (filled content now row)) ∷ []) (turns_over t now back content row)
+    (cond_both (is_same now content row) [] (Put (rows.Node (filled content now row)) ∷ []) (All (SparesChange t key)) (λ e. All-nil (SparesChange t key))
+    (λ e. All-cons (SparesChange t key) (Put (rows.Node (filled content now row))) [] one (All-nil (SparesChange t key))))
+    (turned_spared t key back row (gone_after t now back row to.quota to.charge))
+  where
+    one : SparesRow t key (filled content now row)
+    one =
+        let id : row.id ≡ node = eqb-true row.id node (found_passes (λ (row : NodeRow). row.id == node) t.nodes row there) in
+        let is = subst (λ (o : Option NodeRow). IfSome o (IsNodeSound t)) there
+        (found_has (IsNodeSound t) (λ (row : NodeRow). row.id == node) t.nodes sound.nodes) in
+        record {
+          node = λ given. subst (λ (n : ℕ). key ≢ Node n) (sym id) other;
+          slot = λ fresh folder place. absurd (omega (arith, fresh, is.given));
+        }
 
 -- ---- what a Begin leaves alone
 
@@ -206,8 +262,8 @@ folder_spares : (t : Tables) (now : ℕ) (hold : Hold) (name : List ℕ) (place 
     → IsClear t hold (target_touches name place) → Spares t now hold (made_folder t now name (Some place))
 folder_spares t now hold name (At node) clear = tt
 folder_spares t now hold name (Free folder) clear =
-    new_spared t now folder name Folder [] None hold
-    (other_key (Slot folder name) hold (key_apart t hold (Slot folder name) Exclusive [] clear))
+    new_spared t now folder name Folder [] hold []
+    (other_key (Slot folder name) hold (key_apart t hold (Slot folder name) Exclusive [] clear)) (All-nil (SparesChange t hold.key))
 folder_spares t now hold name (Missing depth) clear = tt
 
 -- those that go of whom nothing else is known are items
@@ -342,20 +398,22 @@ module _ (call : Call) (hold : Hold) (sound : AreSound call.state.tables) (is : 
       target : SparesTarget t hold.key transfer name
       target = transfer_spared t hold Exclusive name transfer clear
 
-      here : (b : Bool) → All (SparesDeed t call.now hold.key) (if b then crossing t call.now name transfer else moves t call.now name transfer)
+      here : (b : Bool) → All (SparesDeed t call.now hold.key)
+          (if b then settled_by t (charged_for t transfer) (crossing t call.now name transfer) else moves t call.now name transfer)
       here false = replaced_spares transfer name (deed.Relink transfer.node transfer.folder name) is_known target (under, target.slot)
       here true =
           let joins : Deed = deed.Join (copies_to t call.now transfer name) in
           let source : List Deed = discards t call.now (Some transfer.node) in
           let first : List Deed = besides t call.now transfer.replaced in
           let last : List Deed = besides t call.now (Some transfer.node) in
-          All-append IsLeft (discards t call.now transfer.replaced) (joins ∷ (source ++ (first ++ last)))
+          settled_spared t call.now hold.key (charged_for t transfer) (crossing t call.now name transfer)
+          (All-append IsLeft (discards t call.now transfer.replaced) (joins ∷ (source ++ (first ++ last)))
           (discards_spare t call.now hold sound transfer.replaced target.replaced)
           (All-cons IsLeft joins (source ++ (first ++ last)) (transfer, name, refl, target.slot)
           (All-append IsLeft source (first ++ last) (discards_spare t call.now hold sound (Some transfer.node) under)
           (All-append IsLeft first last (besides_spare t call.now hold sound transfer.replaced (replaced_leaves t sound transfer name is_known))
           (besides_spare t call.now hold sound (Some transfer.node)
-          (λ row there. row_leaves t row transfer.node there is_known.no_root is_known.present)))))
+          (λ row there. row_leaves t row transfer.node there is_known.no_root is_known.present))))))
 
   move_spares : (from to : Spot) (b : Bool) → (way_of call from).itself ≡ b
       → (b ≡ false → unreached (access_of call.state) call (way_of call from) ≡ None)
@@ -374,8 +432,8 @@ module _ (call : Call) (hold : Hold) (sound : AreSound call.state.tables) (is : 
       transfer_known call from to sound is (from_reached refl) to_reached one e fits
       (cond_both (crosses t.nodes one) (copy_limit t one) (move_limit t one)
       (λ (limit : Option Limit). limit ≡ None → deepest_in t.nodes one.node one.folder ≤ MAX_DEPTH)
-      (λ e some. (within t (length (walk_of t.nodes one.node)) (deepest_in t.nodes one.node one.folder) (pieces_in t.nodes (walk_of t.nodes one.node)) 0 some).deep)
-      (λ e some. (within t 0 (deepest_in t.nodes one.node one.folder) 0 0 some).deep)
+      (λ e some. (within t (length (walk_of t.nodes one.node)) (deepest_in t.nodes one.node one.folder) 0 (pieces_in t.nodes (walk_of t.nodes one.node)) 0 some).deep)
+      (λ e some. (within t 0 (deepest_in t.nodes one.node one.folder) 0 0 0 some).deep)
       some)) clear
 
   copy_spares : (from to : Spot) → unreached (access_of call.state) call (way_of call from) ≡ None
@@ -386,8 +444,9 @@ module _ (call : Call) (hold : Hold) (sound : AreSound call.state.tables) (is : 
       → IsSpared (copied t call.now (last_name to) o)
   copy_spares from to from_reached to_reached fits None e some clear = tt
   copy_spares from to from_reached to_reached fits (Some transfer) e some clear =
-      copied_spares transfer (last_name to) (copies_known call from to sound is from_reached to_reached transfer e fits some).known
-      (transfer_spared t hold Shared (last_name to) transfer clear)
+      settled_spared t call.now hold.key (charged_for t transfer) (copies t call.now (last_name to) transfer)
+      (copied_spares transfer (last_name to) (copies_known call from to sound is from_reached to_reached transfer e fits some).known
+      (transfer_spared t hold Shared (last_name to) transfer clear))
 
   -- no key is of a share or of a mount
   mounts_spare : (mounts : List MountRow) → All (SparesChange t hold.key) (put_mounts mounts)
@@ -473,12 +532,13 @@ module _ (call : Call) (hold : Hold) (sound : AreSound call.state.tables) (is : 
   persons_spare (people.SetQuota user quota) = here (row_named t user)
     where
       another : (row : UserRow) (b : Bool) → IsSpared (if b then nothing_done
-          else done (deed.Requote (record row { quota = quota }) ∷ purges (gone_of t call.now quota (items_of t row.id))) report.Plain)
+          else done (settled_by t (charged_to t quota row) (requoting t call.now quota row)) report.Plain)
       another row true = All-nil (SparesChange t hold.key)
       another row false =
           let gone = gone_of t call.now quota (items_of t row.id) in
-          All-cons (SparesDeed t call.now hold.key) (deed.Requote (record row { quota = quota })) (purges gone) tt
-          (gone_spared t call.now hold gone (user_goes t sound call.now quota row.id))
+          settled_spared t call.now hold.key (charged_to t quota row) (requoting t call.now quota row)
+          (All-cons (SparesDeed t call.now hold.key) (deed.Requote (record row { quota = quota })) (purges gone) tt
+          (gone_spared t call.now hold gone (user_goes t sound call.now quota row.id)))
 
       here : (o : Option UserRow) → IsSpared (option_map_or (requoted t call.now quota) o nothing_done)
       here None = All-nil (SparesChange t hold.key)
@@ -510,9 +570,32 @@ module _ (call : Call) (hold : Hold) (sound : AreSound call.state.tables) (is : 
           let there = own_there t sound (asker_of call) node item e in
           let slot : LockKey = Slot (home_of t item) (name_back t item) in
           let free : IsClear t hold (touch_key slot Exclusive ∷ []) = subst (λ (o : Option ItemRow). IsClear t hold (option_map_or (restore_touches t) o [])) there clear in
-          All-cons (SparesDeed t call.now hold.key) (deed.Restore item.node (home_of t item) (name_back t item)) (purges (gone_beside t call.now item))
+          settled_spared t call.now hold.key (charged t item.owner 0 (item_size t item)) (restoring t call.now item)
+          (All-cons (SparesDeed t call.now hold.key) (deed.Restore item.node (home_of t item) (name_back t item)) (purges (gone_beside t call.now item))
           (other_key slot hold (key_apart t hold slot Exclusive [] free))
-          (gone_spared t call.now hold (gone_beside t call.now item) (beside_goes t sound call.now item))
+          (gone_spared t call.now hold (gone_beside t call.now item) (beside_goes t sound call.now item)))
+
+  -- a version is sent, or comes back, where its file isn't held
+  versions_spare : (asked : VersionAsk) → IsClear t hold (touches t (asked_of_version asked) (places_at call (wanted.Version asked)))
+      → IsSpared (version_done t call.now asked)
+  versions_spare (version.List user node) clear = All-nil (SparesChange t hold.key)
+  versions_spare (version.Get user node at) clear = here (version_row t.versions node at)
+    where
+      here : (o : Option VersionRow) → IsSpared (option_map_or (λ (row : VersionRow). allowed.Get node row.content) o nothing_done)
+      here None = All-nil (SparesChange t hold.key)
+      here (Some row) = key_apart t hold (Node node) Shared [] clear
+  versions_spare (version.Restore user node at) clear = here (version_row t.versions node at)
+    where
+      of_row : (one : VersionRow) (o : Option NodeRow) → node_row t.nodes node ≡ o
+          → All (SparesChange t hold.key) (option_map_or (refills t call.now (Some one.at) one.content) o [])
+      of_row one None there = All-nil (SparesChange t hold.key)
+      of_row one (Some row) there =
+          refills_spared t call.now node (Some one.at) one.content row hold.key sound
+          (other_key (Node node) hold (key_apart t hold (Node node) Exclusive [] clear)) there
+
+      here : (o : Option VersionRow) → IsSpared (option_map_or (brought_back t call.now node) o nothing_done)
+      here None = All-nil (SparesChange t hold.key)
+      here (Some one) = of_row one (node_row t.nodes node) refl
 
   wanted_spares : (wanted : Wanted) → WantedPasses call wanted → IsClear t hold (touches t (asked_of wanted) (places_at call wanted))
       → IsSpared (given (access_of call.state) call (places_at call wanted) wanted)
@@ -529,6 +612,7 @@ module _ (call : Call) (hold : Hold) (sound : AreSound call.state.tables) (is : 
   wanted_spares (wanted.Share asked) p clear = asks_spare (places_at call (wanted.Share asked)) asked
   wanted_spares (wanted.People asked) p clear = persons_spare asked
   wanted_spares (wanted.Trash asked) p clear = trash_spares asked clear
+  wanted_spares (wanted.Version asked) p clear = versions_spare asked clear
 
 -- ---- nobody is in the way
 
@@ -620,35 +704,23 @@ begin_spares call act sound may none is k d within =
 -- ---- what an End leaves alone
 
 put_again : (t : Tables) (now node : ℕ) (content : List Piece) (blob : Option ℕ) (hold : Hold) → AreSound t → hold.key ≢ Node node
-    → Spares t now hold (allowed.Change (refilled (node_row t.nodes node) now content) blob report.Done)
+    → Spares t now hold (allowed.Change (option_map_or (refilled t now content) (node_row t.nodes node) []) blob report.Done)
 put_again t now node content blob hold sound other = here (node_row t.nodes node) refl
   where
-    one : (row : NodeRow) → node_row t.nodes node ≡ Some row → SparesRow t hold.key (record row { content = content; changed = now })
-    one row there =
-        let id : row.id ≡ node = eqb-true row.id node (found_passes (λ (row : NodeRow). row.id == node) t.nodes row there) in
-        let is = subst (λ (o : Option NodeRow). IfSome o (IsNodeSound t)) there
-        (found_has (IsNodeSound t) (λ (row : NodeRow). row.id == node) t.nodes sound.nodes) in
-        record {
-          node = λ given. subst (λ (n : ℕ). hold.key ≢ Node n) (sym id) other;
-          slot = λ fresh folder place. absurd (omega (arith, fresh, is.given));
-        }
-
-    here : (o : Option NodeRow) → node_row t.nodes node ≡ o → All (SparesChange t hold.key) (refilled o now content)
+    here : (o : Option NodeRow) → node_row t.nodes node ≡ o → All (SparesChange t hold.key) (option_map_or (refilled t now content) o [])
     here None there = All-nil (SparesChange t hold.key)
-    here (Some row) there = either (content_eq row.content content && row.changed == now)
-      where
-        either : (b : Bool) → All (SparesChange t hold.key) (if b then [] else Put (rows.Node (record row { content = content; changed = now })) ∷ [])
-        either true = All-nil (SparesChange t hold.key)
-        either false =
-            All-cons (SparesChange t hold.key) (Put (rows.Node (record row { content = content; changed = now }))) [] (one row there)
-            (All-nil (SparesChange t hold.key))
+    here (Some row) there =
+        cond_both (is_same now content row) [] (refills t now None content row) (All (SparesChange t hold.key)) (λ e. All-nil (SparesChange t hold.key))
+        (λ e. refills_spared t now node None content row hold.key sound other there)
 
 key_spares : (t : Tables) (now : ℕ) (hold : Hold) (key : LockKey) (digest : List ℕ) (size : ℕ) → AreSound t → hold.key ≢ key
     → Spares t now hold (stored_at t now key digest size)
 key_spares t now hold (Node node) digest size sound other =
     put_again t now node (content_in (blob_for t.meta.next_blob size) digest size) (blob_for t.meta.next_blob size) hold sound other
 key_spares t now hold (Slot folder name) digest size sound other =
-    new_spared t now folder name File (content_in (blob_for t.meta.next_blob size) digest size) (blob_for t.meta.next_blob size) hold other
+    let content = content_in (blob_for t.meta.next_blob size) digest size in
+    let gone = unsettled t (charged t (owner_of t.nodes folder) 0 (content_size content)) [] in
+    new_spared t now folder name File content hold (map drop_version gone) other (drops_spared t hold.key gone)
 
 closed_spares : (t : Tables) (now : ℕ) (act : Allowed) → ◌≡◌ {A = Result Allowed Denial} (Ok allowed.Close) (Ok act)
     → (hold : Hold) → Spares t now hold act

@@ -164,6 +164,7 @@ reports_nothing report.Done goal = λ is. cc
 reports_nothing (report.Share line) goal = λ is. cc
 reports_nothing (report.Shares lines) goal = λ is. cc
 reports_nothing (report.Items lines) goal = λ is. cc
+reports_nothing (report.Versions lines) goal = λ is. cc
 reports_nothing report.Plain goal = λ is. cc
 
 goal_of_reply : (act : Allowed) (goal : Goal) → reply_to act ≡ Granted goal → goal_of act ≡ Some goal

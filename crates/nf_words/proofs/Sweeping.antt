@@ -9,9 +9,10 @@ use Rattle.std.proofs.lemmas.Option.{same_Some}
 use Rattle.nf_base.specs.declared.rows.ItemRow.{ItemRow}
 use Rattle.nf_base.specs.declared.rows.NodeRow.{NodeRow}
 use Rattle.nf_defs.specs.Prelude.{item_row, node_row, Tables}
+use Rattle.nf_words.proofs.Forgetting.{heads, tails}
 use Rattle.nf_words.proofs.Found.{found_has}
 use Rattle.nf_words.proofs.Known.{IsItem, KnownGoes}
-use Rattle.nf_words.proofs.Trashing.{Distinct, gone_has, heads, item_is, of_user, tails, user_goes, user_once}
+use Rattle.nf_words.proofs.Trashing.{Distinct, gone_has, item_is, of_user, user_goes, user_once}
 use Rattle.nf_words.specs.Prelude.{AreSound, gone_from, gone_with, item_for, IsItemSound, items_of, owners_of, quota_of}
 
 some_there : {X : Type 0} (o : Option X) → is_some o ≡ true → (x : X) × (o ≡ Some x)

@@ -10,11 +10,11 @@ use Rattle.nf_defs.specs.declared.Found.{Found}
 use Rattle.nf_defs.specs.declared.Found.TheVariants.{At, Free, Missing}
 use Rattle.nf_words.proofs.Fits.{within}
 use Rattle.nf_words.proofs.Found.{child_parent, found_passes}
-use Rattle.nf_words.proofs.Known.{Known, KnownCopies, KnownDeeds, KnownLeaving, KnownTransfer}
+use Rattle.nf_words.proofs.Known.{alone, Known, KnownCopies, KnownLeaving, KnownSettled, KnownTransfer, settled_known}
 use Rattle.nf_words.proofs.Known.KnownDeeds.{by_copying, by_crossing, by_moving}
 use Rattle.nf_words.proofs.Starts.{IsAsking}
 use Rattle.nf_words.proofs.Ways.{at_in, folder_present, HasRow, inside_no_root, inside_present, node_present, present_inside, slot_known, slot_present, taken_unmounted, way_there}
-use Rattle.nf_words.specs.Prelude.{access_of, AreSound, Call, carry_limit, copied, copy_limit, crosses, crossing, deepest_in, folder_at, folder_seen, found, is_off_mount, is_root_at, is_start, is_there, IsUnmounted, last_name, LeadsToRoot, misplaced, misplaced_by, moved, move_limit, moves, node_found, pieces_in, root_of, row_at, transfer_between, transfer_by, transfer_of, transfer_to, unfit_between, unreached, Way, way_of, Ways}
+use Rattle.nf_words.specs.Prelude.{access_of, AreSound, Call, carry_limit, charged_for, copied, copies, copy_limit, crosses, crossing, deepest_in, folder_at, folder_seen, found, is_off_mount, is_root_at, is_start, is_there, IsUnmounted, last_name, LeadsToRoot, misplaced, misplaced_by, moved, move_limit, moves, node_found, pieces_in, root_of, row_at, settled_by, transfer_between, transfer_by, transfer_of, transfer_to, unfit_between, unreached, Way, way_of, Ways}
 use Rattle.nf_words.specs.declared.answer.TargetFault.{TargetFault}
 use Rattle.nf_words.specs.declared.answer.TargetFault.TheVariants as target
 use Rattle.nf_words.specs.declared.request.Places.{Places}
@@ -204,7 +204,7 @@ module _ (call : Call) (source target : Spot) (sound : AreSound call.state.table
       → copy_limit t transfer ≡ None → KnownCopies t transfer (last_name target)
   copies_known transfer e fits some =
       let nodes = walk_of t.nodes transfer.node in
-      let fits_in = within t (length nodes) (deepest_in t.nodes transfer.node transfer.folder) (pieces_in t.nodes nodes) 0 some in
+      let fits_in = within t (length nodes) (deepest_in t.nodes transfer.node transfer.folder) 0 (pieces_in t.nodes nodes) 0 some in
       record {
         known = transfer_known transfer e fits fits_in.deep;
         nodes = fits_in.nodes;
@@ -220,15 +220,18 @@ module _ (call : Call) (source target : Spot) (sound : AreSound call.state.table
     where
       carried : (transfer : Transfer) (b : Bool) → crosses t.nodes transfer ≡ b → transfer_of t.nodes places ≡ Some transfer
           → (if b then copy_limit t transfer else move_limit t transfer) ≡ None
-          → KnownDeeds t call.now (if b then crossing t call.now (last_name target) transfer else moves t call.now (last_name target) transfer)
+          → KnownSettled t call.now (if b then settled_by t (charged_for t transfer) (crossing t call.now (last_name target) transfer)
+          else moves t call.now (last_name target) transfer)
       carried transfer true across e some =
-          by_crossing transfer (last_name target) (record { copies = copies_known transfer e fits some; crosses = across })
+          settled_known t call.now (charged_for t transfer) (crossing t call.now (last_name target) transfer)
+          (by_crossing transfer (last_name target) (record { copies = copies_known transfer e fits some; crosses = across }))
       carried transfer false across e some =
-          by_moving transfer (last_name target)
+          alone t call.now (moves t call.now (last_name target) transfer)
+          (by_moving transfer (last_name target)
           (record {
-            known = transfer_known transfer e fits (within t 0 (deepest_in t.nodes transfer.node transfer.folder) 0 0 some).deep;
+            known = transfer_known transfer e fits (within t 0 (deepest_in t.nodes transfer.node transfer.folder) 0 0 0 some).deep;
             within = across;
-          })
+          }))
 
       here : (o : Option Transfer) → transfer_of t.nodes places ≡ o → option_and_then (carry_limit t) o ≡ None
           → Known t call.now (moved t call.now (last_name target) o)
@@ -242,7 +245,9 @@ module _ (call : Call) (source target : Spot) (sound : AreSound call.state.table
       here : (o : Option Transfer) → transfer_of t.nodes places ≡ o → option_and_then (copy_limit t) o ≡ None
           → Known t call.now (copied t call.now (last_name target) o)
       here None e some = tt
-      here (Some transfer) e some = by_copying transfer (last_name target) (copies_known transfer e fits some)
+      here (Some transfer) e some =
+          settled_known t call.now (charged_for t transfer) (copies t call.now (last_name target) transfer)
+          (by_copying transfer (last_name target) (copies_known transfer e fits some))
 
 -- ---- what leaves its place
 

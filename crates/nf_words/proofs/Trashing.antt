@@ -17,12 +17,12 @@ use Rattle.nf_defs.specs.Prelude.{item_key, item_row, key_cmp, node_row, Tables,
 use Rattle.nf_retention.specs.Trash.{is_newer, newest_first, put_newest}
 use Rattle.nf_words.proofs.Asks.{nothing_known}
 use Rattle.nf_words.proofs.Fits.{within}
+use Rattle.nf_words.proofs.Forgetting.{heads, tails}
 use Rattle.nf_words.proofs.Found.{found_passes}
-use Rattle.nf_words.proofs.Known.{IsItem, Known, KnownDeeds, KnownGoes, KnownLeaving, KnownRestore}
+use Rattle.nf_words.proofs.Known.{alone, IsItem, Known, KnownDeeds, KnownGoes, KnownLeaving, KnownRestore, settled_known}
 use Rattle.nf_words.proofs.Known.KnownDeeds.{by_going, by_requoting, by_restoring}
-use Rattle.nf_words.specs.Prelude.{AreSound, deepest_in, done, gone_beside, gone_of, home_of, IsItemSound, item_dropped, item_for, item_if_of, item_restored, items_but, items_of, name_back, nothing_done, purges, quota_of, requoted, restore_limit}
+use Rattle.nf_words.specs.Prelude.{AreSound, charged, charged_to, deepest_in, done, gone_beside, gone_of, home_of, IsItemSound, item_dropped, item_for, item_if_of, item_restored, item_size, items_but, items_of, name_back, nothing_done, purges, quota_of, requoted, requoting, restore_limit, restoring, settled_by}
 use Rattle.nf_words.specs.declared.answer.Allowed.{Allowed}
-use Rattle.nf_words.specs.declared.answer.Deed.TheVariants as deed
 use Rattle.nf_words.specs.declared.answer.Report.TheVariants as report
 
 -- ---- items, newest first
@@ -45,12 +45,6 @@ AreTwo a b = a.node ≢ b.node
 
 turned : (a b : ItemRow) → AreTwo a b → AreTwo b a
 turned a b two = λ same. two (sym same)
-
-pub heads : {X : Type 0} (R : X → X → Type 0) (x : X) (xs : List X) → AllPairs R (x ∷ xs) → All (R x) xs
-heads R x xs pairs k d within = pairs 0 (suc k) d (omega arith) (omega (arith, within))
-
-pub tails : {X : Type 0} (R : X → X → Type 0) (x : X) (xs : List X) → AllPairs R (x ∷ xs) → AllPairs R xs
-tails R x xs pairs i j d before within = pairs (suc i) (suc j) d (omega (arith, before)) (omega (arith, within))
 
 put_two : (item : ItemRow) (items : List ItemRow) → All (AreTwo item) items → AllPairs AreTwo items → AllPairs AreTwo (put_newest item items)
 put_two item [] all pairs = AllPairs-cons AreTwo item [] all pairs
@@ -189,7 +183,8 @@ module _ (t : Tables) (sound : AreSound t) where
       → IsKnown now (option_map_or (item_dropped t now) o nothing_done)
   dropped_known now user node None is = nothing_known t now
   dropped_known now user node (Some item) is =
-      by_going (item.node ∷ gone_beside t now item) (dropped_goes now item (own_is user node item is))
+      alone t now (purges (item.node ∷ gone_beside t now item))
+      (by_going (item.node ∷ gone_beside t now item) (dropped_goes now item (own_is user node item is)))
 
   pub emptied_items : (user : ℕ) → All (IsItem t) (map (λ item. item.node) (items_of t user))
   emptied_items user = All-map (IsItem t) NodeOf (items_of t user) (of_user user)
@@ -219,7 +214,7 @@ module _ (t : Tables) (sound : AreSound t) where
           there = ap (item_row t.items) id ∙ there;
           home = refl;
           named = refl;
-          deep = (within t 0 (deepest_in t.nodes item.node (home_of t item)) 0 0 fits).deep;
+          deep = (within t 0 (deepest_in t.nodes item.node (home_of t item)) 0 0 0 fits).deep;
         };
         goes = record { items = beside_goes now item; once = beside_once now item };
         others = beside_others now item;
@@ -230,9 +225,13 @@ module _ (t : Tables) (sound : AreSound t) where
   restored_known now user node None is few = nothing_known t now
   restored_known now user node (Some item) is few =
       let back = back_known now user node item is few in
-      by_restoring item.node (home_of t item) (name_back t item) (gone_beside t now item) back.restore back.goes back.others
+      settled_known t now (charged t item.owner 0 (item_size t item)) (restoring t now item)
+      (by_restoring item.node (home_of t item) (name_back t item) (gone_beside t now item) back.restore back.goes back.others)
 
   -- ---- another quota
+
+  pub quota_goes : (now quota user : ℕ) → KnownGoes t (gone_of t now quota (items_of t user))
+  quota_goes now quota user = record { items = user_goes now quota user; once = user_once now quota user }
 
   pub requoted_known : (now quota : ℕ) (row : UserRow) → user_row t.users row.id ≡ Some row → IsKnown now (requoted t now quota row)
   requoted_known now quota row there = here (row.quota == quota) refl
@@ -243,17 +242,19 @@ module _ (t : Tables) (sound : AreSound t) where
       another : UserRow
       another = record row { quota = quota }
 
-      here : (b : Bool) → (row.quota == quota) ≡ b → IsKnown now (if b then nothing_done else done (deed.Requote another ∷ purges gone) report.Plain)
+      here : (b : Bool) → (row.quota == quota) ≡ b
+          → IsKnown now (if b then nothing_done else done (settled_by t (charged_to t quota row) (requoting t now quota row)) report.Plain)
       here true e = nothing_known t now
       here false e =
-          by_requoting another gone
+          settled_known t now (charged_to t quota row) (requoting t now quota row)
+          (by_requoting another gone
           (record {
             old = row;
             there = there;
             same = refl;
             other = λ same. both_ways (row.quota == quota) e (eq-eqb row.quota quota (sym (ap (λ (r : UserRow). r.quota) same)));
           })
-          (record { items = user_goes now quota row.id; once = user_once now quota row.id })
+          (quota_goes now quota row.id))
 
   -- ---- what leaves its place
 

@@ -9,9 +9,11 @@ use Rattle.nf_words.specs.declared.request.ShareAsk.{ShareAsk}
 use Rattle.nf_words.specs.declared.request.ShareAsk.TheVariants as ask
 use Rattle.nf_words.specs.declared.request.TrashAsk.{TrashAsk}
 use Rattle.nf_words.specs.declared.request.TrashAsk.TheVariants as trash
-use Rattle.nf_words.specs.declared.request.Wanted.TheVariants.{Get, Put, Mkcol, Delete, Move, Copy, Share, People, Trash}
+use Rattle.nf_words.specs.declared.request.VersionAsk.{VersionAsk}
+use Rattle.nf_words.specs.declared.request.VersionAsk.TheVariants as version
+use Rattle.nf_words.specs.declared.request.Wanted.TheVariants.{Get, Put, Mkcol, Delete, Move, Copy, Share, People, Trash, Version}
 
--- the user whose trash it is about, the place of what it acts upon, that of what it makes or stores over, what it makes there, whether what is at the source doesn't
+-- the user whose trash it is about or who asks about versions, the place of what it acts upon, that of what it makes or stores over, what it makes there, whether what is at the source doesn't
 -- stay, and whether what is at the target may be replaced
 pub record Asked : Type 0 where
   pub user : Option (List ℕ)
@@ -39,6 +41,12 @@ asked_of_trash (trash.Drop user item) = record asks_nothing { user = Some user }
 asked_of_trash (trash.Empty user) = record asks_nothing { user = Some user }
 asked_of_trash (trash.Restore user item) = record asks_nothing { user = Some user; makes = making.Restored item }
 
+-- a version is sent, or is the file's content again
+abbrev pub asked_of_version : VersionAsk → Asked
+asked_of_version (version.List user node) = record asks_nothing { user = Some user }
+asked_of_version (version.Get user node at) = record asks_nothing { user = Some user; makes = making.Sent node }
+asked_of_version (version.Restore user node at) = record asks_nothing { user = Some user; makes = making.Refilled node at }
+
 abbrev pub asked_of : Wanted → Asked
 asked_of (Get spot) = record asks_nothing { source = Some spot }
 asked_of (Put spot length) = record asks_nothing { target = Some spot; makes = making.File length; overwrites = true }
@@ -51,6 +59,7 @@ asked_of (Copy source target overwrite) =
 asked_of (Share ask) = asked_about ask
 asked_of (People ask) = asks_nothing
 asked_of (Trash ask) = asked_of_trash ask
+asked_of (Version ask) = asked_of_version ask
 
 -- ---- what follows from it
 
@@ -83,6 +92,8 @@ is_transfer making.Copied = true
 is_transfer making.Shared = false
 is_transfer making.Told = false
 is_transfer (making.Restored item) = false
+is_transfer (making.Sent node) = false
+is_transfer (making.Refilled node at) = false
 
 -- something is asked about shares
 abbrev pub is_about_shares : Wanted → Bool
@@ -99,4 +110,5 @@ abbrev pub is_about_files : Wanted → Bool
 is_about_files (Share ask) = false
 is_about_files (People ask) = false
 is_about_files (Trash ask) = false
+is_about_files (Version ask) = false
 is_about_files other = true

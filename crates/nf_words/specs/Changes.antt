@@ -1,5 +1,5 @@
 -- What each act changes and is answered, where no rule refuses it.
-use Rattle.std.specs.Prelude.{ℕ, ◌+◌, ◌==◌, ◌&&◌, not, Bool, true, false, List, [], ◌∷◌, ◌++◌, filter, length, map, max, Option, None, Some, is_none, option_map, option_and_then, if◌then◌else◌}
+use Rattle.std.specs.Prelude.{ℕ, ◌+◌, ◌-◌, ◌==◌, ◌&&◌, not, Bool, true, false, List, [], ◌∷◌, ◌++◌, filter, length, map, max, Option, None, Some, is_none, option_map, option_and_then, if◌then◌else◌}
 use Rattle.std.specs.Option.{option_map_or}
 use Rattle.nf_access.specs.Mounts.{mount_row}
 use Rattle.nf_base.specs.Content.{content_eq}
@@ -14,13 +14,13 @@ use Rattle.nf_base.specs.declared.rows.NodeRow.{NodeRow}
 use Rattle.nf_base.specs.declared.rows.Place.TheVariants.{Inside}
 use Rattle.nf_base.specs.declared.rows.Row.TheVariants as rows
 use Rattle.nf_base.specs.declared.rows.ShareRow.{ShareRow}
-use Rattle.nf_defs.specs.Prelude.{Access, content_of, is_folder, node_row, owner_of, put_all, Tables}
+use Rattle.nf_defs.specs.Prelude.{Access, content_of, filled, is_folder, node_row, owner_of, put_all, Tables}
 use Rattle.nf_defs.specs.declared.Found.{Found}
 use Rattle.nf_defs.specs.declared.Found.TheVariants.{At, Free, Missing}
 use Rattle.nf_words.specs.State.{State, ticket_for}
 use Rattle.nf_words.specs.Calls.{asker_of, Call, last_name, places_of, seeker_of, Way, way_of}
 use Rattle.nf_words.specs.Copies.{copies_to}
-use Rattle.nf_words.specs.Listing.{listing_of}
+use Rattle.nf_words.specs.Listing.{listing_of, size_of}
 use Rattle.nf_words.specs.People.{people_changed, put_mounts, row_named}
 use Rattle.nf_words.specs.Places.{crosses, node_at, transfer_of}
 use Rattle.nf_words.specs.Sharing.{mounts_for, new_share, offered, perms_after, share_line, share_lines, share_shown, share_steered, until_after}
@@ -46,10 +46,15 @@ use Rattle.nf_words.specs.declared.answer.Reply.TheVariants as reply
 use Rattle.nf_words.specs.declared.answer.Report.{Report}
 use Rattle.nf_words.specs.declared.answer.Report.TheVariants as report
 use Rattle.nf_words.specs.declared.history.Ticket.{Ticket}
-use Rattle.nf_words.specs.Charges.{quota_of}
+use Rattle.nf_words.specs.Charges.{charge_of, quota_of}
 use Rattle.nf_words.specs.Deeds.{deeds_done, ended_row, told_deeds}
 use Rattle.nf_words.specs.declared.answer.Deed.{Deed}
-use Rattle.nf_words.specs.Trash.{gone_of, item_for, item_lines, items_but, items_of, own_item, owners_of}
+use Rattle.nf_words.specs.Trash.{gone_of, item_for, item_lines, item_size, items_but, items_of, own_item, owners_of}
+use Rattle.nf_words.specs.Versions.{beyond_bound, content_size, gone_after, held_without, turned_over, version_lines, version_row}
+use Rattle.nf_retention.specs.declared.versions.Version.{Version}
+use Rattle.nf_base.specs.declared.rows.VersionRow.{VersionRow}
+use Rattle.nf_words.specs.declared.request.VersionAsk.{VersionAsk}
+use Rattle.nf_words.specs.declared.request.VersionAsk.TheVariants as version
 use Rattle.nf_words.specs.Homes.{home_of, name_back}
 use Rattle.nf_base.specs.declared.rows.ItemRow.{ItemRow}
 use Rattle.nf_base.specs.declared.rows.UserRow.{UserRow}
@@ -150,6 +155,35 @@ deleted t now node = done (discards t now node ++ besides t now node) report.Don
 abbrev pub made_or_done : Option ℕ → Report
 made_or_done replaced = option_map_or (λ node. report.Done) replaced report.Made
 
+-- ---- what an owner's charge leaves to old versions
+
+-- a user whose files take up so many bytes after a step, and may take up so many
+pub record Charged : Type 0 where
+  pub owner : ℕ
+  pub charge : ℕ
+  pub quota : ℕ
+
+-- with so many bytes in the place of so many
+abbrev pub charged : Tables → ℕ → ℕ → ℕ → Charged
+charged t user old new = record { owner = user; charge = charge_of t user - old + new; quota = quota_of t user }
+
+-- the nodes that go for good by some deeds
+abbrev pub purged_by : Deed → List ℕ
+purged_by (deed.Purge node) = node ∷ []
+purged_by other = []
+
+-- the versions of an owner that go once some nodes are gone
+abbrev pub unsettled : Tables → Charged → List ℕ → List Version
+unsettled t to gone = beyond_bound to.quota to.charge (held_without t to.owner gone)
+
+-- some versions go
+abbrev pub forgets : List Version → List Deed
+forgets versions = map (λ version. deed.Forget version.node version.at) versions
+
+-- deeds, and those by which an owner's versions go that are beyond their bound then
+abbrev pub settled_by : Tables → Charged → List Deed → List Deed
+settled_by t to deeds = deeds ++ forgets (unsettled t to (flat_map purged_by deeds))
+
 -- MOVE puts the node that is there, and COPY copies of it and of all under it, into the target's folder under the target's name. What
 -- is replaced is put in the trash. What goes to another owner is copied there, and is then put in the trash of its owner. What goes for
 -- good beside these goes last
@@ -167,8 +201,18 @@ crossing t now name transfer =
     ++ deed.Join (copies_to t now transfer name)
     ∷ (discards t now (Some transfer.node) ++ (besides t now transfer.replaced ++ besides t now (Some transfer.node)))
 
+-- the owner of the folder of copies is charged for them, in the place of what they replace
+abbrev pub charged_for : Tables → Transfer → Charged
+charged_for t transfer =
+    charged t (owner_of t.nodes transfer.folder) (option_map_or (size_of t.nodes) transfer.replaced 0) (size_of t.nodes transfer.node)
+
+-- of the versions of that owner those go last that are beyond their bound then
 abbrev pub carries : Tables → ℕ → List ℕ → Transfer → List Deed
-carries t now name transfer = if crosses t.nodes transfer then crossing t now name transfer else moves t now name transfer
+carries t now name transfer =
+    if crosses t.nodes transfer then settled_by t (charged_for t transfer) (crossing t now name transfer) else moves t now name transfer
+
+abbrev pub copies_settled : Tables → ℕ → List ℕ → Transfer → List Deed
+copies_settled t now name transfer = settled_by t (charged_for t transfer) (copies t now name transfer)
 
 abbrev pub moved : Tables → ℕ → List ℕ → Option Transfer → Allowed
 moved t now name transfer =
@@ -176,7 +220,7 @@ moved t now name transfer =
 
 abbrev pub copied : Tables → ℕ → List ℕ → Option Transfer → Allowed
 copied t now name transfer =
-    option_map_or (λ transfer. done (copies t now name transfer) (made_or_done transfer.replaced)) transfer allowed.Close
+    option_map_or (λ transfer. done (copies_settled t now name transfer) (made_or_done transfer.replaced)) transfer allowed.Close
 
 -- the change that puts the row of a mount, if there is one
 abbrev pub mounting : Option MountRow → List Change
@@ -254,9 +298,12 @@ gone_beside t now item = gone_of t now (quota_of t item.owner) (items_but t item
 abbrev pub item_dropped : Tables → ℕ → ItemRow → Allowed
 item_dropped t now item = done (purges (item.node ∷ gone_beside t now item)) report.Done
 
+-- an item comes back, and of the others those go that do then
+abbrev pub restoring : Tables → ℕ → ItemRow → List Deed
+restoring t now item = deed.Restore item.node (home_of t item) (name_back t item) ∷ purges (gone_beside t now item)
+
 abbrev pub item_restored : Tables → ℕ → ItemRow → Allowed
-item_restored t now item =
-    done (deed.Restore item.node (home_of t item) (name_back t item) ∷ purges (gone_beside t now item)) report.Made
+item_restored t now item = done (settled_by t (charged t item.owner 0 (item_size t item)) (restoring t now item)) report.Made
 
 abbrev pub trash_done : Call → TrashAsk → Allowed
 trash_done call (trash.List user) = allowed.Change [] None (report.Items (item_lines call.state.tables (asker_of call)))
@@ -264,6 +311,38 @@ trash_done call (trash.Drop user item) = option_map_or (item_dropped call.state.
 trash_done call (trash.Empty user) =
     done (purges (map (λ item. item.node) (items_of call.state.tables (asker_of call)))) report.Done
 trash_done call (trash.Restore user item) = option_map_or (item_restored call.state.tables call.now) (own_item call item) nothing_done
+
+-- ---- versions
+
+-- a file has that content since that moment
+abbrev pub is_same : ℕ → List Piece → NodeRow → Bool
+is_same now content row = content_eq row.content content && row.changed == now
+
+-- what becomes of versions where that is a file's content, with the one of the moment `back` in its place, where one comes back
+abbrev pub turns_over : Tables → ℕ → Option ℕ → List Piece → NodeRow → List Change
+turns_over t now back content row =
+    let to = charged t row.owner (content_size row.content) (content_size content) in turned_over t back row (gone_after t now back row to.quota to.charge)
+
+-- a file has that content: its row, if that is another, and what becomes of versions
+abbrev pub refills : Tables → ℕ → Option ℕ → List Piece → NodeRow → List Change
+refills t now back content row =
+    (if is_same now content row then [] else Put (rows.Node (filled content now row)) ∷ []) ++ turns_over t now back content row
+
+-- nothing, where it has
+abbrev pub refilled : Tables → ℕ → List Piece → NodeRow → List Change
+refilled t now content row = if is_same now content row then [] else refills t now None content row
+
+-- a version is its file's content again
+abbrev pub brought_back : Tables → ℕ → ℕ → VersionRow → Allowed
+brought_back t now node version =
+    allowed.Change (option_map_or (refills t now (Some version.at) version.content) (node_row t.nodes node) []) None report.Done
+
+abbrev pub version_done : Tables → ℕ → VersionAsk → Allowed
+version_done t now (version.List user node) = allowed.Change [] None (report.Versions (version_lines t.versions node))
+version_done t now (version.Get user node at) =
+    option_map_or (λ (row : VersionRow). allowed.Get node row.content) (version_row t.versions node at) nothing_done
+version_done t now (version.Restore user node at) =
+    option_map_or (brought_back t now node) (version_row t.versions node at) nothing_done
 
 -- what the trash of a user doesn't hold any more
 abbrev pub gone_from : Tables → ℕ → ℕ → List ℕ
@@ -275,11 +354,18 @@ swept t now = done (purges (flat_map (gone_from t now) (owners_of t.items))) rep
 
 -- ---- people
 
--- a user has another quota, if it is another, and of the user's trash what is beyond it goes
+-- a user has another quota, and of the user's trash what is beyond it goes
+abbrev pub requoting : Tables → ℕ → ℕ → UserRow → List Deed
+requoting t now quota row = deed.Requote (record row { quota = quota }) ∷ purges (gone_of t now quota (items_of t row.id))
+
+-- a user with that quota
+abbrev pub charged_to : Tables → ℕ → UserRow → Charged
+charged_to t quota row = record { owner = row.id; charge = charge_of t row.id; quota = quota }
+
+-- if it is another; and of the user's versions
 abbrev pub requoted : Tables → ℕ → ℕ → UserRow → Allowed
 requoted t now quota row =
-    if row.quota == quota then nothing_done
-    else done (deed.Requote (record row { quota = quota }) ∷ purges (gone_of t now quota (items_of t row.id))) report.Plain
+    if row.quota == quota then nothing_done else done (settled_by t (charged_to t quota row) (requoting t now quota row)) report.Plain
 
 abbrev pub people_done : Tables → ℕ → PeopleAsk → Allowed
 people_done t now (people.SetQuota user quota) = option_map_or (requoted t now quota) (row_named t user) nothing_done
@@ -300,6 +386,7 @@ given access call places (wanted.Copy source target overwrite) =
 given access call places (wanted.Share ask) = shared access call places ask
 given access call places (wanted.People asked) = people_done call.state.tables call.now asked
 given access call places (wanted.Trash asked) = trash_done call asked
+given access call places (wanted.Version asked) = version_done call.state.tables call.now asked
 
 -- what a call that no rule refuses may do, by what shares let their seekers do
 abbrev pub allowed_of : Access → Call → Allowed
@@ -339,13 +426,6 @@ altered t now (allowed.Deeds deeds report) = deeds_done t deeds
 altered t now allowed.Close = t
 
 -- ---- the same, told as a list of the rows that differ
-
--- a node's row with another content, where that is another
-abbrev pub refilled : Option NodeRow → ℕ → List Piece → List Change
-refilled None now content = []
-refilled (Some row) now content =
-    if content_eq row.content content && row.changed == now then []
-    else Put (rows.Node (record row { content = content; changed = now })) ∷ []
 
 -- the rows that an act changes, but for the meta row
 abbrev pub told : Tables → Allowed → List Change
@@ -440,6 +520,7 @@ reported report.Done = Done
 reported (report.Share line) = reply.Share line
 reported (report.Shares lines) = reply.Shares lines
 reported (report.Items lines) = reply.Items lines
+reported (report.Versions lines) = reply.Versions lines
 reported report.Plain = reply.Plain
 
 -- what is answered

@@ -17,6 +17,8 @@ use Rattle.nf_words.specs.declared.answer.Denial.TheVariants as denial
 use Rattle.nf_words.specs.declared.answer.Excess.{Excess}
 use Rattle.nf_base.specs.declared.rows.ItemRow.{ItemRow}
 use Rattle.nf_words.specs.Trash.{item_size}
+use Rattle.nf_base.specs.declared.rows.VersionRow.{VersionRow}
+use Rattle.nf_words.specs.Versions.{content_size, version_row}
 
 -- the bytes of a row that count for a user: those of what is the user's and present, whoever wrote it
 abbrev pub counted_for : Tables → ℕ → NodeRow → ℕ
@@ -57,6 +59,10 @@ carry_excess t transfer = if crosses t.nodes transfer then copy_excess t transfe
 abbrev pub restore_excess : Tables → ItemRow → Option Excess
 restore_excess t item = excess t item.owner 0 (item_size t item)
 
+-- and so is a version that is its file's content again, in the place of what the file has
+abbrev pub back_excess : Tables → ℕ → VersionRow → Option Excess
+back_excess t node version = excess t (owner_of t.nodes node) (bytes_of t.nodes node) (content_size version.content)
+
 -- by how much what is made would pass the quota of who is charged for it
 abbrev pub exceeded : Tables → Places → Making → Option Excess
 exceeded t places making.Nothing = None
@@ -67,6 +73,8 @@ exceeded t places making.Copied = option_and_then (copy_excess t) (transfer_of t
 exceeded t places making.Shared = None
 exceeded t places making.Told = None
 exceeded t places (making.Restored item) = option_and_then (restore_excess t) (item_row t.items item)
+exceeded t places (making.Sent node) = None
+exceeded t places (making.Refilled node at) = option_and_then (back_excess t node) (version_row t.versions node at)
 
 -- `quota`: the step would take a charge beyond its quota
 unfoldable pub quota_rule : Access → Call → Option Denial

@@ -8,10 +8,11 @@ use Rattle.nf_base.specs.declared.rows.ItemRow.{ItemRow}
 use Rattle.nf_base.specs.declared.rows.NodeRow.{NodeRow}
 use Rattle.nf_base.specs.declared.rows.Row.TheVariants as kinds
 use Rattle.nf_base.specs.declared.rows.ShareRow.{ShareRow}
-use Rattle.nf_defs.specs.Prelude.{dropped, is_under, item_key, item_row, node_row, put, relinked, Tables, user_key, walk_of, with_node, without_under}
+use Rattle.nf_defs.specs.Prelude.{dropped, is_under, item_key, item_row, node_row, put, relinked, Tables, user_key, version_key, walk_of, with_node, without_under}
 use Rattle.nf_defs.specs.Tree.{trashed}
 use Rattle.nf_words.specs.declared.answer.Deed.{Deed}
 use Rattle.nf_words.specs.declared.answer.Deed.TheVariants as deed
+use Rattle.nf_words.specs.Versions.{forgotten_under, versions_there}
 
 -- ---- what goes for good
 
@@ -48,13 +49,18 @@ discarded t item = record t {
   items = put item_key item t.items;
 }
 
--- the nodes under one are gone for good, and so is its item; their shares are ended
+-- the nodes under one are gone for good, and so are its item and their versions; their shares are ended
 abbrev pub purged : Tables → ℕ → Tables
 purged t node = record t {
   nodes = without_under t.nodes node;
   shares = ended_under t.nodes node t.shares;
   items = dropped item_key (node ∷ []) t.items;
+  versions = versions_there (without_under t.nodes node) t.versions;
 }
+
+-- a version is there no more
+abbrev pub forgotten : Tables → ℕ → ℕ → Tables
+forgotten t node at = record t { versions = dropped version_key (node ∷ at ∷ []) t.versions }
 
 -- the node of an item is in a folder again
 abbrev pub restored : Tables → ℕ → ℕ → List ℕ → Tables
@@ -74,6 +80,7 @@ deed_done t (deed.Restore node folder name) = restored t node folder name
 deed_done t (deed.Relink node folder name) = record t { nodes = with_node t.nodes node (relinked folder name) }
 deed_done t (deed.Join rows) = joined t rows
 deed_done t (deed.Requote row) = record t { users = put user_key row t.users }
+deed_done t (deed.Forget node at) = forgotten t node at
 
 -- one after the other
 abbrev pub deeds_done : Tables → List Deed → Tables
@@ -93,11 +100,12 @@ told_item t node = if is_some (item_row t.items node) then Drop (keys.Item node)
 abbrev pub told_deed : Tables → Deed → List Change
 told_deed t (deed.Discard item) =
     told_node (node_row t.nodes item.node) trashed ++ Put (kinds.Item item) ∷ closed_under t.nodes t.shares item.node
-told_deed t (deed.Purge node) = gone_under t.nodes t.shares node ++ told_item t node
+told_deed t (deed.Purge node) = forgotten_under t.nodes t.versions node ++ (gone_under t.nodes t.shares node ++ told_item t node)
 told_deed t (deed.Restore node folder name) = Drop (keys.Item node) ∷ told_node (node_row t.nodes node) (relinked folder name)
 told_deed t (deed.Relink node folder name) = told_node (node_row t.nodes node) (relinked folder name)
 told_deed t (deed.Join rows) = map (λ row. Put (kinds.Node row)) rows
 told_deed t (deed.Requote row) = Put (kinds.User row) ∷ []
+told_deed t (deed.Forget node at) = Drop (keys.Version node at) ∷ []
 
 -- each is told of the tables after those before it
 abbrev pub told_deeds : Tables → List Deed → List Change

@@ -1,6 +1,6 @@
 -- The End of a request in two steps. One with a body is decided by the tables of its own moment, not by those of its Begin.
-use Rattle.std.specs.Prelude.{ℕ, ◌==◌, ◌&&◌, is_some, List, [], ◌∷◌, Option, None, Some, option_map, option_and_then, Result, Ok, Err, if◌then◌else◌}
-use Rattle.std.specs.Option.{option_or}
+use Rattle.std.specs.Prelude.{ℕ, ◌==◌, ◌&&◌, is_some, List, [], ◌∷◌, map, Option, None, Some, option_map, option_and_then, Result, Ok, Err, if◌then◌else◌}
+use Rattle.std.specs.Option.{option_map_or, option_or}
 use Rattle.nf_access.specs.Mounts.{mount_at}
 use Rattle.nf_access.specs.Shares.{ground_of}
 use Rattle.nf_base.specs.declared.content.Piece.{Piece}
@@ -8,7 +8,11 @@ use Rattle.nf_base.specs.declared.rows.NodeKind.TheVariants.{File}
 use Rattle.nf_defs.specs.Prelude.{Access, is_root, node_row, owner_of, Tables}
 use Rattle.nf_defs.specs.declared.Found.{Found}
 use Rattle.nf_defs.specs.declared.Found.TheVariants.{At, Free}
-use Rattle.nf_words.specs.Changes.{makes, new_node, refilled}
+use Rattle.nf_words.specs.Changes.{charged, new_node, refilled, unsettled}
+use Rattle.nf_base.specs.declared.rows.NodeRow.{NodeRow}
+use Rattle.nf_words.specs.Versions.{content_size, drop_version}
+use Rattle.nf_base.specs.declared.changes.Change.TheVariants.{Put}
+use Rattle.nf_base.specs.declared.rows.Row.TheVariants as rows
 use Rattle.nf_words.specs.Charges.{excess_at}
 use Rattle.nf_words.specs.Holds.{node_of_key}
 use Rattle.nf_words.specs.Limits.{limit_at, pieces_of}
@@ -27,6 +31,7 @@ use Rattle.nf_words.specs.declared.answer.LockKey.TheVariants.{Node, Slot}
 use Rattle.nf_words.specs.declared.history.Outcome.{Outcome}
 use Rattle.nf_words.specs.declared.history.Outcome.TheVariants.{Sent, Gone, Body}
 use Rattle.nf_words.specs.declared.answer.Report.TheVariants.{Done}
+use Rattle.nf_words.specs.declared.answer.Report.TheVariants as report
 
 abbrev pub unless_refused : Option Denial → Allowed → Result Allowed Denial
 unless_refused None act = Ok act
@@ -74,13 +79,19 @@ abbrev pub content_in : Option ℕ → List ℕ → ℕ → List Piece
 content_in None digest length = []
 content_in (Some blob) digest length = record { blob = blob; size = length; digest = digest } ∷ []
 
--- what storing a body does: another content of the file, or a file under the free name
+-- a new file, whose body is in that blob, and the versions that go for it
+abbrev pub stored_new : Tables → NodeRow → Option ℕ → Allowed
+stored_new t row blob =
+    allowed.Change (Put (rows.Node row) ∷ map drop_version (unsettled t (charged t row.owner 0 (content_size row.content)) [])) blob
+    report.Made
+
+-- what storing a body does: another content of the file, or a file under the free name. Versions go that are beyond their bound then
 abbrev pub stored_at : Tables → ℕ → LockKey → List ℕ → ℕ → Allowed
 stored_at t now (Node node) digest length =
     let blob = blob_for t.meta.next_blob length in
-    allowed.Change (refilled (node_row t.nodes node) now (content_in blob digest length)) blob Done
+    allowed.Change (option_map_or (refilled t now (content_in blob digest length)) (node_row t.nodes node) []) blob Done
 stored_at t now (Slot folder name) digest length =
-    let blob = blob_for t.meta.next_blob length in makes (new_node t now folder name File (content_in blob digest length)) blob
+    let blob = blob_for t.meta.next_blob length in stored_new t (new_node t now folder name File (content_in blob digest length)) blob
 
 abbrev pub stores : Access → Tables → ℕ → By → LockKey → List ℕ → ℕ → Result Allowed Denial
 stores access t now by key digest length = unless_refused (end_refusal access t now by key length) (stored_at t now key digest length)

@@ -3,7 +3,7 @@ use Rattle.std.specs.Prelude.{◌≡◌, ◌≢◌, ◌⊎◌, List, ℕ, ◌+�
 use Rattle.nf_access.specs.Mounts.{mount_at, mount_row, root_folder}
 use Rattle.nf_access.specs.Making.{is_token_taken}
 use Rattle.nf_access.specs.Shares.{chain_of, share_row}
-use Rattle.nf_base.specs.declared.limits.TheConstants.{MAX_CHAIN, MAX_DEPTH, MAX_GROUPS, MAX_MEMBERS, MAX_MOUNTS, MAX_NODES, MAX_SHARES, MAX_STORED_PIECES, MAX_TOKENS, MAX_USERS}
+use Rattle.nf_base.specs.declared.limits.TheConstants.{MAX_CHAIN, MAX_DEPTH, MAX_GROUPS, MAX_MEMBERS, MAX_MOUNTS, MAX_NODES, MAX_SHARES, MAX_STORED_PIECES, MAX_TOKENS, MAX_USERS, MAX_VERSIONS}
 use Rattle.nf_base.specs.declared.changes.Change.{Change}
 use Rattle.nf_base.specs.declared.changes.Change.TheVariants.{Put, Drop}
 use Rattle.nf_base.specs.declared.changes.RowKey.TheVariants as keys
@@ -16,7 +16,8 @@ use Rattle.nf_base.specs.declared.rows.Row.TheVariants as rows
 use Rattle.nf_base.specs.declared.rows.ShareRow.{ShareRow}
 use Rattle.nf_base.specs.declared.rows.TokenRow.{TokenRow}
 use Rattle.nf_base.specs.declared.rows.UserRow.{UserRow}
-use Rattle.nf_defs.specs.Prelude.{child_of, depth, filled, group_named, group_row, holder_of, is_folder, is_folder_kind, is_member_of, is_root, node_row, owner_of, Tables, user_named, user_row}
+use Rattle.nf_base.specs.declared.rows.VersionRow.{VersionRow}
+use Rattle.nf_defs.specs.Prelude.{child_of, depth, filled, group_named, group_row, holder_of, is_file, is_folder, is_folder_kind, is_member_of, is_root, node_row, owner_of, Tables, user_named, user_row}
 use Rattle.nf_words.specs.Contents.{IsPieceSound, stored_pieces}
 use Rattle.nf_words.specs.Others.{IsKindSound, IsOfNode}
 use Rattle.nf_words.specs.Present.{LeadsToRoot}
@@ -56,6 +57,14 @@ pub record IsFilled (t : Tables) (row : NodeRow) : Type 0 where
   pub changed : row.changed ≤ t.meta.last
   pub pieces : All (IsPieceSound t) row.content
   pub few_pieces : (stored_pieces t + length row.content ≤ MAX_STORED_PIECES) ⊎ (row.content ≡ old.content)
+
+-- a version of a file that is there, in the place of one of that moment or as one more
+pub record IsNewVersion (t : Tables) (row : VersionRow) : Type 0 where
+  pub file : is_file t.nodes row.node ≡ true
+  pub some : row.content ≢ []
+  pub pieces : All (IsPieceSound t) row.content
+  pub few : length t.versions + 1 ≤ MAX_VERSIONS
+  pub few_pieces : stored_pieces t + length row.content ≤ MAX_STORED_PIECES
 
 -- a mount that is there, and is left, or has a name that is free in its user's root
 pub record IsRemounted (t : Tables) (row : MountRow) : Type 0 where

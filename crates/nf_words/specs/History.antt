@@ -67,6 +67,8 @@ IsShort making.Copied = Unit {0}
 IsShort making.Shared = Unit {0}
 IsShort making.Told = Unit {0}
 IsShort (making.Restored item) = Unit {0}
+IsShort (making.Sent node) = Unit {0}
+IsShort (making.Refilled node at) = Unit {0}
 
 -- a place names its user exactly where the caller isn't a link and nothing is asked about shares
 abbrev pub NamesUser : Request → Spot → Type 0

@@ -6,18 +6,16 @@ use Rattle.nf_base.specs.declared.rows.Row.TheVariants as rows
 use Rattle.nf_defs.specs.Prelude.{Tables}
 
 pub data Kind : Type 0 where
-  versions : Kind
   uploads : Kind
   chunks : Kind
 
 -- the kinds to come: what builds one deletes it here
 abbrev pub later_kinds : List Kind
-later_kinds = versions ∷ uploads ∷ chunks ∷ []
+later_kinds = uploads ∷ chunks ∷ []
 
 -- ---- a row
 
 abbrev pub is_of : Row → Kind → Bool
-is_of (rows.Version row) versions = true
 is_of (rows.Upload row) uploads = true
 is_of (rows.Chunk row) chunks = true
 is_of row kind = false
@@ -29,7 +27,6 @@ is_later row = list_any (is_of row) later_kinds
 -- ---- tables
 
 abbrev pub HasNone : Tables → Kind → Type 0
-HasNone t versions = t.versions ≡ []
 HasNone t uploads = t.uploads ≡ []
 HasNone t chunks = t.chunks ≡ []
 

@@ -4,6 +4,7 @@ pub mod Calls
 pub mod Callers
 pub mod Places
 pub mod Contents
+pub mod Versions
 pub mod Present
 pub mod Needed
 pub mod Homes

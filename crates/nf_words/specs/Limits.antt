@@ -1,8 +1,9 @@
 -- The limits of the site, and the rule that none is passed.
 use Rattle.std.specs.Prelude.{ℕ, ◌+◌, ◌-◌, ◌==◌, ◌||◌, nat_lt, max, List, [], ◌∷◌, filter, length, sum_by, Option, None, Some, is_none, option_map, option_and_then, if◌then◌else◌}
+use Rattle.std.specs.Option.{option_map_or}
 use Rattle.nf_access.specs.Mounts.{mount_row}
-use Rattle.nf_defs.specs.Prelude.{Access, content_of, depth, item_row, Tables, walk_of}
-use Rattle.nf_base.specs.declared.limits.TheConstants.{MAX_DEPTH, MAX_GROUPS, MAX_MEMBERS, MAX_MOUNTS, MAX_NODES, MAX_SHARES, MAX_STORED_PIECES, MAX_TOKENS, MAX_USERS}
+use Rattle.nf_defs.specs.Prelude.{Access, content_of, depth, item_row, node_row, Tables, walk_of}
+use Rattle.nf_base.specs.declared.limits.TheConstants.{MAX_DEPTH, MAX_GROUPS, MAX_MEMBERS, MAX_MOUNTS, MAX_NODES, MAX_SHARES, MAX_STORED_PIECES, MAX_TOKENS, MAX_USERS, MAX_VERSIONS}
 use Rattle.nf_base.specs.declared.rows.MountRow.{MountRow}
 use Rattle.nf_base.specs.declared.rows.NodeRow.{NodeRow}
 use Rattle.nf_defs.specs.declared.Found.{Found}
@@ -20,6 +21,8 @@ use Rattle.nf_words.specs.declared.answer.Limit.{Limit}
 use Rattle.nf_words.specs.declared.answer.Limit.TheVariants as limit
 use Rattle.nf_base.specs.declared.rows.ItemRow.{ItemRow}
 use Rattle.nf_words.specs.Homes.{home_of}
+use Rattle.nf_base.specs.declared.rows.VersionRow.{VersionRow}
+use Rattle.nf_words.specs.Versions.{becomes_version, version_row}
 
 -- the number of a limit
 abbrev pub count_of : Limit → ℕ
@@ -31,6 +34,7 @@ count_of limit.Nodes = MAX_NODES
 count_of limit.Depth = MAX_DEPTH
 count_of limit.Shares = MAX_SHARES
 count_of limit.Mounts = MAX_MOUNTS
+count_of limit.Versions = MAX_VERSIONS
 count_of limit.Pieces = MAX_STORED_PIECES
 
 -- the greatest number that a counter holds, of nodes, shares and blobs, and of users and groups
@@ -40,11 +44,13 @@ last_number = 18446744073709551615
 abbrev pub last_short : ℕ
 last_short = 4294967295
 
--- the first limit that is passed by so many nodes more, the deepest of them so deep, so many pieces more, and so many new blobs
-abbrev pub limit_passed : Tables → ℕ → ℕ → ℕ → ℕ → Option Limit
-limit_passed t nodes deep pieces blobs =
+-- the first limit that is passed by so many nodes more, the deepest of them so deep, so many versions and pieces more, and so many new
+-- blobs
+abbrev pub limit_passed : Tables → ℕ → ℕ → ℕ → ℕ → ℕ → Option Limit
+limit_passed t nodes deep versions pieces blobs =
     if nat_lt (count_of limit.Nodes) (length t.nodes + nodes) || nat_lt last_number (t.meta.next_node + nodes) then Some limit.Nodes
     else if nat_lt (count_of limit.Depth) deep then Some limit.Depth
+    else if nat_lt (count_of limit.Versions) (length t.versions + versions) then Some limit.Versions
     else if nat_lt (count_of limit.Pieces) (stored_pieces t + pieces) || nat_lt last_number (t.meta.next_blob + blobs) then Some limit.Pieces
     else None
 
@@ -58,10 +64,15 @@ mount_limit mounts rows =
 abbrev pub pieces_of : ℕ → ℕ
 pieces_of length = if length == 0 then 0 else 1
 
+-- how many versions there are more where the content of a file becomes another
+abbrev pub versions_added : Tables → ℕ → Option ℕ → ℕ
+versions_added t node back =
+    option_map_or (λ row. if becomes_version t.versions back row then 1 else 0) (node_row t.nodes node) 0
+
 -- the limit that is passed where a new content of so many pieces is put there; what it replaces still counts
 abbrev pub limit_at : Tables → ℕ → Found → Option Limit
-limit_at t pieces (At node) = limit_passed t 0 0 pieces pieces
-limit_at t pieces (Free folder) = limit_passed t 1 (depth t.nodes folder + 1) pieces pieces
+limit_at t pieces (At node) = limit_passed t 0 0 (versions_added t node None) pieces pieces
+limit_at t pieces (Free folder) = limit_passed t 1 (depth t.nodes folder + 1) 0 pieces pieces
 limit_at t pieces (Missing found) = None
 
 -- how deep the deepest of some nodes is
@@ -79,12 +90,12 @@ pieces_in rows nodes = sum_by (λ node. length (content_of rows node)) nodes
 
 -- the limit that a move passes, and a copy; what they replace still counts
 abbrev pub move_limit : Tables → Transfer → Option Limit
-move_limit t transfer = limit_passed t 0 (deepest_in t.nodes transfer.node transfer.folder) 0 0
+move_limit t transfer = limit_passed t 0 (deepest_in t.nodes transfer.node transfer.folder) 0 0 0
 
 abbrev pub copy_limit : Tables → Transfer → Option Limit
 copy_limit t transfer =
     let nodes = walk_of t.nodes transfer.node in
-    limit_passed t (length nodes) (deepest_in t.nodes transfer.node transfer.folder) (pieces_in t.nodes nodes) 0
+    limit_passed t (length nodes) (deepest_in t.nodes transfer.node transfer.folder) 0 (pieces_in t.nodes nodes) 0
 
 -- the limit that is passed by what is moved: to another owner it is copied, and what goes then still counts
 abbrev pub carry_limit : Tables → Transfer → Option Limit
@@ -92,7 +103,11 @@ carry_limit t transfer = if crosses t.nodes transfer then copy_limit t transfer 
 
 -- the limit that is passed by what comes back
 abbrev pub restore_limit : Tables → ItemRow → Option Limit
-restore_limit t item = limit_passed t 0 (deepest_in t.nodes item.node (home_of t item)) 0 0
+restore_limit t item = limit_passed t 0 (deepest_in t.nodes item.node (home_of t item)) 0 0 0
+
+-- and by a version that is its file's content again; it still counts as a version
+abbrev pub back_limit : Tables → ℕ → VersionRow → Option Limit
+back_limit t node version = limit_passed t 0 0 (versions_added t node (Some version.at)) (length version.content) 0
 
 -- the limit that is passed by what is made
 abbrev pub limited : Tables → Places → Making → Option Limit
@@ -104,6 +119,8 @@ limited t places making.Copied = option_and_then (copy_limit t) (transfer_of t.n
 limited t places making.Shared = None
 limited t places making.Told = None
 limited t places (making.Restored item) = option_and_then (restore_limit t) (item_row t.items item)
+limited t places (making.Sent node) = None
+limited t places (making.Refilled node at) = option_and_then (back_limit t node) (version_row t.versions node at)
 
 -- `limit`: the step would pass a limit
 unfoldable pub limit_rule : Access → Call → Option Denial

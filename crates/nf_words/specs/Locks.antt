@@ -51,6 +51,8 @@ touched t removes name places making.Copied = option_map_or (transfer_touches Sh
 touched t removes name places making.Shared = []
 touched t removes name places making.Told = []
 touched t removes name places (making.Restored item) = option_map_or (restore_touches t) (item_row t.items item) []
+touched t removes name places (making.Sent node) = touch_key (Node node) Shared ∷ []
+touched t removes name places (making.Refilled node at) = touch_key (Node node) Exclusive ∷ []
 
 -- the name under which something is put
 abbrev pub target_name : Asked → List ℕ

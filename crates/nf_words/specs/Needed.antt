@@ -1,22 +1,29 @@
 -- The acts that a request needs, each at its node by the mount of its path, and whether who asks may do them.
-use Rattle.std.specs.Prelude.{ℕ, ◌==◌, ◌||◌, not, Bool, false, List, [], ◌∷◌, ◌++◌, Option, None, Some, is_some, option_map, option_and_then, if◌then◌else◌}
+use Rattle.std.specs.Prelude.{ℕ, zero, suc, ◌==◌, ◌&&◌, ◌||◌, not, Bool, false, List, [], ◌∷◌, ◌++◌, Option, None, Some, is_some, option_map, option_and_then, if◌then◌else◌}
 use Rattle.std.specs.List.{list_any}
 use Rattle.std.specs.Option.{option_map_or, option_or}
 use Rattle.nf_access.specs.Access.{allows}
+use Rattle.nf_access.specs.Mounts.{is_mounted}
+use Rattle.nf_base.specs.declared.limits.TheConstants.{MAX_DEPTH}
+use Rattle.nf_base.specs.declared.rows.MountRow.{MountRow}
 use Rattle.nf_base.specs.declared.perms.Act.{Act}
 use Rattle.nf_base.specs.declared.perms.Act.TheVariants.{Read, Update, Create, Delete, Share}
 use Rattle.nf_base.specs.declared.rows.NodeRow.{NodeRow}
-use Rattle.nf_defs.specs.Prelude.{Access, node_row}
+use Rattle.nf_defs.specs.Prelude.{Access, node_row, parent_of}
 use Rattle.nf_defs.specs.declared.Seeker.{Seeker}
 use Rattle.nf_defs.specs.declared.Seeker.TheVariants.{User, Link}
 use Rattle.nf_words.specs.Asked.{Asked}
-use Rattle.nf_words.specs.Calls.{Call, Way, asked_by, is_mount_asked, root_of, way_of}
+use Rattle.nf_words.specs.Calls.{Call, Way, asked_by, asker_of, is_mount_asked, root_of, seeker_of, way_of}
 use Rattle.nf_words.specs.Places.{folder_seen, node_found}
 use Rattle.nf_words.specs.declared.answer.By.{By}
 use Rattle.nf_words.specs.declared.answer.LockKey.{LockKey}
 use Rattle.nf_words.specs.declared.answer.LockKey.TheVariants.{Node, Slot}
 use Rattle.nf_words.specs.declared.request.Making.{Making}
 use Rattle.nf_words.specs.declared.request.Making.TheVariants as making
+use Rattle.nf_words.specs.declared.request.VersionAsk.{VersionAsk}
+use Rattle.nf_words.specs.declared.request.VersionAsk.TheVariants as version
+use Rattle.nf_words.specs.declared.request.Wanted.{Wanted}
+use Rattle.nf_words.specs.declared.request.Wanted.TheVariants as wanted
 
 -- ---- who may do what
 
@@ -83,6 +90,8 @@ target_needs making.Copied rows root within way = needs_in rows root way ++ need
 target_needs making.Shared rows root within way = []
 target_needs making.Told rows root within way = []
 target_needs (making.Restored item) rows root within way = []
+target_needs (making.Sent node) rows root within way = []
+target_needs (making.Refilled node at) rows root within way = []
 
 -- leaving or renaming one's own mount needs nothing
 abbrev pub needs_between : List NodeRow → ℕ → Asked → Option Way → Option Way → List Need
@@ -98,6 +107,53 @@ abbrev pub needed : Call → List Need
 needed call =
     let asked = asked_by call in
     needs_between call.state.tables.nodes (root_of call) asked (option_map (way_of call) asked.source) (option_map (way_of call) asked.target)
+
+-- ---- versions, whose routes name a node by its number
+
+-- of a node and the folders above it, so many at most, the nearest that passes a test
+abbrev pub nearest : ℕ → List NodeRow → (ℕ → Bool) → ℕ → Option ℕ
+nearest zero rows passes node = if passes node then Some node else None
+nearest (suc k) rows passes node =
+    if passes node then Some node else option_and_then (nearest k rows passes) (parent_of rows node)
+
+-- the node of the user's nearest mount, counted upwards from a node
+abbrev pub mount_above : List NodeRow → List MountRow → ℕ → ℕ → Option ℕ
+mount_above rows mounts user node = nearest MAX_DEPTH rows (is_mounted mounts user) node
+
+-- the user has a mount of the node that lets who seeks access do the act
+abbrev pub is_granting : Access → List MountRow → Seeker → ℕ → ℕ → Act → ℕ → Bool
+is_granting access mounts seeker user now act node = is_mounted mounts user node && list_any (allows now act) (access seeker node)
+
+-- the node of the nearest such mount
+abbrev pub granting_above : Access → List NodeRow → List MountRow → Seeker → ℕ → ℕ → Act → ℕ → Option ℕ
+granting_above access rows mounts seeker user now act node = nearest MAX_DEPTH rows (is_granting access mounts seeker user now act) node
+
+-- the one by which an act is judged: the nearest that allows it, or else the nearest
+abbrev pub mount_by : Access → List NodeRow → List MountRow → Seeker → ℕ → ℕ → Act → ℕ → Option ℕ
+mount_by access rows mounts seeker user now act node =
+    option_or (granting_above access rows mounts seeker user now act node) (mount_above rows mounts user node)
+
+-- versions are read, and are restored by who may update the file
+abbrev pub act_asked : VersionAsk → Act
+act_asked (version.List user node) = Read
+act_asked (version.Get user node at) = Read
+act_asked (version.Restore user node at) = Update
+
+abbrev pub node_asked : VersionAsk → ℕ
+node_asked (version.List user node) = node
+node_asked (version.Get user node at) = node
+node_asked (version.Restore user node at) = node
+
+abbrev pub version_needs : Access → Call → VersionAsk → List Need
+version_needs access call ask =
+    let t = call.state.tables in
+    needs (act_asked ask) (Some (node_asked ask))
+    (mount_by access t.nodes t.mounts (seeker_of call) (asker_of call) call.now (act_asked ask) (node_asked ask))
+
+-- what is needed where versions are asked about
+abbrev pub needed_for : Access → Call → Wanted → List Need
+needed_for access call (wanted.Version ask) = version_needs access call ask
+needed_for access call other = []
 
 -- what the End of a PUT needs: that the file is updated, or that one is created in the folder
 abbrev pub needed_by : By → LockKey → List Need

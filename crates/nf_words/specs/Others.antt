@@ -3,7 +3,7 @@ use Rattle.std.specs.Prelude.{◌≡◌, ◌≢◌, ℕ, ◌==◌, ◌&&◌, ◌
 use Rattle.std.specs.List.{AllPairs, list_any}
 use Rattle.nf_access.specs.Mounts.{root_folder}
 use Rattle.nf_access.specs.Shares.{chain_within, perms_of_share}
-use Rattle.nf_base.specs.declared.limits.TheConstants.{MAX_CHAIN, MAX_MOUNTS, MAX_PIECES, MAX_SHARES}
+use Rattle.nf_base.specs.declared.limits.TheConstants.{MAX_CHAIN, MAX_MOUNTS, MAX_PIECES, MAX_SHARES, MAX_VERSIONS}
 use Rattle.nf_base.specs.declared.rows.ChunkRow.{ChunkRow}
 use Rattle.nf_base.specs.declared.rows.ItemRow.{ItemRow}
 use Rattle.nf_base.specs.declared.rows.MountRow.{MountRow}
@@ -14,7 +14,7 @@ use Rattle.nf_base.specs.declared.rows.ShareKind.TheVariants as to
 use Rattle.nf_base.specs.declared.rows.ShareRow.{ShareRow}
 use Rattle.nf_base.specs.declared.rows.UploadRow.{UploadRow}
 use Rattle.nf_base.specs.declared.rows.VersionRow.{VersionRow}
-use Rattle.nf_defs.specs.Prelude.{child_of, is_file, is_root_place, IsRising, item_key, mount_key, node_row, share_key, Tables, user_row}
+use Rattle.nf_defs.specs.Prelude.{child_of, is_file, is_root_place, IsRising, item_key, mount_key, node_row, share_key, Tables, user_row, version_key}
 use Rattle.nf_words.specs.Contents.{IsPieceSound}
 use Rattle.nf_words.specs.Present.{LeadsToRoot}
 
@@ -95,6 +95,8 @@ pub record AreOthersSound (t : Tables) : Type 0 where
   pub mounts_apart : AllPairs AreMountsApart t.mounts
   pub few_mounts : length t.mounts ≤ MAX_MOUNTS
   pub versions : All (IsVersionSound t) t.versions
+  pub versions_rise : IsRising version_key t.versions
+  pub few_versions : length t.versions ≤ MAX_VERSIONS
   pub items : All (IsItemSound t) t.items
   pub items_rise : IsRising item_key t.items
   pub uploads : All (IsUploadSound t) t.uploads

@@ -69,6 +69,8 @@ taken rows places making.Copied = None
 taken rows places making.Shared = None
 taken rows places making.Told = None
 taken rows places (making.Restored item) = None
+taken rows places (making.Sent node) = None
+taken rows places (making.Refilled node at) = None
 
 -- `exists`
 unfoldable pub exists_rule : Access → Call → Option Denial

@@ -1,5 +1,5 @@
 -- The rules of access: what a path's mount reaches who asks by, and what may be done by it. What is told of a refusal.
-use Rattle.std.specs.Prelude.{ℕ, ◌&&◌, is_some, not, Bool, find, List, Option, None, Some, option_map, option_and_then, if◌then◌else◌}
+use Rattle.std.specs.Prelude.{ℕ, ◌&&◌, ◌||◌, ◌++◌, is_none, is_some, not, Bool, false, find, List, Option, None, Some, option_map, option_and_then, if◌then◌else◌}
 use Rattle.std.specs.List.{list_any}
 use Rattle.std.specs.Option.{option_map_or, option_or}
 use Rattle.nf_access.specs.Access.{is_open}
@@ -8,16 +8,22 @@ use Rattle.nf_access.specs.Shares.{Ground, chain_of, ground_of, link_row}
 use Rattle.nf_access.specs.declared.Cause.{Cause}
 use Rattle.nf_base.specs.declared.perms.Act.{Act}
 use Rattle.nf_base.specs.declared.rows.NodeRow.{NodeRow}
-use Rattle.nf_defs.specs.Prelude.{Access}
+use Rattle.nf_base.specs.declared.rows.VersionRow.{VersionRow}
+use Rattle.nf_defs.specs.Prelude.{Access, is_folder, is_rooted}
 use Rattle.nf_defs.specs.declared.Seeker.{Seeker}
-use Rattle.nf_words.specs.Calls.{Call, Way, asked_by, seeker_of, way_of}
-use Rattle.nf_words.specs.Needed.{Need, may_by, needed}
+use Rattle.nf_words.specs.Calls.{Call, Way, asked_by, asker_of, seeker_of, way_of}
+use Rattle.nf_words.specs.Needed.{Need, may_by, mount_above, needed, needed_for, is_owner, node_asked}
 use Rattle.nf_words.specs.Places.{source_lost, target_lost}
 use Rattle.nf_words.specs.State.{State}
 use Rattle.nf_words.specs.declared.answer.Denial.{Denial}
 use Rattle.nf_words.specs.declared.answer.Denial.TheVariants as denial
 use Rattle.nf_words.specs.declared.request.Caller.{Caller}
 use Rattle.nf_words.specs.declared.request.Caller.TheVariants.{Link}
+use Rattle.nf_words.specs.declared.request.VersionAsk.{VersionAsk}
+use Rattle.nf_words.specs.declared.request.VersionAsk.TheVariants as version
+use Rattle.nf_words.specs.declared.request.Wanted.{Wanted}
+use Rattle.nf_words.specs.declared.request.Wanted.TheVariants as wanted
+use Rattle.nf_words.specs.Versions.{version_row}
 
 -- ---- what is told
 
@@ -84,4 +90,35 @@ first_refused access g seeker now needs = option_map (need_broken g seeker now) 
 
 -- `no-share` and `broken-link`
 unfoldable pub acts_rule : Access → Call → Option Denial
-acts_rule access call = first_refused access (ground_of call.state.tables) (seeker_of call) call.now (needed call)
+acts_rule access call =
+    first_refused access (ground_of call.state.tables) (seeker_of call) call.now
+    (needed call ++ needed_for access call call.request.wanted)
+
+-- ---- versions
+
+-- `not-found`: the node isn't present, or the caller neither owns it nor has a mount at it or above it
+abbrev pub unversioned : Call → VersionAsk → Option Denial
+unversioned call ask =
+    let t = call.state.tables in
+    let node = node_asked ask in
+    if is_rooted t.nodes node
+    && (is_owner t.nodes (seeker_of call) node || is_some (mount_above t.nodes t.mounts (asker_of call) node))
+    then None
+    else Some denial.NotFound
+
+-- the file hasn't the version that is asked about
+abbrev pub lacks_version : List VersionRow → VersionAsk → Bool
+lacks_version versions (version.List user node) = false
+lacks_version versions (version.Get user node at) = is_none (version_row versions node at)
+lacks_version versions (version.Restore user node at) = is_none (version_row versions node at)
+
+abbrev pub version_lost : Call → Wanted → Option Denial
+version_lost call (wanted.Version ask) =
+    if is_folder call.state.tables.nodes (node_asked ask) then Some denial.Kind
+    else if lacks_version call.state.tables.versions ask then Some denial.NotFound
+    else None
+version_lost call other = None
+
+-- `kind` and `not-found`: a folder has no versions, or the file hasn't that one
+unfoldable pub version_rule : Access → Call → Option Denial
+version_rule access call = version_lost call call.request.wanted

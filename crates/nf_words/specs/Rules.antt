@@ -5,7 +5,7 @@ use Rattle.nf_defs.specs.Access.{Access}
 use Rattle.nf_words.specs.Calls.{Call}
 use Rattle.nf_words.specs.Callers.{token_rule, not_you_rule}
 use Rattle.nf_words.specs.Places.{forbidden_rule, exists_rule, target_rule, overwrite_rule}
-use Rattle.nf_words.specs.Reached.{acts_rule, place_rule}
+use Rattle.nf_words.specs.Reached.{acts_rule, place_rule, version_rule}
 use Rattle.nf_words.specs.Limits.{limit_rule}
 use Rattle.nf_words.specs.Sharing.{named_rule, room_rule, sharing_rule}
 use Rattle.nf_words.specs.Locks.{locked_rule}
@@ -25,6 +25,7 @@ earlier_rules =
     ∷ place_rule
     ∷ named_rule
     ∷ acts_rule
+    ∷ version_rule
     ∷ exists_rule
     ∷ target_rule
     ∷ overwrite_rule

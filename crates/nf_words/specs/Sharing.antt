@@ -47,6 +47,7 @@ use Rattle.nf_words.specs.declared.sharing.Recipient.{Recipient}
 use Rattle.nf_words.specs.declared.sharing.Recipient.TheVariants as recipient
 use Rattle.nf_words.specs.declared.sharing.ShareLine.{ShareLine}
 use Rattle.nf_words.specs.Trash.{untrashed}
+use Rattle.nf_words.specs.Reached.{unversioned}
 
 -- the midnight after one of the days from 1970-01-01 to 9998-12-31, in UTC
 abbrev pub is_end_moment : ℕ → Bool
@@ -160,9 +161,10 @@ abbrev pub unnamed_by : Call → Wanted → Option Denial
 unnamed_by call (wanted.Share ask) = unnamed call ask
 unnamed_by call (wanted.People ask) = if are_named call.state.tables ask then None else Some denial.NotFound
 unnamed_by call (wanted.Trash ask) = untrashed call ask
+unnamed_by call (wanted.Version ask) = unversioned call ask
 unnamed_by call other = None
 
--- `not-found`: the user, the group, the share or the item of the trash that is named
+-- `not-found`: the user, the group, the share, the item of the trash or the file that is named
 unfoldable pub named_rule : Access → Call → Option Denial
 named_rule access call = unnamed_by call call.request.wanted
 

@@ -3,12 +3,12 @@
 ghost use Rattle.std.specs.Prelude.{◌≡◌, IfOk};
 ghost use Rattle.nf_words.specs.Limits.{count_of};
 
-use crate::{Items, Listing, Route, ShareLine, ShareLines};
+use crate::{Items, Listing, Route, ShareLine, ShareLines, Versions};
 use nf_access::Cause;
 use nf_base::{
     BlobId, Changes, Content, Digest, ItemRow, MAX_DEPTH, MAX_GROUPS, MAX_MEMBERS, MAX_MOUNTS,
-    MAX_NODES, MAX_SHARES, MAX_STORED_PIECES, MAX_TOKENS, MAX_USERS, Name, NameFault, NodeId,
-    NodeRow, ShareId, UserRow,
+    MAX_NODES, MAX_SHARES, MAX_STORED_PIECES, MAX_TOKENS, MAX_USERS, MAX_VERSIONS, Moment, Name,
+    NameFault, NodeId, NodeRow, ShareId, UserRow,
 };
 use nf_defs::Seeker;
 use std::alloc::AllocError;
@@ -44,6 +44,8 @@ pub enum Denial {
     Method(Route),
     /// 405: what is to be made on the route is there, or a file is to be stored where a folder is.
     Exists(Route),
+    /// 409: versions are asked about of a folder, which has none.
+    Kind,
     /// 409: the folder of what is to be made isn't there.
     NoParent,
     /// 412: something is at the target that isn't to be replaced.
@@ -84,6 +86,8 @@ pub enum Parameter {
     Depth,
     /// The number in the path.
     Id,
+    /// The moment in the path.
+    At,
     Path,
     ShareType,
     ShareWith,
@@ -182,7 +186,9 @@ pub enum Limit {
     Shares,
     /// `MAX_MOUNTS` mounts.
     Mounts,
-    /// `MAX_STORED_PIECES` pieces of all nodes, and 2^64 - 1 numbers of blobs ever given.
+    /// `MAX_VERSIONS` versions.
+    Versions,
+    /// `MAX_STORED_PIECES` pieces of all nodes and versions, and 2^64 - 1 numbers of blobs ever given.
     Pieces,
 }
 
@@ -200,6 +206,7 @@ impl Limit {
             Limit::Depth => MAX_DEPTH,
             Limit::Shares => MAX_SHARES as u32,
             Limit::Mounts => MAX_MOUNTS as u32,
+            Limit::Versions => MAX_VERSIONS as u32,
             Limit::Pieces => MAX_STORED_PIECES,
         }
     }
@@ -274,6 +281,8 @@ pub enum Reply {
     Listing(Listing),
     /// What is in the trash of a user.
     Items(Items),
+    /// Which versions a file has.
+    Versions(Versions),
     /// What there is to tell of a share.
     Share(ShareLine),
     Shares(ShareLines),
@@ -330,6 +339,8 @@ pub enum Report {
     Shares(ShareLines),
     /// What is in the trash of a user.
     Items(Items),
+    /// Which versions a file has.
+    Versions(Versions),
     /// Nothing more.
     Plain,
 }
@@ -357,6 +368,11 @@ pub enum Deed {
     Join(NodeRows),
     /// A user has another quota.
     Requote(UserRow),
+    /// The version of that moment of a file is there no more.
+    Forget {
+        node: NodeId,
+        at: Moment,
+    },
 }
 
 /// What a step does, one after the other.

@@ -19,10 +19,10 @@ pub use laws::{
     ends_free, grants_ticket, marks_answer, others_keep, refusals_keep, rules_in_order,
     seats_differ,
 };
-pub use listing::{ItemLine, Items, Listing, ListingLine};
+pub use listing::{ItemLine, Items, Listing, ListingLine, VersionLine, Versions};
 pub use request::{
     Asked, Caller, Making, Offer, PeopleAsk, Places, Receiver, Request, ShareAsk, Sharee, Spot,
-    Transfer, TrashAsk, Until, Wanted, Words,
+    Transfer, TrashAsk, Until, VersionAsk, Wanted, Words,
 };
 pub use route::Route;
 pub use sharing::{Recipient, ShareLine, ShareLines};

@@ -1,4 +1,4 @@
-//! Listings of folders and of the trash.
+//! Listings of folders, of the trash and of versions.
 
 ghost use Rattle.std.specs.Prelude.{◌≡◌};
 
@@ -85,6 +85,44 @@ impl Items {
     }
 
     pub fn lines(&self) -> &[ItemLine]
+        ensures { result.now ≡ self.now }
+    {
+        &self.lines
+    }
+}
+
+/// What is told of a version of a file.
+#[derive(Clone, Copy)]
+pub struct VersionLine {
+    /// When it became the file's content.
+    pub at: Moment,
+    /// Its bytes.
+    pub size: u64,
+}
+
+/// Which versions a file has, newest first.
+#[derive(Drop)]
+pub struct Versions {
+    lines: Vec<VersionLine>,
+}
+
+impl Model for Versions {
+    ghost use Rattle.std.specs.Prelude.{List};
+    ghost use Rattle.nf_words.specs.declared.listing.VersionLine.{VersionLine};
+
+    ghost Value = { List VersionLine };
+
+    ghost view = { λ versions. versions.lines.items };
+}
+
+impl Versions {
+    pub fn new(lines: Vec<VersionLine>) -> Self
+        ensures { result ≡ lines.items }
+    {
+        Versions { lines }
+    }
+
+    pub fn lines(&self) -> &[VersionLine]
         ensures { result.now ≡ self.now }
     {
         &self.lines

@@ -1,7 +1,7 @@
 //! Requests.
 
 ghost use Rattle.std.specs.Prelude.{◌≡◌};
-ghost use Rattle.nf_words.specs.Asked.{asked_about, asked_of, asked_of_trash, asks_nothing};
+ghost use Rattle.nf_words.specs.Asked.{asked_about, asked_of, asked_of_trash, asked_of_version, asks_nothing};
 ghost use Rattle.nf_words.specs.declared.request.Wanted.TheVariants as wanted;
 
 use nf_base::{Digest, GroupId, Moment, Name, NodeId, Path, Perms, ShareId, UserId};
@@ -59,6 +59,30 @@ pub enum Wanted {
     People(PeopleAsk),
     /// Something about the trash of a user.
     Trash(TrashAsk),
+    /// Something about the versions of a file.
+    Version(VersionAsk),
+}
+
+/// What is asked about the versions of a file, which is known by its number. The user is the one who asks.
+#[derive(Drop)]
+pub enum VersionAsk {
+    /// Which versions a file has.
+    List {
+        user: Name,
+        node: NodeId,
+    },
+    /// The content of one, by its moment.
+    Get {
+        user: Name,
+        node: NodeId,
+        at: Moment,
+    },
+    /// That one is the file's content again.
+    Restore {
+        user: Name,
+        node: NodeId,
+        at: Moment,
+    },
 }
 
 /// What is asked about the trash of a user.
@@ -176,12 +200,16 @@ pub enum Making {
     Told,
     /// The node of an item of the trash, which comes back.
     Restored { item: NodeId },
+    /// Nothing: a version of that file is sent.
+    Sent { node: NodeId },
+    /// That version of a file, as its content again.
+    Refilled { node: NodeId, at: Moment },
 }
 
 /// What a request asks for, as the rules see it.
 #[derive(Drop)]
 pub struct Asked<'a> {
-    /// The user whose trash it is about.
+    /// The user whose trash it is about, or who asks about versions.
     pub user: Option<&'a Name>,
     /// The place of what it acts upon.
     pub source: Option<&'a Spot>,
@@ -265,6 +293,7 @@ impl Wanted {
             Wanted::Share(ask) => about(ask),
             Wanted::People(_) => Asked::nothing(),
             Wanted::Trash(ask) => of_trash(ask),
+            Wanted::Version(ask) => of_version(ask),
         }
     }
 }
@@ -280,6 +309,30 @@ fn of_trash(ask: &TrashAsk) -> Asked<'_>
         TrashAsk::Restore { user, item } => Asked {
             user: Some(user),
             makes: Making::Restored { item: *item },
+            ..Asked::nothing()
+        },
+    }
+}
+
+fn of_version(ask: &VersionAsk) -> Asked<'_>
+    ensures { result ≡ asked_of_version ask.now }
+{
+    match ask {
+        VersionAsk::List { user, .. } => Asked {
+            user: Some(user),
+            ..Asked::nothing()
+        },
+        VersionAsk::Get { user, node, .. } => Asked {
+            user: Some(user),
+            makes: Making::Sent { node: *node },
+            ..Asked::nothing()
+        },
+        VersionAsk::Restore { user, node, at } => Asked {
+            user: Some(user),
+            makes: Making::Refilled {
+                node: *node,
+                at: *at,
+            },
             ..Asked::nothing()
         },
     }

@@ -1,6 +1,8 @@
 //! Targets, segments and methods.
 
-use nf_routes::{Method, Routes, allow, is_ocs, method_of, segments, takes};
+use nf_routes::{
+    Method, Routes, allow, is_ocs, method_of, restores_version, segments, takes, version_segments,
+};
 use nf_words::Route;
 use std::alloc::{AllocError, Global};
 use std::test::Fail;
@@ -40,6 +42,13 @@ fn routes_of_targets(rt: HostRuntime) -> Result<(), Fail> {
     assert!(rt;
         finds(
             alloc,
+            b"/remote.php/dav/versions/u/versions/5/7",
+            Some(Route::Version)
+        )?
+    );
+    assert!(rt;
+        finds(
+            alloc,
             b"/ocs/v2.php/cloud/users/u/groups",
             Some(Route::Memberships)
         )?
@@ -57,6 +66,19 @@ fn segments_are_decoded(rt: HostRuntime) -> Result<(), Fail> {
     let by_link = segments(rt.alloc(), b"http://host/public.php/dav/files/%61a7/x/")?;
     assert!(rt; by_link.len() == 2);
     assert!(rt; by_link[0].as_slice() == b"aa7".as_slice());
+    Ok(())
+}
+
+#[test]
+fn versions_by_number(rt: HostRuntime) -> Result<(), Fail> {
+    let alloc = rt.alloc();
+    let all = version_segments(alloc, b"/remote.php/dav/versions/u/versions/%35/7/")?;
+    assert!(rt; all.len() == 4);
+    assert!(rt; all[2].as_slice() == b"5".as_slice());
+    assert!(rt; all[3].as_slice() == b"7".as_slice());
+    assert!(rt; restores_version(alloc, b"u", b"/remote.php/dav/versions/%75/restore/x")?);
+    assert!(rt; !restores_version(alloc, b"v", b"/remote.php/dav/versions/u/restore/x")?);
+    assert!(rt; !restores_version(alloc, b"u", b"/remote.php/dav/trashbin/u/restore/x")?);
     Ok(())
 }
 

@@ -14,9 +14,9 @@ returns-in_err-keeps-9 c =
     let astray = sym c.first_astray.ensures ∙ c.in_ok-keeps-6.ensures in
     let unkept = sym c.first_unkept.ensures ∙ c.in_ok-keeps-7.ensures in
     let beyond = sym c.first_beyond.ensures ∙ c.in_ok-keeps-8.ensures in
-    let lavish = sym c.first_lavish.ensures ∙ c.in_err-keeps-9.ensures.0 in
+    let over = sym c.in_ok-first_over.ensures ∙ c.in_err-keeps-9.ensures.0 in
     let told : first_broken judged.rules c.args.rows.now ≡ Some broken =
-    simp (later, twice, ungiven, dangling, namesake, astray, unkept, beyond, lavish)
+    simp (later, twice, ungiven, dangling, namesake, astray, unkept, beyond, over)
     (ap (λ (n : ℕ). Some (record { rule = n; index = broken.index })) (sym c.in_err-keeps-9.ensures.1)) in
     search (rules, told)
 
@@ -30,5 +30,5 @@ returns c =
     let astray = sym c.first_astray.ensures ∙ c.in_ok-keeps-6.ensures in
     let unkept = sym c.first_unkept.ensures ∙ c.in_ok-keeps-7.ensures in
     let beyond = sym c.first_beyond.ensures ∙ c.in_ok-keeps-8.ensures in
-    let lavish = sym c.first_lavish.ensures ∙ c.in_ok-keeps-9.ensures in
-    simp (later, twice, ungiven, dangling, namesake, astray, unkept, beyond, lavish)
+    let over = sym c.in_ok-first_over.ensures ∙ c.in_ok-keeps-9.ensures in
+    simp (later, twice, ungiven, dangling, namesake, astray, unkept, beyond, over)

@@ -39,6 +39,11 @@ returns-in-Items-clause-writes g c = rw c.in-Items.is
     (says_so (scene g.S.Ends g.O.Ends g.B.Backend c.args.self.now) (scene g.S.Ends g.O.Ends g.B.Backend c.say-in-Items.new.self)
     (λ v. v.items) _ c.items.result c.say-in-Items.result c.items.ensures c.say-in-Items.ensures.ok c.say-in-Items.ensures.err)
 
+pub returns-in-Versions-clause-writes : goal.returns-in-Versions-clause-writes
+returns-in-Versions-clause-writes g c = rw c.in-Versions.is
+    (says_so (scene g.S.Ends g.O.Ends g.B.Backend c.args.self.now) (scene g.S.Ends g.O.Ends g.B.Backend c.say-in-Versions.new.self)
+    (λ v. v.items) _ c.versions.result c.say-in-Versions.result c.versions.ensures c.say-in-Versions.ensures.ok c.say-in-Versions.ensures.err)
+
 pub returns-in-Plain-clause-writes : goal.returns-in-Plain-clause-writes
 returns-in-Plain-clause-writes g c = rw c.in-Plain.is
     (says_so (scene g.S.Ends g.O.Ends g.B.Backend c.args.self.now) (scene g.S.Ends g.O.Ends g.B.Backend c.say-in-Plain.new.self)
