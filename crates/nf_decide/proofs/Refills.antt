@@ -121,15 +121,15 @@ put_between its (x ∷ rows) own rising apart =
     elim (cases_lt its.at x.at) [
       | inl before ↦
           ap (λ (o : Ordering). map held (by_order o (its ∷ x ∷ rows) (its ∷ rows) (x ∷ put version_key its rows)))
-              (keys_less its.node x.node its.at x.at same before)
+          (keys_less its.node x.node its.at x.at same before)
           ∙ sym (parts_none (held its) (map held (x ∷ rows)) (All-map Fails held (x ∷ rows) (later before)))
       | inr not_before ↦
           let less : x.at < its.at = omega (arith, not_before, All-head (λ (row : VersionRow). row.at ≢ its.at) x rows apart) in
           ap (λ (o : Ordering). map held (by_order o (its ∷ x ∷ rows) (its ∷ rows) (x ∷ put version_key its rows)))
-              (keys_greater its.node x.node its.at x.at same less)
+          (keys_greater its.node x.node its.at x.at same less)
           ∙ ap (λ (rest : List Version). held x ∷ rest)
-              (put_between its rows (All-tail (IsOf its.node) x rows own) (tails Rise x rows rising)
-              (All-tail (λ (row : VersionRow). row.at ≢ its.at) x rows apart))
+          (put_between its rows (All-tail (IsOf its.node) x rows own) (tails Rise x rows rising)
+          (All-tail (λ (row : VersionRow). row.at ≢ its.at) x rows apart))
           ∙ sym (parts_first (held its) (held x) (map held rows) (lt-ltb x.at its.at less))
     ]
   where

@@ -12,7 +12,9 @@ ghost use Rattle.nf_decide.specs.Deciding.{Follows, IsNamed, IsThere, asking_of,
 use crate::acting::{copied, deleted, made_folder, moved, stored};
 use crate::asked::{is_forbidden, is_kept, is_transfer, node_at};
 use crate::items::item_row;
-use crate::limits::{back_limit, carry_limit, copy_limit, limit_at, offer_limit, pieces_of, restored_limit};
+use crate::limits::{
+    back_limit, carry_limit, copy_limit, limit_at, offer_limit, pieces_of, restored_limit,
+};
 use crate::locking::locked;
 use crate::mounting::mount_itself;
 use crate::nodes::is_folder;

@@ -17,9 +17,7 @@ use crate::quotas::excess_at;
 use crate::refilling::{push_dropped, stored_over};
 use crate::settling::{owner_charged, settled};
 use crate::view::View;
-use nf_base::{
-    Act, BlobId, Content, Digest, Moment, Name, NodeId, NodeKind, Piece,
-};
+use nf_base::{Act, BlobId, Content, Digest, Moment, Name, NodeId, NodeKind, Piece};
 use nf_defs::Found;
 use nf_reach::Asker;
 use nf_words::{Allowed, By, Denial, Goal, LockKey, Outcome, Report};

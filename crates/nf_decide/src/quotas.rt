@@ -69,7 +69,12 @@ pub(crate) fn back_excess(view: &View<'_>, node: NodeId, at: Moment) -> Option<E
 {
     let version = version_row(view, node, at)?;
     let old = bytes_of(view.tree(), node);
-    excess(view, owner_of(view.tree(), node), old, version.content.size())
+    excess(
+        view,
+        owner_of(view.tree(), node),
+        old,
+        version.content.size(),
+    )
 }
 
 /// The bytes of what has to go, if there is something.

@@ -19,9 +19,7 @@ use crate::settling::{beyond_bound, has_version, held_beside, is_version, owner_
 use crate::shared::nothing_done;
 use crate::versions::{version_row, versions_of};
 use crate::view::View;
-use nf_base::{
-    BlobId, Change, Changes, Content, Moment, NodeId, NodeRow, Row, RowKey, VersionRow,
-};
+use nf_base::{BlobId, Change, Changes, Content, Moment, NodeId, NodeRow, Row, RowKey, VersionRow};
 use nf_retention::{Version, thinned};
 use nf_words::{Allowed, Report};
 use std::alloc::{AllocError, Global};
@@ -341,11 +339,7 @@ fn is_among(moments: &[Moment], at: Moment) -> bool
 }
 
 /// Those of some moments.
-fn those_at(
-    alloc: Global,
-    held: &[Version],
-    moments: &[Moment],
-) -> Result<Vec<Version>, AllocError>
+fn those_at(alloc: Global, held: &[Version], moments: &[Moment]) -> Result<Vec<Version>, AllocError>
     requires { AreFalling moments.now }
     ensures { IfOk result (λ versions. versions.items ≡ filter (λ version. is_among moments.now version.at) held.now) }
 {

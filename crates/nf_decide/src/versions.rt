@@ -159,12 +159,7 @@ fn lines_of(alloc: Global, rows: &[VersionRow]) -> Result<Vec<VersionLine>, Allo
 }
 
 /// The content of a version is sent, if the version is there.
-fn sent(
-    alloc: Global,
-    view: &View<'_>,
-    node: NodeId,
-    at: Moment,
-) -> Result<Allowed, AllocError>
+fn sent(alloc: Global, view: &View<'_>, node: NodeId, at: Moment) -> Result<Allowed, AllocError>
     ensures { IfOk result (λ act. act ≡ option_map_or (λ (row : TheRow). allowed.Get node row.content) (version_row view.now.tables.versions node at) nothing_done) }
 {
     match version_row(view, node, at) {

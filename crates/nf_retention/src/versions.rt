@@ -25,11 +25,7 @@ fn compare(a: &Version, b: &Version) -> Ordering
 }
 
 /// Of an owner's versions those that go: of all, newest first, those behind the longest front within the bound.
-pub fn beyond(
-    alloc: Global,
-    versions: Vec<Version>,
-    bound: u64,
-) -> Result<Vec<Version>, AllocError>
+pub fn beyond(alloc: Global, versions: Vec<Version>, bound: u64) -> Result<Vec<Version>, AllocError>
     ensures { IfOk result (λ gone. gone.items ≡ beyond bound versions.items) }
 {
     let versions = latest_first(versions)?;
