@@ -1,5 +1,6 @@
 pub mod Askers
 pub mod Bears
+pub mod Closing
 pub mod Copies
 pub mod Deeds
 pub mod Faults

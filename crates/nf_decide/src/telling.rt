@@ -1,6 +1,6 @@
 //! What an act changes, told as a list of the rows that differ.
 
-ghost use Rattle.std.specs.Prelude.{◌≡◌, ◌+◌, ◌≤◌, count_by, max, [], ◌∷◌, ◌++◌, map, IfOk, OnOk};
+ghost use Rattle.std.specs.Prelude.{◌≡◌, ◌+◌, ◌≤◌, count_by, max, true, false, [], ◌∷◌, ◌++◌, map, IfOk, OnOk};
 ghost use Rattle.std.specs.List.{flat_map};
 ghost use Rattle.nf_base.specs.declared.changes.Change.TheVariants as change;
 ghost use Rattle.nf_base.specs.declared.changes.RowKey.TheVariants as keys;
@@ -14,7 +14,7 @@ ghost use Rattle.nf_words.specs.declared.answer.Deed.TheVariants as deeds;
 ghost use Rattle.nf_words.specs.declared.answer.LockKey.TheVariants as lock_keys;
 ghost use Rattle.nf_words.specs.declared.answer.Mode.TheVariants.{Exclusive, Shared};
 ghost use Rattle.nf_decide.specs.Current.{BearsAct, added_by, added_deeds, added_of, discards, is_counted, is_fresh, nodes_joined, puts_group, puts_item, puts_member, puts_mount, puts_share, puts_token, puts_user, puts_version, requotes, rows_joined};
-ghost use Rattle.nf_decide.specs.Gone.{TellsDeeds, told_first, told_gone};
+ghost use Rattle.nf_decide.specs.Gone.{TellsDeeds, closed_entry, told_first, told_gone};
 
 use crate::counts::RowCounts;
 use crate::items::item_row;
@@ -24,7 +24,7 @@ use crate::versions::versions_of;
 use crate::view::View;
 use nf_base::{
     BlobId, Change, Changes, ItemRow, MetaRow, Moment, Name, NodeId, NodeRow, Place, Row, RowKey,
-    ShareRow, UserRow, VersionRow,
+    ShareId, ShareRow, UserRow, VersionRow,
 };
 use nf_tree::Tree;
 use nf_words::{Allowed, Deed, Hold, LockKey, Mode};
@@ -152,12 +152,49 @@ fn forget_of(changes: &mut Changes, rows: &[VersionRow]) -> Result<(), AllocErro
     Ok(())
 }
 
+/// The shares of what is under the top are ended. Where nothing is in that, its own are found by it, without a look at any other.
 fn close_under(changes: &mut Changes, view: &View<'_>, top: NodeId) -> Result<(), AllocError>
     ensures { OnOk result (changes.new ≡ changes.old ++ closed_under view.now.tables.nodes view.now.tables.shares top) }
 {
-    let is_empty = view.tree().is_leaf(top);
+    if view.tree().is_leaf(top) {
+        close_on(changes, view, top)
+    } else {
+        close_below(changes, view, top)
+    }
+}
+
+fn close_on(changes: &mut Changes, view: &View<'_>, leaf: NodeId) -> Result<(), AllocError>
+    requires { is_leaf view.now.tables.nodes leaf ≡ true }
+    ensures { OnOk result (changes.new ≡ changes.old ++ closed_under view.now.tables.nodes view.now.tables.shares leaf) }
+{
+    for entry in view.shares().entries(leaf) {
+        close_entry(changes, view, leaf, entry.share)?;
+    }
+    Ok(())
+}
+
+/// The share of that number is ended, if it is one of the node.
+fn close_entry(
+    changes: &mut Changes,
+    view: &View<'_>,
+    leaf: NodeId,
+    share: ShareId,
+) -> Result<(), AllocError>
+    requires { is_leaf view.now.tables.nodes leaf ≡ true }
+    ensures { OnOk result (changes.new ≡ changes.old ++ closed_entry view.now.tables leaf share) }
+{
+    match view.shares().row(share) {
+        Some(row) => push_closed(changes, view.tree(), true, leaf, row),
+        None => Ok(()),
+    }
+}
+
+fn close_below(changes: &mut Changes, view: &View<'_>, top: NodeId) -> Result<(), AllocError>
+    requires { is_leaf view.now.tables.nodes top ≡ false }
+    ensures { OnOk result (changes.new ≡ changes.old ++ closed_under view.now.tables.nodes view.now.tables.shares top) }
+{
     for share in view.shares().rows() {
-        push_closed(changes, view.tree(), is_empty, top, share)?;
+        push_closed(changes, view.tree(), false, top, share)?;
     }
     Ok(())
 }

@@ -1,6 +1,6 @@
 use Rattle.std.proofs.Common.{◌≡◌, ◌++◌, take}
 use Rattle.nf_words.specs.Deeds.{closed_under}
-use Rattle.nf_decide.proofs.telling.close_under.Given as goal
+use Rattle.nf_decide.proofs.telling.close_below.Given as goal
 
 -- those of the shares so far
 abbrev pub invariant-loop-share : goal.invariant-loop-share
