@@ -427,9 +427,16 @@ impl Tables {
         push_nodes(&mut list, self.tree.nodes())?;
         push_shares(&mut list, self.shares.rows())?;
         push_mounts(&mut list, self.mounts.rows())?;
-        push_versions(&mut list, self.versions.rows())?;
-        push_items(&mut list, self.items.rows())?;
+        self.push_kept(&mut list)?;
         Ok(list)
+    }
+
+    /// Puts the versions and the items of the trash at the end of a list of rows.
+    fn push_kept(&self, list: &mut RowList) -> Result<(), AllocError>
+        ensures { OnOk result (list.new ≡ list.old ++ (map kinds.Version self.now.tables.versions ++ map kinds.Item self.now.tables.items)) }
+    {
+        push_versions(list, self.versions.rows())?;
+        push_items(list, self.items.rows())
     }
 }
 
@@ -552,12 +559,19 @@ fn push_items(list: &mut RowList, items: &[ItemRow]) -> Result<(), AllocError>
     Ok(())
 }
 
+/// An equal version.
+fn copy_version(version: &VersionRow) -> Result<VersionRow, AllocError>
+    ensures { IfOk result (λ copy. copy ≡ version.now) }
+{
+    version.clone()
+}
+
 /// Puts versions at the end of a list of rows.
 fn push_versions(list: &mut RowList, versions: &[VersionRow]) -> Result<(), AllocError>
     ensures { OnOk result (list.new ≡ list.old ++ map kinds.Version versions.now) }
 {
     for version in versions {
-        list.push(Row::Version(version.clone()?))?;
+        list.push(Row::Version(copy_version(version)?))?;
     }
     Ok(())
 }
