@@ -12,6 +12,7 @@ ghost use Rattle.nf_words.specs.declared.answer.Report.TheVariants.{Done};
 ghost use Rattle.nf_words.specs.declared.answer.Allowed.TheVariants as allowed;
 ghost use Rattle.nf_decide.specs.Current.{AreBorne, AreGiven, BearsAct, BearsChanges, BearsCopies, BearsDeed, BearsDeeds, BearsPlace, IsBorne, IsCounted, IsDroppedKey, IsNew, IsRefilled, LeadUpBehind, added_by, added_deed, added_deeds, added_of};
 ghost use Rattle.nf_decide.specs.Gone.{item_gone};
+ghost use Rattle.nf_decide.specs.Rows.{rows_of_others};
 ghost use Rattle.nf_rules.specs.Ruled.{AreRuled};
 ghost use Rattle.nf_decide.specs.Counts.{FitsNodes, FitsRows, IsNoSmaller, only_nodes};
 
@@ -424,17 +425,17 @@ impl Tables {
         let mut list = RowList::new(alloc);
         list.push(Row::Meta(self.meta))?;
         self.people.push_rows(&mut list)?;
-        push_nodes(&mut list, self.tree.nodes())?;
-        push_shares(&mut list, self.shares.rows())?;
-        push_mounts(&mut list, self.mounts.rows())?;
-        self.push_kept(&mut list)?;
+        self.push_others(&mut list)?;
         Ok(list)
     }
 
-    /// Puts the versions and the items of the trash at the end of a list of rows.
-    fn push_kept(&self, list: &mut RowList) -> Result<(), AllocError>
-        ensures { OnOk result (list.new ≡ list.old ++ (map kinds.Version self.now.tables.versions ++ map kinds.Item self.now.tables.items)) }
+    /// Puts the rows that aren't of people at the end of a list of rows.
+    fn push_others(&self, list: &mut RowList) -> Result<(), AllocError>
+        ensures { OnOk result (list.new ≡ list.old ++ rows_of_others self.now.tables) }
     {
+        push_nodes(list, self.tree.nodes())?;
+        push_shares(list, self.shares.rows())?;
+        push_mounts(list, self.mounts.rows())?;
         push_versions(list, self.versions.rows())?;
         push_items(list, self.items.rows())
     }
