@@ -1,5 +1,5 @@
 -- The versions of a file whose content becomes another: where what is replaced stands among them, and which thin out.
-use Rattle.std.proofs.Common.{◌≡◌, ◌≢◌, ℕ, zero, suc, ◌+◌, ◌-◌, ◌<◌, ◌≤◌, ◌==◌, ◌&&◌, inl, inr, not, Bool, true, false, List, [], ◌∷◌, ◌++◌, ◌∙◌, drop, filter, get_or, if◌then◌else◌, length, map, nat_cmp, nat_lt, nat_le, reverse, Option, Result, Ok, Err, refl, sym, ap, subst, arith}
+use Rattle.std.proofs.Common.{◌≡◌, ◌≢◌, ℕ, zero, suc, ◌-◌, ◌<◌, ◌≤◌, ◌==◌, ◌&&◌, inl, inr, not, Bool, true, false, List, [], ◌∷◌, ◌++◌, ◌∙◌, drop, filter, get_or, if◌then◌else◌, length, map, nat_cmp, nat_lt, nat_le, reverse, Option, Result, Ok, Err, refl, sym, ap, subst, arith}
 use Rattle.std.specs.Prelude.{None, Some, is_none, is_some}
 use Rattle.std.specs.List.{All, AllPairs, AllWithin, insert, list_any}
 use Rattle.std.specs.List.Sorted.{IsBinarySearchResult, IsNonDecreasingBy, IsPartitionedBy, IsSearchInRange}
