@@ -64,6 +64,7 @@ impl<'a> Call<'a> {
     // ---- the rules
 
     /// `not-found`: the node isn't present, or the caller neither owns it nor has a mount at it or above it.
+    #[tactic(auto, using(crate::proofs::Askers::user_asks))]
     pub(crate) fn unversioned(&self, asker: &Asker<'_>, ask: &VersionAsk) -> Option<Denial>
         requires { asker.now ≡ asking_of self.now }
         ensures { result ≡ unversioned self.entry.now ask.now }
@@ -78,6 +79,7 @@ impl<'a> Call<'a> {
     }
 
     /// `no-share` and `broken-link`, where versions are asked about.
+    #[tactic(auto, using(crate::proofs::Askers::user_asks))]
     pub(crate) fn version_refused(&self, asker: &Asker<'_>) -> Option<Denial>
         requires { asker.now ≡ asking_of self.now }
         ensures { result ≡ refusal_for (asking_of self.entry.now) (needed_for (access_of self.entry.now.state) self.entry.now self.entry.now.request.wanted) }
