@@ -460,7 +460,7 @@ impl<'a> Call<'a> {
         self.served(alloc, &asker, mount_of(&seen.ways.source), node)
     }
 
-    fn tree(&self) -> &Tree
+    pub(crate) fn tree(&self) -> &Tree
         ensures { result.now.rows ≡ self.entry.now.state.tables.nodes }
     {
         self.view.tree()
