@@ -12,7 +12,7 @@ class Rows:
     """The rows of the store, beside those of the demonstration."""
 
     def __init__(self):
-        self.rows, self.node, self.share, self.user = [], 5, 1, FIRST_USER
+        self.rows, self.node, self.share, self.user, self.last = [], 5, 1, FIRST_USER, 1000
 
     def put(self, kind, key, body):
         self.rows.append((kind, key, b"\1" + body))
@@ -25,8 +25,15 @@ class Rows:
         return self.add_node(name, owner, folder, b"\0\0\0")
 
     def file(self, name, folder):
-        piece = struct.pack(">QI", 1, len(HELLO)) + hashlib.sha256(HELLO).digest()
-        return self.add_node(name, ALICE, folder, b"\1\0\1" + piece)
+        return self.add_node(name, ALICE, folder, b"\1" + self.hello())
+
+    @staticmethod
+    def hello():
+        return b"\0\1" + struct.pack(">QI", 1, len(HELLO)) + hashlib.sha256(HELLO).digest()
+
+    def add_version(self, node, moment):
+        self.last = max(self.last, moment)
+        self.put(9, struct.pack(">QQ", node, moment), self.hello())
 
     def add_node(self, name, owner, folder, what):
         place = b"\0" if folder is None else struct.pack(">BQ", 1, folder)
@@ -67,7 +74,7 @@ class Rows:
         with sqlite3.connect(store) as connection:
             [(meta,)] = connection.execute("SELECT body FROM rows WHERE kind = 1")
             *_, next_blob, _ = struct.unpack(">IIQQQQ", meta[1:])
-            meta = b"\1" + struct.pack(">IIQQQQ", self.user, groups + 1, self.node, self.share, next_blob, 1000)
+            meta = b"\1" + struct.pack(">IIQQQQ", self.user, groups + 1, self.node, self.share, next_blob, self.last)
             connection.execute("UPDATE rows SET body = ? WHERE kind = 1", (meta,))
             connection.executemany("INSERT INTO rows VALUES (?, ?, ?)", self.rows)
         connection.close()

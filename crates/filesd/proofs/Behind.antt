@@ -68,7 +68,7 @@ opens_behind k b later it history unbroken fit rows front tells told =
     (subst (λ (all : List Row). IsLegal (opened all) k.history) (sym rows) history.legal)) in
     let sound : IsSound (opened b.opening) =
     record {
-      rows = first.sound;
+      rows = first.ordered.sound;
       seen = omega arith;
       seats = λ i j d before within. absurd (omega arith);
       tickets = All-nil _;
@@ -79,5 +79,5 @@ opens_behind k b later it history unbroken fit rows front tells told =
     (record {
       fit = tells.fit;
       unbroken = ruled_are_unbroken (state_of b).tables tells.fit ruled;
-      same = tables_again (state_of b).tables ruled.rising;
+      same = tables_again (state_of b).tables ruled.ordered.rising;
     })

@@ -38,7 +38,7 @@ leaves start k keeper h sound ruled idle fit tells = record {
   again = record {
     fit = fit;
     unbroken = ruled_are_unbroken k.state.tables fit ruled;
-    same = tables_again k.state.tables ruled.rising;
+    same = tables_again k.state.tables ruled.ordered.rising;
   };
   told = tells_now start k keeper tells;
 }

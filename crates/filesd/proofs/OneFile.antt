@@ -8,7 +8,7 @@ use Rattle.std.proofs.lemmas.Option.{none-some, same_Some}
 use Rattle.httparse.specs.Grammar.{RequestHead, print_request, IsRequestHead}
 use Rattle.nf_base.specs.declared.limits.TheConstants.{MAX_MESSAGES}
 use Rattle.nf_base.specs.declared.content.Piece.{Piece}
-use Rattle.nf_dav.specs.Reply.{done_reply, file_head, items_reply, listing_reply, made_reply, plain_reply, refusal_reply, share_reply, shares_reply}
+use Rattle.nf_dav.specs.Reply.{done_reply, file_head, items_reply, listing_reply, made_reply, plain_reply, refusal_reply, share_reply, shares_reply, versions_reply}
 use Rattle.nf_dav.specs.declared.replies.Manner.{Manner}
 use Rattle.nf_http.specs.Head.{Head, closes_session, head_of}
 use Rattle.nf_http.specs.Next.{IsNext}
@@ -128,6 +128,7 @@ response_input manner (response.Listing lines) a b result says = writes_input a 
 response_input manner (response.Share line) a b result says = writes_input a b (says_only a b (share_reply manner.close line) result says)
 response_input manner (response.Shares lines) a b result says = writes_input a b (says_only a b (shares_reply manner.close lines) result says)
 response_input manner (response.Items lines) a b result says = writes_input a b (says_only a b (items_reply manner.close lines) result says)
+response_input manner (response.Versions lines) a b result says = writes_input a b (says_only a b (versions_reply manner.close lines) result says)
 response_input manner response.Plain a b result says = writes_input a b (says_only a b (plain_reply manner.close) result says)
 
 responds_input : {C : Type 0} (last : Bool) (way : Way) (v : Response) (a b : Scene C) (result : Result (Option Ended) Ended)

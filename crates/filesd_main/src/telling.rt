@@ -63,10 +63,10 @@ fn why_broken(rule: u8) -> &'static str {
         2 => "a number in it was never given, or a moment in it is yet to come",
         3 => "a user, group or node that it names isn't there",
         4 => "its name comes twice",
-        5 => "it leads to no root of its owner",
+        5 => "it leads to no root of its owner, or is a version that no file can have",
         6 => "it is no share or mount that may be made",
         7 => "there are too many of its kind",
-        8 => "its quota is too large",
+        8 => "its quota is too large, or the versions of its owner take up more than they may",
         _ => "there is no such rule",
     }
 }

@@ -1,3 +1,4 @@
+pub mod About
 pub mod Askers
 pub mod Bears
 pub mod Closing

@@ -15,8 +15,9 @@ use Rattle.nf_words.specs.declared.request.ShareAsk.TheVariants as ask
 use Rattle.nf_words.specs.declared.request.Spot.{Spot}
 use Rattle.nf_words.specs.declared.request.Transfer.{Transfer}
 use Rattle.nf_words.specs.declared.request.TrashAsk.TheVariants as trash
+use Rattle.nf_words.specs.declared.request.VersionAsk.TheVariants as version
 use Rattle.nf_words.specs.declared.request.Wanted.{Wanted}
-use Rattle.nf_words.specs.declared.request.Wanted.TheVariants.{Get, Put, Mkcol, Delete, Move, Copy, Share, People, Trash}
+use Rattle.nf_words.specs.declared.request.Wanted.TheVariants.{Get, Put, Mkcol, Delete, Move, Copy, Share, People, Trash, Version}
 use Rattle.nf_words.proofs.Passing.{no_fault}
 use Rattle.nf_decide.specs.Deciding.{IsNamed}
 
@@ -80,6 +81,9 @@ module _ (call : Call) where
   moved_named (Trash (trash.Drop user item)) fits some = tt
   moved_named (Trash (trash.Empty user)) fits some = tt
   moved_named (Trash (trash.Restore user item)) fits some = tt
+  moved_named (Version (version.List user node)) fits some = tt
+  moved_named (Version (version.Get user node at)) fits some = tt
+  moved_named (Version (version.Restore user node at)) fits some = tt
   moved_named (Copy source target overwrite) fits some = named_between source target false fits
   moved_named (Move source target overwrite) fits some = named_between source target (way_of call source).itself fits
 
@@ -100,6 +104,9 @@ module _ (call : Call) where
   renamed_named (Trash (trash.Drop user item)) fits renames = tt
   renamed_named (Trash (trash.Empty user)) fits renames = tt
   renamed_named (Trash (trash.Restore user item)) fits renames = tt
+  renamed_named (Version (version.List user node)) fits renames = tt
+  renamed_named (Version (version.Get user node at)) fits renames = tt
+  renamed_named (Version (version.Restore user node at)) fits renames = tt
   renamed_named (Copy source target overwrite) fits renames = named_between source target false fits
   renamed_named (Move source target overwrite) fits renames = named_between source target (way_of call source).itself fits
 

@@ -1,5 +1,5 @@
 -- The versions of a file whose content becomes another: where what is replaced stands among them, and which thin out.
-use Rattle.std.proofs.Common.{◌≡◌, ◌≢◌, ◌⊎◌, ℕ, zero, suc, ◌+◌, ◌-◌, ◌<◌, ◌≤◌, ◌==◌, ◌&&◌, ◌||◌, inl, inr, not, Bool, true, false, List, [], ◌∷◌, ◌++◌, ◌∙◌, drop, filter, get_or, if◌then◌else◌, length, map, nat_cmp, nat_lt, nat_le, reverse, take, Option, Result, Ok, Err, refl, sym, ap, subst, arith}
+use Rattle.std.proofs.Common.{◌≡◌, ◌≢◌, ℕ, zero, suc, ◌-◌, ◌<◌, ◌≤◌, ◌==◌, ◌&&◌, inl, inr, not, Bool, true, false, List, [], ◌∷◌, ◌++◌, ◌∙◌, drop, filter, get_or, if◌then◌else◌, length, map, nat_cmp, nat_lt, nat_le, reverse, Option, Result, Ok, Err, refl, sym, ap, subst, arith}
 use Rattle.std.specs.Prelude.{None, Some, is_none, is_some}
 use Rattle.std.specs.List.{All, AllPairs, AllWithin, insert, list_any}
 use Rattle.std.specs.List.Sorted.{IsBinarySearchResult, IsNonDecreasingBy, IsPartitionedBy, IsSearchInRange}
@@ -8,10 +8,10 @@ use Rattle.std.specs.Ordering.{ordering_index}
 use Rattle.std.specs.Result.{is_ok}
 use Rattle.std.specs.declared.cmp.Ordering.{Ordering}
 use Rattle.std.specs.declared.cmp.Ordering.TheVariants.{Equal, Greater, Less}
-use Rattle.std.proofs.lemmas.Bool.{and_from, and_parts, both_ways, cases_lt, cond_both, eq-eqb, eqb-true, le-ltb, lt-ltb, ne_eqb, not-true, or_cases}
+use Rattle.std.proofs.lemmas.Bool.{and_parts, both_ways, cases_lt, cond_both, eqb-true, le-ltb, lt-ltb, not-true, or_cases}
 use Rattle.std.proofs.lemmas.Bool.Decides.{nat_tests}
 use Rattle.std.proofs.lemmas.List.{get_or-reverse, length-reverse}
-use Rattle.std.proofs.lemmas.List.Elements.{All-cons, All-filter, All-head, All-map, All-nil, All-tail, All-weaker, filter_passes}
+use Rattle.std.proofs.lemmas.List.Elements.{All-cons, All-filter, All-head, All-map, All-tail, All-weaker, filter_passes}
 use Rattle.std.proofs.lemmas.List.Folds.{list_any_at, list_any_none}
 use Rattle.std.proofs.lemmas.List.Kept.{AllPairs-cons, AllPairs-filter}
 use Rattle.std.proofs.lemmas.List.Sorted.{All-permutation, IsPartitionedBy-ltb, IsPermutation-reverse}
@@ -22,11 +22,11 @@ use Rattle.nf_defs.specs.Prelude.{by_order, is_file, IsRising, key_cmp, node_row
 use Rattle.nf_retention.specs.Thinning.{AreFalling, step, thinned, thinned_below}
 use Rattle.nf_retention.specs.declared.versions.Version.{Version}
 use Rattle.nf_table.proofs.Fronts.{kept}
-use Rattle.nf_words.proofs.Forgetting.{heads, no_pairs, pairs_map, rows_there, tails}
+use Rattle.nf_words.proofs.Forgetting.{heads, pairs_map, rows_there, tails}
 use Rattle.nf_words.proofs.Found.{found_has, found_passes}
 use Rattle.nf_words.specs.Others.{IsVersionSound}
 use Rattle.nf_words.specs.Prelude.{AreSound, IsNodeSound}
-use Rattle.nf_words.specs.Versions.{becomes_version, held, is_at, is_empty, staying, thinned_out, version_for, version_row, versions_of, with_replaced}
+use Rattle.nf_words.specs.Versions.{becomes_version, held, is_at, is_empty, staying, version_for, version_row, versions_of, with_replaced}
 use Rattle.nf_decide.proofs.Walks.{all_left, map_reverse}
 
 -- ---- rows that are found

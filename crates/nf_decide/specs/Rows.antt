@@ -1,9 +1,11 @@
 -- The tables as the program holds them.
-use Rattle.std.specs.Prelude.{List}
+use Rattle.std.specs.Prelude.{List, ◌++◌, map}
 use Rattle.nf_base.specs.declared.rows.ItemRow.{ItemRow}
 use Rattle.nf_base.specs.declared.rows.MetaRow.{MetaRow}
 use Rattle.nf_base.specs.declared.rows.MountRow.{MountRow}
 use Rattle.nf_base.specs.declared.rows.NodeRow.{NodeRow}
+use Rattle.nf_base.specs.declared.rows.Row.{Row}
+use Rattle.nf_base.specs.declared.rows.Row.TheVariants as kinds
 use Rattle.nf_base.specs.declared.rows.ShareRow.{ShareRow}
 use Rattle.nf_base.specs.declared.rows.VersionRow.{VersionRow}
 use Rattle.nf_defs.specs.Tables.{Tables, no_rows}
@@ -29,3 +31,8 @@ tables_in meta people nodes shares mounts versions items = record no_rows {
 pub record Rows : Type 0 where
   pub tables : Tables
   pub room : RowCounts
+
+-- the rows that aren't of people, as a list
+abbrev pub rows_of_others : Tables → List Row
+rows_of_others t =
+    map kinds.Node t.nodes ++ (map kinds.Share t.shares ++ (map kinds.Mount t.mounts ++ (map kinds.Version t.versions ++ map kinds.Item t.items)))

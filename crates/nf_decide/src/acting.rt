@@ -6,7 +6,7 @@ ghost use Rattle.nf_base.specs.declared.rows.Row.TheVariants as kinds;
 ghost use Rattle.nf_base.specs.Kept.{IsPlain};
 ghost use Rattle.nf_defs.specs.Prelude.{node_row};
 ghost use Rattle.nf_defs.specs.declared.Found.TheVariants.{Free};
-ghost use Rattle.nf_words.specs.Prelude.{AreSound, carries, carry_limit, charged_for, copied, copies, copy_limit, crossing, deleted, last_name, made_folder, made_or_done, makes, moved, moves, new_node, stored};
+ghost use Rattle.nf_words.specs.Prelude.{AreSound, carries, carry_limit, charged_for, copied, copies, copies_settled, copy_limit, crossing, deleted, last_name, made_folder, made_or_done, makes, moved, moves, new_node, stored};
 
 use crate::copying::copies_to;
 use crate::discarding::done;
@@ -143,11 +143,12 @@ fn carries(
     requires few { carry_limit view.now.tables transfer.now ≡ None }
     ensures { IfOk result (λ deeds. deeds.items ≡ carries view.now.tables moment name transfer.now) }
 {
-    if crosses(view.tree(), transfer) {
-        crossing(alloc, view, moment, name, transfer)
-    } else {
-        moves(alloc, view, moment, name, transfer)
+    if !crosses(view.tree(), transfer) {
+        return moves(alloc, view, moment, name, transfer);
     }
+    let mut deeds = crossing(alloc, view, moment, name, transfer)?;
+    settle(alloc, view, &charged_at(view, transfer), &mut deeds)?;
+    Ok(deeds)
 }
 
 fn moves(
@@ -180,9 +181,7 @@ fn copies(
     ensures { IfOk result (λ deeds. deeds.items ≡ copies view.now.tables moment name transfer.now) }
 {
     let deed = Deed::Join(copies_to(alloc, view, moment, transfer, name)?);
-    let mut deeds = leaves(alloc, view, moment, transfer.replaced)?.before(deed)?;
-    settle(alloc, view, &charged_at(view, transfer), &mut deeds)?;
-    Ok(deeds)
+    leaves(alloc, view, moment, transfer.replaced)?.before(deed)
 }
 
 fn crossing(
@@ -199,9 +198,7 @@ fn crossing(
     let deed = Deed::Join(copies_to(alloc, view, moment, transfer, name)?);
     let replaced = leaves(alloc, view, moment, transfer.replaced)?;
     let source = leaves(alloc, view, moment, Some(transfer.node))?;
-    let mut deeds = replaced.before_both(deed, source)?;
-    settle(alloc, view, &charged_at(view, transfer), &mut deeds)?;
-    Ok(deeds)
+    replaced.before_both(deed, source)
 }
 
 /// Who is charged for copies: the owner of their folder, in the place of what they replace.
@@ -212,6 +209,23 @@ fn charged_at(view: &View<'_>, transfer: &Transfer) -> Charged
     let old = size_replaced(view, &transfer.replaced);
     let owner = owner_of(view.tree(), transfer.folder);
     owner_charged(view, owner, old, view.size(transfer.node))
+}
+
+/// Copies, and what goes of the versions of who is charged for them.
+fn copies_settled(
+    alloc: Global,
+    view: &View<'_>,
+    moment: Moment,
+    name: Name,
+    transfer: &Transfer,
+) -> Result<Vec<Deed>, AllocError>
+    requires sound { AreSound view.now.tables }
+    requires few { copy_limit view.now.tables transfer.now ≡ None }
+    ensures { IfOk result (λ deeds. deeds.items ≡ copies_settled view.now.tables moment name transfer.now) }
+{
+    let mut deeds = copies(alloc, view, moment, name, transfer)?;
+    settle(alloc, view, &charged_at(view, transfer), &mut deeds)?;
+    Ok(deeds)
 }
 
 /// What is put at a place is made, where nothing was there.
@@ -241,7 +255,7 @@ pub(crate) fn copied(
     let Some(transfer) = transfer else {
         return Ok(Allowed::Close);
     };
-    let deeds = copies(alloc, view, moment, last_name(spot)?, &transfer)?;
+    let deeds = copies_settled(alloc, view, moment, last_name(spot)?, &transfer)?;
     Ok(done(deeds, made_or_done(transfer.replaced)))
 }
 

@@ -267,7 +267,7 @@ impl<'a> Call<'a> {
         }
     }
 
-    #[tactic(auto, unfolding(nf_words::specs::Reached::acts_rule))]
+    #[tactic(auto, using(nf_reach::proofs::Refusals::first_of_both), unfolding(nf_words::specs::Reached::acts_rule))]
     fn allows(&self, asker: &Asker<'_>, ways: &Ways) -> Result<(), Denial>
         requires asker { asker.now ≡ asking_of self.now }
         requires ways { ways.now ≡ ways_of self.now }
@@ -460,7 +460,7 @@ impl<'a> Call<'a> {
         self.served(alloc, &asker, mount_of(&seen.ways.source), node)
     }
 
-    fn tree(&self) -> &Tree
+    pub(crate) fn tree(&self) -> &Tree
         ensures { result.now.rows ≡ self.entry.now.state.tables.nodes }
     {
         self.view.tree()

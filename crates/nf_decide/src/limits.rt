@@ -273,7 +273,7 @@ pub(crate) fn back_limit(view: &View<'_>, node: NodeId, at: Moment) -> Option<Li
     ensures { result ≡ option_and_then (back_limit view.now.tables node) (version_row view.now.tables.versions node at) }
 {
     let version = version_row(view, node, at)?;
-    let versions = versions_added(view, node, Some(at));
+    let versions = versions_added(view, node, Some(version.at));
     let pieces = version.content.pieces().len() as u128;
     limit_passed(view, 0, 0, versions, pieces, 0)
 }

@@ -12,6 +12,7 @@ ghost use Rattle.nf_words.specs.declared.answer.Report.TheVariants.{Done};
 ghost use Rattle.nf_words.specs.declared.answer.Allowed.TheVariants as allowed;
 ghost use Rattle.nf_decide.specs.Current.{AreBorne, AreGiven, BearsAct, BearsChanges, BearsCopies, BearsDeed, BearsDeeds, BearsPlace, IsBorne, IsCounted, IsDroppedKey, IsNew, IsRefilled, LeadUpBehind, added_by, added_deed, added_deeds, added_of};
 ghost use Rattle.nf_decide.specs.Gone.{item_gone};
+ghost use Rattle.nf_decide.specs.Rows.{rows_of_others};
 ghost use Rattle.nf_rules.specs.Ruled.{AreRuled};
 ghost use Rattle.nf_decide.specs.Counts.{FitsNodes, FitsRows, IsNoSmaller, only_nodes};
 
@@ -424,12 +425,19 @@ impl Tables {
         let mut list = RowList::new(alloc);
         list.push(Row::Meta(self.meta))?;
         self.people.push_rows(&mut list)?;
-        push_nodes(&mut list, self.tree.nodes())?;
-        push_shares(&mut list, self.shares.rows())?;
-        push_mounts(&mut list, self.mounts.rows())?;
-        push_versions(&mut list, self.versions.rows())?;
-        push_items(&mut list, self.items.rows())?;
+        self.push_others(&mut list)?;
         Ok(list)
+    }
+
+    /// Puts the rows that aren't of people at the end of a list of rows.
+    fn push_others(&self, list: &mut RowList) -> Result<(), AllocError>
+        ensures { OnOk result (list.new ≡ list.old ++ rows_of_others self.now.tables) }
+    {
+        push_nodes(list, self.tree.nodes())?;
+        push_shares(list, self.shares.rows())?;
+        push_mounts(list, self.mounts.rows())?;
+        push_versions(list, self.versions.rows())?;
+        push_items(list, self.items.rows())
     }
 }
 
@@ -552,12 +560,19 @@ fn push_items(list: &mut RowList, items: &[ItemRow]) -> Result<(), AllocError>
     Ok(())
 }
 
+/// An equal version.
+fn copy_version(version: &VersionRow) -> Result<VersionRow, AllocError>
+    ensures { IfOk result (λ copy. copy ≡ version.now) }
+{
+    version.clone()
+}
+
 /// Puts versions at the end of a list of rows.
 fn push_versions(list: &mut RowList, versions: &[VersionRow]) -> Result<(), AllocError>
     ensures { OnOk result (list.new ≡ list.old ++ map kinds.Version versions.now) }
 {
     for version in versions {
-        list.push(Row::Version(version.clone()?))?;
+        list.push(Row::Version(copy_version(version)?))?;
     }
     Ok(())
 }

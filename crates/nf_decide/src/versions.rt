@@ -1,10 +1,12 @@
 //! The versions of files: which there are, and what is sent and told of them.
 
-ghost use Rattle.std.specs.Prelude.{◌≡◌, ◌≤◌, [], IfOk, None, map, option_copied};
+ghost use Rattle.std.specs.Prelude.{◌≡◌, ◌≤◌, ◌&&◌, ◌||◌, [], IfOk, None, Some, if◌then◌else◌, is_some, map, option_copied};
 ghost use Rattle.std.specs.Option.{option_map_or};
 ghost use Rattle.nf_base.specs.declared.rows.VersionRow.{VersionRow as TheRow};
-ghost use Rattle.nf_reach.specs.Asking.{refusal_for};
-ghost use Rattle.nf_words.specs.Prelude.{access_of, act_asked, AreSound, needed_for, node_asked, nothing_done, unversioned, version_done, version_rule};
+ghost use Rattle.nf_reach.specs.Asking.{refusal_for, user_in};
+ghost use Rattle.nf_words.specs.Prelude.{access_of, act_asked, AreSound, is_owner, mount_above, needed_for, node_asked, nothing_done, unversioned, version_done, version_rule};
+ghost use Rattle.nf_words.specs.Needed.{version_needs};
+ghost use Rattle.nf_words.specs.declared.answer.Denial.TheVariants.{NotFound};
 ghost use Rattle.nf_words.specs.Versions.{version_line, version_lines, version_row, versions_of};
 ghost use Rattle.nf_words.specs.declared.answer.Allowed.TheVariants as allowed;
 ghost use Rattle.nf_words.specs.declared.answer.Report.TheVariants as report;
@@ -60,6 +62,24 @@ fn act_asked(ask: &VersionAsk) -> Act
     }
 }
 
+/// Whether who asks owns the node, or has a mount at it or above it.
+fn is_seen(asker: &Asker<'_>, node: NodeId) -> bool
+    ensures { result ≡ (is_owner asker.now.base.nodes asker.now.seeker node || is_some (mount_above asker.now.base.nodes asker.now.mounts (user_in asker.now.seeker) node)) }
+{
+    asker.owns(node) || asker.mount_above(node).is_some()
+}
+
+/// `not-found`, unless a node is there and seen.
+fn unseen(is_present: bool, is_seen: bool) -> Option<Denial>
+    ensures { result ≡ (if is_present && is_seen then None else Some NotFound) }
+{
+    if is_present && is_seen {
+        None
+    } else {
+        Some(Denial::NotFound)
+    }
+}
+
 impl<'a> Call<'a> {
     // ---- the rules
 
@@ -69,12 +89,8 @@ impl<'a> Call<'a> {
         ensures { result ≡ unversioned self.entry.now ask.now }
     {
         let node = node_asked(ask);
-        let is_seen = asker.owns(node) || asker.mount_above(node).is_some();
-        if self.view.tree().present(node) && is_seen {
-            None
-        } else {
-            Some(Denial::NotFound)
-        }
+        let is_present = self.tree().present(node);
+        unseen(is_present, is_seen(asker, node))
     }
 
     /// `no-share` and `broken-link`, where versions are asked about.
@@ -82,9 +98,25 @@ impl<'a> Call<'a> {
         requires { asker.now ≡ asking_of self.now }
         ensures { result ≡ refusal_for (asking_of self.entry.now) (needed_for (access_of self.entry.now.state) self.entry.now self.entry.now.request.wanted) }
     {
-        let Wanted::Version(ask) = &self.request.wanted else {
-            return None;
-        };
+        match &self.request.wanted {
+            Wanted::Version(ask) => self.ask_refused(asker, ask),
+            Wanted::Share(_)
+            | Wanted::People(_)
+            | Wanted::Trash(_)
+            | Wanted::Get(_)
+            | Wanted::Put { .. }
+            | Wanted::Mkcol(_)
+            | Wanted::Delete(_)
+            | Wanted::Move { .. }
+            | Wanted::Copy { .. } => None,
+        }
+    }
+
+    /// The same of what is asked about them.
+    fn ask_refused(&self, asker: &Asker<'_>, ask: &VersionAsk) -> Option<Denial>
+        requires { asker.now ≡ asking_of self.now }
+        ensures { result ≡ refusal_for (asking_of self.entry.now) (version_needs (access_of self.entry.now.state) self.entry.now ask.now) }
+    {
         let (act, node) = (act_asked(ask), node_asked(ask));
         asker.refused(act, node, asker.mount_by(act, node))
     }

@@ -130,34 +130,41 @@ rows_contents t =
     ∙ before Version (λ (row : VersionRow). row.content) t.versions items (map (λ (row : ChunkRow). row.content) t.chunks) (λ row. refl)
     (behind Item t.items uploads (λ row. refl) ∙ behind Upload t.uploads (map Chunk t.chunks) (λ row. refl) ∙ chunks))
 
--- ---- where only nodes have contents
+-- ---- where only nodes and versions have contents
 
-nodes_blobs : (nodes : List NodeRow)
-    → blobs_of (joined (map (λ (row : NodeRow). row.content) nodes)) ≡ flat_map (λ (row : NodeRow). blobs_of row.content) nodes
-nodes_blobs [] = refl
-nodes_blobs (row ∷ nodes) =
-    map-append (λ (piece : Piece). piece.blob) row.content (joined (map (λ (row : NodeRow). row.content) nodes))
-    ∙ ap (λ (blobs : List ℕ). blobs_of row.content ++ blobs) (nodes_blobs nodes)
+rows_blobs : {X : Type 0} (content : X → List Piece) (rows : List X)
+    → blobs_of (joined (map content rows)) ≡ flat_map (λ (row : X). blobs_of (content row)) rows
+rows_blobs content [] = refl
+rows_blobs content (row ∷ rows) =
+    map-append (λ (piece : Piece). piece.blob) (content row) (joined (map content rows))
+    ∙ ap (λ (blobs : List ℕ). blobs_of (content row) ++ blobs) (rows_blobs content rows)
 
-nodes_named : (t : Tables) → t.versions ≡ [] → t.chunks ≡ []
-    → named_blobs (rows_of t) ≡ flat_map (λ (row : NodeRow). blobs_of row.content) t.nodes
-nodes_named t no_versions no_chunks =
-    ap blobs_of (rows_contents t)
-    ∙ (λ i. blobs_of (joined (map (λ (row : NodeRow). row.content) t.nodes
-    ++ (map (λ (row : VersionRow). row.content) (no_versions i) ++ map (λ (row : ChunkRow). row.content) (no_chunks i)))))
-    ∙ ap (λ (contents : List (List Piece)). blobs_of (joined contents)) (append-nil (map (λ (row : NodeRow). row.content) t.nodes))
-    ∙ nodes_blobs t.nodes
+abbrev node_blobs : Tables → List ℕ
+node_blobs t = flat_map (λ (row : NodeRow). blobs_of row.content) t.nodes
 
--- what nodes contain and what is to be sent is all that is named
-pub all_named : (s : State) → s.tables.versions ≡ [] → s.tables.chunks ≡ []
-    → flat_map (λ (row : NodeRow). blobs_of row.content) s.tables.nodes ++ flat_map (λ (ticket : Ticket). goal_blobs ticket.goal) s.tickets
-    ≡ blobs_named s
-all_named s no_versions no_chunks =
-    ap (λ (blobs : List ℕ). blobs ++ flat_map (λ (ticket : Ticket). goal_blobs ticket.goal) s.tickets)
-    (sym (nodes_named s.tables no_versions no_chunks))
+abbrev version_blobs : Tables → List ℕ
+version_blobs t = flat_map (λ (row : VersionRow). blobs_of row.content) t.versions
 
 abbrev sent_blobs : State → List ℕ
 sent_blobs s = flat_map (λ (ticket : Ticket). goal_blobs ticket.goal) s.tickets
+
+rows_named : (t : Tables) → t.chunks ≡ [] → named_blobs (rows_of t) ≡ node_blobs t ++ version_blobs t
+rows_named t no_chunks =
+    let of_node = λ (row : NodeRow). row.content in
+    let of_version = λ (row : VersionRow). row.content in
+    let nodes = map of_node t.nodes in
+    let versions = map of_version t.versions in
+    ap blobs_of (rows_contents t)
+    ∙ (λ i. blobs_of (joined (nodes ++ (versions ++ map (λ (row : ChunkRow). row.content) (no_chunks i)))))
+    ∙ ap (λ (contents : List (List Piece)). blobs_of (joined (nodes ++ contents))) (append-nil versions)
+    ∙ ap blobs_of (flat_map-append (λ (content : List Piece). content) nodes versions)
+    ∙ map-append (λ (piece : Piece). piece.blob) (joined nodes) (joined versions)
+    ∙ (λ i. rows_blobs of_node t.nodes i ++ rows_blobs of_version t.versions i)
+
+-- what nodes and versions contain and what is to be sent is all that is named
+pub all_named : (s : State) → s.tables.chunks ≡ []
+    → (node_blobs s.tables ++ version_blobs s.tables) ++ sent_blobs s ≡ blobs_named s
+all_named s no_chunks = ap (λ (blobs : List ℕ). blobs ++ sent_blobs s) (sym (rows_named s.tables no_chunks))
 
 -- a blob is among them exactly where a row or a granted GET names it
 pub names_blob : (s : State) (id : ℕ) → Contains (blobs_named s) id ↔ NamesBlob s id

@@ -158,7 +158,7 @@ opened_held site rows ruled opening state none =
     let kept : kept_of site ≡ opened_over rows = λ i. record { opening = opening i; state = state i; history = none i } in
     let sound : IsSound (opened rows) =
     record {
-      rows = ruled.sound;
+      rows = ruled.ordered.sound;
       seen = omega arith;
       seats = λ i j d before within. absurd (omega arith);
       tickets = All-nil _;

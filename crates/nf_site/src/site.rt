@@ -174,7 +174,8 @@ impl Site {
         moment: Moment,
         event: &Event,
     ) -> Result<Result<Allowed, Denial>, AllocError>
-        requires { MayAsk self.now.kept.state seat event.now }
+        requires asked { MayAsk self.now.kept.state seat event.now }
+        requires late { self.now.kept.state.seen ≤ moment }
         ensures { IfOk result (λ decision. decision ≡ decision_of self.entry.now.kept.state seat moment event.now) }
     {
         match event {
@@ -198,7 +199,8 @@ impl Site {
         moment: Moment,
         outcome: &Outcome,
     ) -> Result<Result<Allowed, Denial>, AllocError>
-        requires { MayAsk self.now.kept.state seat (End outcome.now) }
+        requires asked { MayAsk self.now.kept.state seat (End outcome.now) }
+        requires late { self.now.kept.state.seen ≤ moment }
         ensures { IfOk result (λ decision. decision ≡ end_decision (access_of self.entry.now.kept.state) self.entry.now.kept.state seat moment outcome.now) }
     {
         match self.current.ticket(seat) {

@@ -2,33 +2,36 @@
 
 use nf_base::{
     BlobId, Content, Digest, GroupId, GroupRow, MetaRow, Moment, Name, NodeId, NodeKind, NodeRow,
-    Place, Row, ShareId, TokenRow, UserId, UserRow,
+    Piece, Place, Row, ShareId, TokenRow, UserId, UserRow, VersionRow,
 };
 use nf_opening::{Broken, Loaded, SiteFault, judge};
 use std::alloc::Global;
 use std::process::Abort;
 use std::test::Fail;
 
-/// Numbers up to 9,999 were given.
+/// Numbers up to 9,999 were given, and moments up to a million.
 fn meta() -> Row {
     Row::Meta(MetaRow {
         next_user: UserId::new(10_000),
         next_group: GroupId::new(10_000),
         next_node: NodeId::new(10_000),
         next_share: ShareId::new(1),
-        next_blob: BlobId::new(1),
-        last: Moment::new(5),
+        next_blob: BlobId::new(10_000),
+        last: Moment::new(1_000_000),
     })
 }
 
-fn user(alloc: Global, id: u32, name: &[u8], root: u64) -> Result<Row, Fail> {
+fn user(alloc: Global, id: u32, name: &[u8], quota: u64, root: u64) -> Result<Row, Fail> {
     Ok(Row::User(UserRow {
         id: UserId::new(id),
         name: Name::read(alloc, name)?,
-        quota: 1_099_511_627_776,
+        quota,
         root: NodeId::new(root),
     }))
 }
+
+/// The largest quota.
+const ANY: u64 = 1_099_511_627_776;
 
 fn folder(alloc: Global, id: u64, owner: u32, place: Place, name: &[u8]) -> Result<Row, Fail> {
     Ok(Row::Node(NodeRow {
@@ -45,6 +48,33 @@ fn folder(alloc: Global, id: u64, owner: u32, place: Place, name: &[u8]) -> Resu
 /// A folder of the first user in another.
 fn inside(alloc: Global, id: u64, parent: u64, name: &[u8]) -> Result<Row, Fail> {
     folder(alloc, id, 1, Place::Inside(NodeId::new(parent)), name)
+}
+
+/// A file of the first user, with nothing in it.
+fn file(alloc: Global) -> Result<Row, Fail> {
+    Ok(Row::Node(NodeRow {
+        id: NodeId::new(2),
+        owner: UserId::new(1),
+        place: Place::Inside(NodeId::new(1)),
+        name: Name::read(alloc, b"f")?,
+        kind: NodeKind::File,
+        content: Content::empty(alloc),
+        changed: Moment::new(5),
+    }))
+}
+
+/// Three bytes that it had from that moment on.
+fn version(alloc: Global, at: u64) -> Result<Row, Fail> {
+    let piece = Piece {
+        blob: BlobId::new(1),
+        size: 3,
+        digest: Digest::new([7; 32]),
+    };
+    Ok(Row::Version(VersionRow {
+        node: NodeId::new(2),
+        at: Moment::new(at),
+        content: Content::new(vec![in alloc; piece]?),
+    }))
 }
 
 fn token(user: u32) -> Row {
@@ -67,21 +97,29 @@ enum Sketch {
     Meta,
     /// Number, name and root.
     User(u32, &'static str, u64),
+    /// The first user, with that quota.
+    Quota(u64),
     Group(&'static str),
     /// The root of the first user.
     Root,
     /// Number, parent and name.
     Inside(u64, u64, &'static str),
+    File,
+    /// Of the file, with its moment.
+    Version(u64),
     Token(u32),
 }
 
 fn row(alloc: Global, sketch: Sketch) -> Result<Row, Fail> {
     match sketch {
         Sketch::Meta => Ok(meta()),
-        Sketch::User(id, name, root) => user(alloc, id, name.as_bytes(), root),
+        Sketch::User(id, name, root) => user(alloc, id, name.as_bytes(), ANY, root),
+        Sketch::Quota(quota) => user(alloc, 1, b"ann", quota, 1),
         Sketch::Group(name) => group(alloc, name.as_bytes()),
         Sketch::Root => folder(alloc, 1, 1, Place::Root, b"ann"),
         Sketch::Inside(id, parent, name) => inside(alloc, id, parent, name.as_bytes()),
+        Sketch::File => file(alloc),
+        Sketch::Version(at) => version(alloc, at),
         Sketch::Token(user) => Ok(token(user)),
     }
 }
@@ -156,7 +194,7 @@ fn lists_that_no_keeper_has(rt: HostRuntime) -> Result<(), Fail> {
 fn add_user(alloc: Global, rows: &mut Vec<Row>, id: u32) -> Result<(), Fail> {
     let name = format!(in alloc; "u{id}")?;
     let root = u64::from(id);
-    rows.push(user(alloc, id, name.as_bytes(), root)?)?;
+    rows.push(user(alloc, id, name.as_bytes(), ANY, root)?)?;
     rows.push(folder(alloc, root, id, Place::Root, name.as_bytes())?)?;
     Ok(())
 }
@@ -172,6 +210,39 @@ fn users_are_4096(rt: HostRuntime) -> Result<(), Fail> {
     rows.pop();
     rows.pop();
     assert!(rt; told(alloc, &rows)? == (9, 0));
+    Ok(())
+}
+
+#[test]
+fn versions_are_262144(rt: HostRuntime) -> Result<(), Fail> {
+    let alloc = rt.alloc();
+    let first = [Sketch::Meta, Sketch::Quota(ANY), Sketch::Root, Sketch::File];
+    let mut rows = rows_of(alloc, &first)?;
+    for at in 0..=262_144u64 {
+        rows.push(version(alloc, at)?)?;
+    }
+    assert!(rt; told(alloc, &rows)? == (7, 4));
+    rows.pop();
+    assert!(rt; told(alloc, &rows)? == (9, 0));
+    Ok(())
+}
+
+/// Two of three bytes each are half of twelve.
+#[test]
+fn versions_are_within_half_of_the_quota(rt: HostRuntime) -> Result<(), Fail> {
+    let alloc = rt.alloc();
+    for (quota, expected) in [(12, (9, 0)), (11, (8, 4))] {
+        let sketches = [
+            Sketch::Meta,
+            Sketch::Quota(quota),
+            Sketch::Root,
+            Sketch::File,
+            Sketch::Version(1),
+            Sketch::Version(2),
+        ];
+        let rows = rows_of(alloc, &sketches)?;
+        assert!(rt; told(alloc, &rows)? == expected);
+    }
     Ok(())
 }
 

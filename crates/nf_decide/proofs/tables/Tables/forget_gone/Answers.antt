@@ -1,4 +1,4 @@
-use Rattle.std.proofs.Common.{◌≡◌, Bool, List, is_some, rules, ap, ◌∙◌}
+use Rattle.std.proofs.Common.{Bool, List, is_some, rules, ap, ◌∙◌}
 use Rattle.nf_base.specs.declared.rows.VersionRow.{VersionRow}
 use Rattle.nf_defs.specs.Prelude.{node_row, Tables}
 use Rattle.nf_words.specs.Versions.{versions_there}

@@ -7,7 +7,7 @@ load-requires c =
     let are = c.split-parts.ensures in rw (are.users, are.tokens, are.groups, are.members) (people_of c.args.loaded c.requires)
 
 pub load-requires-2-clause-rising : goal.load-requires-2-clause-rising
-load-requires-2-clause-rising c = rw c.split-parts.ensures.nodes c.requires.sound.rising
+load-requires-2-clause-rising c = rw c.split-parts.ensures.nodes c.requires.ordered.sound.rising
 
 pub load-requires-2-clause-leads : goal.load-requires-2-clause-leads
-load-requires-2-clause-leads c = rw c.split-parts.ensures.nodes (sound_leads c.args.loaded c.requires.sound)
+load-requires-2-clause-leads c = rw c.split-parts.ensures.nodes (sound_leads c.args.loaded c.requires.ordered.sound)

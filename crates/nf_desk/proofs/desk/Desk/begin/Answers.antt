@@ -17,7 +17,7 @@ invariant_of-self g c =
     let site = c.begin-answer.new.site.kept in
     let b = standing site (g.K.Keeper.told c.begin-answer.new.keeper) (g.K.Keeper.faults c.begin-answer.new.keeper) in
     starts_desk c.args.seat (shown g.K.Keeper old) b c.args.now (Begin c.args.words c.args.request) c.begin-answer.result tt
-    c.history.ensures.legal c.history.ensures.sound c.history.ensures.ruled.rising c.begin-answer.ensures c.self.invariant
+    c.history.ensures.legal c.history.ensures.sound c.history.ensures.ruled.ordered.rising c.begin-answer.ensures c.self.invariant
 
 pub returns-clause-begins : goal.returns-clause-begins
 returns-clause-begins g c =
@@ -26,7 +26,7 @@ returns-clause-begins g c =
     let b = standing site (g.K.Keeper.told c.begin-answer.new.keeper) (g.K.Keeper.faults c.begin-answer.new.keeper) in
     rw (← c.self.view_is)
     (begins c.args.seat (shown g.K.Keeper old) b c.args.now c.args.words c.args.request c.begin-answer.result
-    c.history.ensures.legal c.history.ensures.sound c.history.ensures.ruled.rising c.self.invariant c.begin-answer.ensures)
+    c.history.ensures.legal c.history.ensures.sound c.history.ensures.ruled.ordered.rising c.self.invariant c.begin-answer.ensures)
 
 pub returns-clause-turn : goal.returns-clause-turn
 returns-clause-turn g c =

@@ -20,7 +20,7 @@ invariant_of-self g c =
     let steps = empty_steps c.args.seat a.site site a.told a.faults c.args.now c.args.outcome c.finish-answer.result c.requires.empty
     c.finish-answer.ensures in
     steps_desk c.args.seat a (standing site a.told a.faults) c.args.now (End c.args.outcome) [] c.finish-answer.result
-    c.history.ensures.legal c.history.ensures.sound c.history.ensures.ruled.rising (empty_brings c.args.outcome c.requires.empty) steps
+    c.history.ensures.legal c.history.ensures.sound c.history.ensures.ruled.ordered.rising (empty_brings c.args.outcome c.requires.empty) steps
     c.self.invariant
 
 pub returns-clause-ends : goal.returns-clause-ends
@@ -28,7 +28,7 @@ returns-clause-ends g c =
     let old = served c.self.inside.site c.self.inside.keeper c.self.inside.strikes c.self.inside.start in
     rw (← c.self.view_is)
     (ends_empty c.args.seat (shown g.K.Keeper old) c.finish-answer.new.site.kept c.args.now c.args.outcome c.finish-answer.result
-    c.history.ensures.legal c.history.ensures.sound c.history.ensures.ruled.rising c.self.invariant c.requires.empty
+    c.history.ensures.legal c.history.ensures.sound c.history.ensures.ruled.ordered.rising c.self.invariant c.requires.empty
     c.finish-answer.ensures)
 
 pub returns-clause-turn : goal.returns-clause-turn

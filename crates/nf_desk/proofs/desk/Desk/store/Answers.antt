@@ -22,7 +22,7 @@ invariant_of-self g c =
     let site = c.store-answer.new.site.kept in
     let b = standing site (g.K.Keeper.told c.store-answer.new.keeper) (g.K.Keeper.faults c.store-answer.new.keeper) in
     steps_desk c.args.seat (shown g.K.Keeper old) b c.args.now (event_of_body c.args.body.now) c.args.body.now c.store-answer.result
-    c.history.ensures.legal c.history.ensures.sound c.history.ensures.ruled.rising (refl, refl) c.store-answer.ensures c.self.invariant
+    c.history.ensures.legal c.history.ensures.sound c.history.ensures.ruled.ordered.rising (refl, refl) c.store-answer.ensures c.self.invariant
 
 pub returns-clause-ends : goal.returns-clause-ends
 returns-clause-ends g c =
@@ -31,7 +31,7 @@ returns-clause-ends g c =
     let b = standing site (g.K.Keeper.told c.store-answer.new.keeper) (g.K.Keeper.faults c.store-answer.new.keeper) in
     rw (← c.self.view_is)
     (ends_body c.args.seat (shown g.K.Keeper old) b c.args.now c.args.body.now c.store-answer.result
-    c.history.ensures.legal c.history.ensures.sound c.history.ensures.ruled.rising c.self.invariant c.store-answer.ensures)
+    c.history.ensures.legal c.history.ensures.sound c.history.ensures.ruled.ordered.rising c.self.invariant c.store-answer.ensures)
 
 pub returns-clause-turn : goal.returns-clause-turn
 returns-clause-turn g c =

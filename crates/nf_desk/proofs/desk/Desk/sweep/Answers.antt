@@ -15,7 +15,7 @@ invariant_of-self g c =
     let old = served c.self.inside.site c.self.inside.keeper c.self.inside.strikes c.self.inside.start in
     let new = served c.sweep-result.new.site c.sweep-result.new.keeper c.sweep-result.new.strikes c.self.inside.start in
     sweeps_desk c.args.seat (shown g.K.Keeper old) (shown g.K.Keeper new) c.args.now c.sweep-result.result c.requires.seat
-    c.history.ensures.legal c.history.ensures.sound c.history.ensures.ruled.rising
+    c.history.ensures.legal c.history.ensures.sound c.history.ensures.ruled.ordered.rising
     (c.sweep-result.ensures (tale g.K.Keeper c.self.inside.start.value)) c.self.invariant
 
 pub returns-clause-sweeps : goal.returns-clause-sweeps
@@ -27,7 +27,7 @@ returns-clause-seen g c =
     let new = served c.sweep-result.new.site c.sweep-result.new.keeper c.sweep-result.new.strikes c.self.inside.start in
     rw (← c.self.view_is)
     (sweeps_seen c.args.seat (shown g.K.Keeper old) (shown g.K.Keeper new) c.args.now c.sweep-result.result c.requires.seat
-    c.history.ensures.legal c.history-2.ensures.legal c.history.ensures.sound c.history.ensures.ruled.rising c.self.invariant
+    c.history.ensures.legal c.history-2.ensures.legal c.history.ensures.sound c.history.ensures.ruled.ordered.rising c.self.invariant
     (c.sweep-result.ensures (tale g.K.Keeper c.self.inside.start.value)))
 
 pub returns-clause-turn : goal.returns-clause-turn
@@ -36,4 +36,4 @@ returns-clause-turn g c =
     rw (← c.self.view_is)
     (sweeps_turn g.K.Keeper c.args.seat old c.sweep-result.new.site c.sweep-result.new.keeper c.sweep-result.new.strikes c.args.now
     c.sweep-result.result c.requires.seat c.history.ensures.legal c.history-2.ensures.legal c.history.ensures.sound
-    c.history.ensures.ruled.rising c.self.invariant (c.sweep-result.ensures (tale g.K.Keeper c.self.inside.start.value)))
+    c.history.ensures.ruled.ordered.rising c.self.invariant (c.sweep-result.ensures (tale g.K.Keeper c.self.inside.start.value)))

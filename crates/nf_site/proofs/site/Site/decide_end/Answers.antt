@@ -1,9 +1,10 @@
-use Rattle.std.proofs.Common.{Option, option_map, sym, subst}
+use Rattle.std.proofs.Common.{Option, option_map, sym, ap, subst, arith}
 use Rattle.std.specs.Option.{IfSome}
 use Rattle.nf_words.proofs.Ends.{goal_held, goal_sound}
 use Rattle.nf_words.specs.Sound.{AreSound, IsGoalSound, IsStorable}
 use Rattle.nf_words.specs.State.{State}
 use Rattle.nf_words.specs.declared.history.Ticket.{Ticket}
+use Rattle.nf_site.specs.Held.{Held}
 use Rattle.nf_site.proofs.site.Site.decide_end.Goals as goal
 
 -- the rows are sound
@@ -26,3 +27,14 @@ decide_end-requires-clause-held c =
     subst (λ (it : State). IsStorable it.tables c.in-Some.ticket.now.goal) (sym c.view.ensures)
     (subst (λ (o : Option Ticket). IfSome (option_map (λ ticket. ticket.goal) o) (IsStorable s.tables)) (sym c.in-Some.ensures)
     (goal_held s c.args.seat c.self.invariant.sound))
+
+-- and no step was later
+pub decide_end-requires-clause-late : goal.decide_end-requires-clause-late
+decide_end-requires-clause-late c =
+    omega (
+      arith,
+      ap (λ (it : State). it.tables.meta.last) c.view.ensures,
+      c.self.invariant.sound.seen,
+      ap (λ (site : Held). site.kept.state.seen) c.self.view_is,
+      c.requires.late,
+    )
