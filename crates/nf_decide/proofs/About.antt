@@ -6,7 +6,7 @@ use Rattle.nf_base.specs.declared.perms.Act.{Act}
 use Rattle.nf_defs.specs.Prelude.{is_rooted}
 use Rattle.nf_reach.specs.Asking.{Asking, user_in}
 use Rattle.nf_words.specs.Needed.{mount_by, Need, needs, version_needs}
-use Rattle.nf_words.specs.Prelude.{access_of, act_asked, asker_of, Call, is_owner, mount_above, node_asked, seeker_of, unversioned}
+use Rattle.nf_words.specs.Prelude.{access_of, act_asked, Call, is_owner, mount_above, node_asked, seeker_of, unversioned}
 use Rattle.nf_words.specs.declared.answer.Denial.{Denial}
 use Rattle.nf_words.specs.declared.answer.Denial.TheVariants.{NotFound}
 use Rattle.nf_words.specs.declared.request.VersionAsk.{VersionAsk}

@@ -1,5 +1,5 @@
 -- The shares of a node that nothing is in, found by it.
-use Rattle.std.proofs.Common.{◌≡◌, ◌==◌, ℕ, Bool, true, false, not, List, [], ◌∷◌, ◌++◌, ◌&&◌, Option, Some, inl, inr, map, filter, if◌then◌else◌, refl, sym, ap, subst, ◌∙◌}
+use Rattle.std.proofs.Common.{◌≡◌, ◌==◌, ℕ, Bool, true, false, not, List, [], ◌∷◌, ◌++◌, ◌&&◌, Option, inl, inr, map, filter, if◌then◌else◌, refl, sym, ap, subst, ◌∙◌}
 use Rattle.std.specs.List.{flat_map}
 use Rattle.std.specs.Option.{option_map_or}
 use Rattle.std.proofs.Math.Bool.{and-false}
@@ -14,7 +14,7 @@ use Rattle.nf_base.specs.declared.rows.Row.TheVariants as rows
 use Rattle.nf_base.specs.declared.rows.NodeRow.{NodeRow}
 use Rattle.nf_base.specs.declared.rows.ShareRow.{ShareRow}
 use Rattle.nf_defs.proofs.Climbs.{under_leaf}
-use Rattle.nf_defs.specs.Prelude.{IsRising, is_under, share_key, Tables}
+use Rattle.nf_defs.specs.Prelude.{IsRising, share_key, Tables}
 use Rattle.nf_defs.specs.Tree.{is_leaf}
 use Rattle.nf_shares.proofs.Ending.{seam_there}
 use Rattle.nf_shares.specs.Kept.{ids_of}

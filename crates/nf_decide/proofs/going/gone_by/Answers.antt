@@ -1,10 +1,8 @@
 use Rattle.std.proofs.Common.{◌≡◌, ℕ, List, filter, map, ap, ◌∙◌}
 use Rattle.std.specs.Prelude.{◌==◌}
 use Rattle.nf_base.specs.declared.rows.ItemRow.{ItemRow}
-use Rattle.nf_retention.specs.Budget.{trash_bound}
 use Rattle.nf_trash.specs.Aged.{oldest_first}
 use Rattle.nf_trash.specs.Outgoing.{Walk, all_passed, starting}
-use Rattle.nf_trash.specs.declared.aged.Aged.{Aged}
 use Rattle.nf_words.specs.Prelude.{items_of}
 use Rattle.nf_decide.specs.Going.{seen_of}
 use Rattle.nf_decide.proofs.Walks.{walked}

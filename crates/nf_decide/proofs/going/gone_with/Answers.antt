@@ -6,7 +6,6 @@ use Rattle.nf_retention.specs.Budget.{trash_bound}
 use Rattle.nf_retention.specs.declared.trash.Trashed.{Trashed}
 use Rattle.nf_trash.specs.Aged.{aged_of, oldest_first}
 use Rattle.nf_trash.specs.Outgoing.{Walk, all_passed, passed, starting}
-use Rattle.nf_trash.specs.declared.aged.Aged.{Aged}
 use Rattle.nf_words.specs.Prelude.{item_size, items_of, quota_of}
 use Rattle.nf_decide.specs.Going.{seen_of}
 use Rattle.nf_decide.proofs.Walks.{seen_on, walked}

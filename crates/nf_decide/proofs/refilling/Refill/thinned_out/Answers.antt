@@ -1,10 +1,10 @@
-use Rattle.std.proofs.Common.{◌≡◌, ◌≤◌, ℕ, Bool, false, List, [], All, if◌then◌else◌, map, reverse, rules, subst, sym, ap, arith, ◌∙◌}
+use Rattle.std.proofs.Common.{◌≡◌, ◌≤◌, ℕ, Bool, false, List, [], All, if◌then◌else◌, map, reverse, subst, sym, ap, arith, ◌∙◌}
 use Rattle.std.proofs.lemmas.Grind.{common_steps}
 use Rattle.std.proofs.lemmas.Result.{IfOk-weaker}
 use Rattle.nf_base.specs.declared.rows.VersionRow.{VersionRow}
 use Rattle.nf_retention.specs.Thinning.{AreFalling, thinned}
 use Rattle.nf_retention.specs.declared.versions.Version.{Version}
-use Rattle.nf_words.specs.Versions.{held, is_empty, thinned_out, with_replaced}
+use Rattle.nf_words.specs.Versions.{is_empty, thinned_out, with_replaced}
 use Rattle.nf_decide.proofs.Refills.{moments_are, moments_fall, moments_past, thinned_falls}
 use Rattle.nf_decide.proofs.refilling.Refill.thinned_out.Goals as goal
 
