@@ -8,3 +8,5 @@ mod limits;
 mod seats;
 #[cfg(test)]
 mod turns;
+#[cfg(test)]
+mod versions;

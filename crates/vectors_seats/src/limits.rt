@@ -27,7 +27,7 @@ const TOKENS: u32 = 16_382;
 
 const MEMBERS: u32 = 65_535;
 
-fn push(alloc: Global, raws: &mut RawRows, row: &Row) -> Result<(), AllocError> {
+pub(crate) fn push(alloc: Global, raws: &mut RawRows, row: &Row) -> Result<(), AllocError> {
     let mut raw = RawRow::new(alloc);
     write(row, &mut raw)?;
     raws.push(raw)

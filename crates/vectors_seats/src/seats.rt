@@ -21,7 +21,7 @@ use std::test::Fail;
 use std::thread::{Threads, join_mut, yield_now};
 
 #[derive(Clone, Copy)]
-enum Act {
+pub(crate) enum Act {
     Get,
     Put,
     Mkcol,
@@ -106,7 +106,7 @@ fn wait_for<R: Wait>(rt: &R, stage: &AtomicU8, stages: u8) {
 }
 
 /// A request of alice's, whose Begin and End wait for so many stages.
-fn ask<K: Keeper + Drop, R: Wait>(
+pub(crate) fn ask<K: Keeper + Drop, R: Wait>(
     rt: &R,
     shared: &Shared<K>,
     stages: (u8, u8),
