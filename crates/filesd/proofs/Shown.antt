@@ -1,5 +1,5 @@
 -- The file of the demonstration rows is one that a run serves.
-use Rattle.std.proofs.Common.{◌≡◌, ◌∙◌, ◌&&◌, ◌||◌, ap, refl, arith, true, List, [], ◌∷◌, codes, Some, None, ℕ, Ok, is_some, if◌then◌else◌, Bool, find, false}
+use Rattle.std.proofs.Common.{◌≡◌, ◌∙◌, ◌&&◌, ◌||◌, ap, refl, arith, true, List, [], ◌∷◌, ◌++◌, codes, Some, None, ℕ, Ok, is_some, if◌then◌else◌, Bool, find, false}
 use Rattle.std.specs.Prelude.{bytes_eq, Option, option_map}
 use Rattle.std.specs.List.{list_all}
 use Rattle.std.specs.Option.{option_and_then, option_map_or, option_or}
@@ -74,7 +74,7 @@ hello_granted seat now words =
     let led : place_rule access call ≡ None = ap (λ (way : Way). option_or (source_refused access call way) None) way in
     let may : acts_rule access call ≡ None =
     ap (λ (way : Way). first_refused access (ground_of s.tables) (seeker_of call) now
-    (needs_between s.tables.nodes (root_of call) (asked_of (Get spot)) (Some way) None)) way
+    (needs_between s.tables.nodes (root_of call) (asked_of (Get spot)) (Some way) None ++ [])) way
     ∙ ap (λ (user : ℕ). first_refused access (ground_of s.tables) (User user) now
     (record { act = Read; node = 4; mount = None } ∷ [])) asker in
     let passes : Passes access call = record {
