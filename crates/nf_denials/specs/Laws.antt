@@ -1,5 +1,5 @@
 -- What a refusal by shares tells, and when it is made.
-use Rattle.std.specs.Prelude.{◌≡◌, ◌≢◌, ◌⊎◌, ℕ, ◌&&◌, All, Bool, false, true, Contains, List, Option, None, Some, Ok, Err, option_and_then}
+use Rattle.std.specs.Prelude.{◌≡◌, ◌≢◌, ◌⊎◌, ℕ, ◌&&◌, ◌++◌, All, Bool, false, true, Contains, List, Option, None, Some, Ok, Err, option_and_then}
 use Rattle.nf_access.specs.Broken.{IsFirstBroken, first_received}
 use Rattle.nf_access.specs.Laws.{IsRefused}
 use Rattle.nf_access.specs.Shares.{Ground, chain_of, ground_of}
@@ -10,7 +10,7 @@ use Rattle.nf_base.specs.declared.rows.UserRow.{UserRow}
 use Rattle.nf_defs.specs.declared.Seeker.{Seeker}
 use Rattle.nf_defs.specs.declared.Seeker.TheVariants.{Link}
 use Rattle.nf_laws.specs.Reads.{IsWellAsked}
-use Rattle.nf_words.specs.Prelude.{access_of, answer_to, asked_by, Call, call_of, caller_row, end_unreached, first_refused, goal_at, is_itself, is_owner, link_of, IsSound, may_by, mount_of, Need, needed, needed_by, node_of_key, seeker_of, source_refused, State, unreached_by, way_of}
+use Rattle.nf_words.specs.Prelude.{access_of, answer_to, asked_by, asker_of, Call, call_of, caller_row, end_unreached, first_refused, goal_at, is_itself, is_owner, lacks_version, link_of, IsSound, may_by, mount_above, mount_of, Need, needed, needed_by, needed_for, node_asked, node_of_key, seeker_of, source_refused, State, unnamed_by, unreached_by, way_of}
 use Rattle.nf_words.specs.declared.answer.By.{By}
 use Rattle.nf_words.specs.declared.answer.Denial.{Denial}
 use Rattle.nf_words.specs.declared.answer.Denial.TheVariants.{BrokenLink, NoShare}
@@ -88,21 +88,33 @@ pub record IsKeptOut (call : Call) (denial : Denial) : Type 0 where
   pub goes : GoesBy call mount
   pub shut : IsShut (ground_of call.state.tables) call.now (seeker_of call) None mount denial
 
+-- all that a request needs: at its paths, and where it is about versions
+abbrev pub all_needed : Call → List Need
+all_needed call = needed call ++ needed_for (access_of call.state) call call.request.wanted
+
 -- a request that is refused by shares is refused for a mount that its paths go by, or for an act that it needs
 abbrev pub BeginsTellTheirBreak : Type 0
 BeginsTellTheirBreak =
     (s : State) (seat now : ℕ) (words : Words) (request : Request) (denial : Denial) → IsSound s
     → answer_to s seat now (Begin words request) ≡ Err denial → is_of_shares denial ≡ true
     → let call = call_of s seat now words request in
-    IsKeptOut call denial ⊎ IsUnmet s now (seeker_of call) (needed call) denial
+    IsKeptOut call denial ⊎ IsUnmet s now (seeker_of call) (all_needed call) denial
 
--- who is known may do all that a request needs by no mount: a path in the own root leads to one's own. So what is unmet is by a mount
-abbrev pub OwnIsNotRefused : Type 0
-OwnIsNotRefused =
-    (s : State) (seat now : ℕ) (words : Words) (request : Request) (user : UserRow) → IsSound s
-    → let call = call_of s seat now words request in
-    caller_row call ≡ Some user
-    → All (λ (need : Need). need.mount ≡ None → may_by (access_of s) s.tables.nodes (seeker_of call) now need.act need.node need.mount ≡ true) (needed call)
+-- where a need is by no mount, who asks may do it
+abbrev pub IsMetByNone : Call → Need → Type 0
+IsMetByNone call need =
+    need.mount ≡ None
+    → may_by (access_of call.state) call.state.tables.nodes (seeker_of call) call.now need.act need.node need.mount ≡ true
+
+-- who is known may do all that a request needs by no mount: a path in the own root leads to one's own. So may whoever sees a file of whose
+-- versions something is asked: it is the own where no mount is at it or above it. So what is unmet is by a mount
+pub record OwnIsNotRefused : Type 0 where
+  pub paths : (s : State) (seat now : ℕ) (words : Words) (request : Request) (user : UserRow) → IsSound s
+      → let call = call_of s seat now words request in
+      caller_row call ≡ Some user → All (IsMetByNone call) (needed call)
+  pub versions : (s : State) (seat now : ℕ) (words : Words) (request : Request)
+      → let call = call_of s seat now words request in
+      unnamed_by call request.wanted ≡ None → All (IsMetByNone call) (needed_for (access_of s) call request.wanted)
 
 -- who asks by a link that is there, or was granted to store by one, is never told that there is no share: it is the link's own
 pub record LinksTellTheirChain : Type 0 where
