@@ -146,13 +146,6 @@ none_behind access call refusal early is =
     (skip is_early (target_rule access call) _ refusal (told_by is_early denial.BadTarget _ (λ fault. refl)) early
     (skip is_early (exists_rule access call) _ refusal (taken_other call.state.tables.nodes (places_of call) (asked_by call).makes) early is))))))))
 
--- what is refused so isn't refused for the token
-pub by_token : (access : Access) (call : Call) (refusal : Denial) → is_early refusal ≡ true → refusal_of access call ≡ Some refusal
-    → token_rule access call ≡ None
-unfolding token_rule
-by_token access call refusal early is =
-    (passed is_early (token_rule access call) _ refusal (unless_test is_early (is_some (caller_row call) || asks_by_link call) denial.Token refl) early is).0
-
 -- nor do those of who asks and of names
 by_rules : (access : Access) (call : Call) (refusal : Denial) → is_of_shares refusal ≡ true → refusal_of access call ≡ Some refusal
     → (place_rule access call ≡ Some refusal) ⊎ (acts_rule access call ≡ Some refusal)
@@ -177,6 +170,13 @@ by_rules access call refusal shares is =
         by_acts None f is =
             absurd (none_behind access call refusal (early_shares refusal shares)
             (skip is_of_shares (version_rule access call) _ refusal (version_other call call.request.wanted) shares is))
+
+-- what is refused early isn't refused for the token
+pub by_token : (access : Access) (call : Call) (refusal : Denial) → is_early refusal ≡ true → refusal_of access call ≡ Some refusal
+    → token_rule access call ≡ None
+unfolding token_rule
+by_token access call refusal early is =
+    (passed is_early (token_rule access call) _ refusal (unless_test is_early (is_some (caller_row call) || asks_by_link call) denial.Token refl) early is).0
 
 -- ---- places
 

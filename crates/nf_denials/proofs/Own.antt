@@ -21,7 +21,7 @@ use Rattle.nf_laws.specs.Access.{Owns}
 use Rattle.nf_words.proofs.Passing.{if_none}
 use Rattle.nf_words.proofs.Starts.{row_of_caller, user_root, user_seeks}
 use Rattle.nf_words.specs.Places.{folder_seen}
-use Rattle.nf_words.specs.Prelude.{access_of, act_asked, AreSound, asker_of, Call, call_of, caller_row, granting_above, is_owner, may_by, mount_above, mount_by, mount_of, Need, needed_for, needs, needs_at, needs_in, node_asked, node_found, root_of, seeker_of, unnamed_by, unversioned, user_of, Way, way_by, way_of}
+use Rattle.nf_words.specs.Prelude.{access_of, act_asked, AreSound, asker_of, Call, call_of, caller_row, granting_above, is_owner, may_by, mount_above, mount_by, mount_of, Need, needed_for, needs, needs_at, needs_in, node_asked, node_found, root_of, seeker_of, unnamed_by, user_of, Way, way_by, way_of}
 use Rattle.nf_words.specs.declared.answer.Denial.TheVariants as denial
 use Rattle.nf_words.specs.declared.request.Spot.{Spot}
 use Rattle.nf_words.specs.declared.request.Wanted.{Wanted}

@@ -207,42 +207,65 @@ module _ (call : Call) (ask : VersionAsk) (is : call.request.wanted ≡ Version 
       from_names refusal lost (named_rule access call) refl
       (sym (ap (λ (place : Option Denial). option_or place (option_or (named_rule access call) from_acts)) (place_passes token.0)) ∙ behind_names)
 
+  -- ---- of each refusal
+
+  abbrev node : ℕ
+  node = node_asked ask
+
+  abbrev folder : Bool
+  folder = is_folder call.state.tables.nodes node
+
+  abbrev lacks : Bool
+  lacks = lacks_version call.state.tables.versions ask
+
+  kind_told : refusal_of access call ≡ Some denial.Kind → IsLetAsk call ask × (folder ≡ true)
+  kind_told told = elim (has_cause denial.Kind refl told) [
+    | inl named ↦ absurd (seen_kind (is_seen call node) (sym named_is ∙ named))
+    | inr had ↦ (had.0, had_kind folder lacks (sym version_is ∙ had.1))
+  ]
+
+  lost_told : refusal_of access call ≡ Some denial.NotFound
+      → (is_seen call node ≡ false) ⊎ (IsLetAsk call ask × (folder ≡ false) × (lacks ≡ true))
+  lost_told told = elim (has_cause denial.NotFound refl told) [
+    | inl named ↦ inl (seen_lost (is_seen call node) (sym named_is ∙ named))
+    | inr had ↦ (let file = had_lost folder lacks (sym version_is ∙ had.1) in inr (had.0, file.0, file.1))
+  ]
+
+  unseen_told : IsWellAsked call → is_seen call node ≡ false → refusal_of access call ≡ Some denial.NotFound
+  unseen_told well hidden =
+      first_of (token_rule ∷ not_you_rule ∷ forbidden_rule ∷ place_rule ∷ []) named_rule
+      (acts_rule ∷ version_rule ∷ exists_rule ∷ target_rule ∷ overwrite_rule ∷ sharing_rule ∷ locked_rule ∷ limit_rule ∷ room_rule ∷ quota_rule ∷ [])
+      access call denial.NotFound (well.token, (well.not_you, (well.forbidden, (place_is ∙ well.linked, tt)))) (named_is ∙ ap told_seen hidden)
+
+  shut_told : (refusal : Denial) → IsWellAsked call → is_seen call node ≡ true
+      → first_refused access (ground_of call.state.tables) (seeker_of call) call.now (version_needs access call ask) ≡ Some refusal
+      → refusal_of access call ≡ Some refusal
+  shut_told refusal well seen shut =
+      first_of (token_rule ∷ not_you_rule ∷ forbidden_rule ∷ place_rule ∷ named_rule ∷ []) acts_rule
+      (version_rule ∷ exists_rule ∷ target_rule ∷ overwrite_rule ∷ sharing_rule ∷ locked_rule ∷ limit_rule ∷ room_rule ∷ quota_rule ∷ [])
+      access call refusal
+      (well.token, (well.not_you, (well.forbidden, (place_is ∙ well.linked, (named_is ∙ ap told_seen seen, tt))))) (acts_is ∙ shut)
+
 -- ---- the law
+
+-- what refuses a request is its answer
+answered_so : (call : Call) (refusal : Denial) → refusal_of (access_of call.state) call ≡ Some refusal
+    → answered_by (unless_refused (refusal_of (access_of call.state) call) (allowed_of (access_of call.state) call)) ≡ Err refusal
+answered_so call refusal told =
+    ap (λ (o : Option Denial). answered_by (unless_refused o (allowed_of (access_of call.state) call))) told
 
 pub versions_tell : VersionsTellTheirCause
 versions_tell = record {
   kind = λ s seat now words request ask wanted told.
       let call = call_of s seat now words request in
-      let node = node_asked ask in
-      elim (has_cause call ask wanted denial.Kind refl (refused_so (refusal_of (access_of s) call) (allowed_of (access_of s) call) denial.Kind told)) [
-        | inl named ↦ absurd (seen_kind (is_seen call node) (sym (named_is call ask wanted) ∙ named))
-        | inr had ↦
-            (had.0, had_kind (is_folder s.tables.nodes node) (lacks_version s.tables.versions ask) (sym (version_is call ask wanted) ∙ had.1))
-      ];
+      kind_told call ask wanted (refused_so (refusal_of (access_of s) call) (allowed_of (access_of s) call) denial.Kind told);
   lost = λ s seat now words request ask wanted told.
       let call = call_of s seat now words request in
-      let node = node_asked ask in
-      elim (has_cause call ask wanted denial.NotFound refl
-      (refused_so (refusal_of (access_of s) call) (allowed_of (access_of s) call) denial.NotFound told)) [
-        | inl named ↦ inl (seen_lost (is_seen call node) (sym (named_is call ask wanted) ∙ named))
-        | inr had ↦
-            (let lacks = had_lost (is_folder s.tables.nodes node) (lacks_version s.tables.versions ask) (sym (version_is call ask wanted) ∙ had.1) in
-            inr (had.0, lacks.0, lacks.1))
-      ];
+      lost_told call ask wanted (refused_so (refusal_of (access_of s) call) (allowed_of (access_of s) call) denial.NotFound told);
   unseen = λ s seat now words request ask wanted well hidden.
       let call = call_of s seat now words request in
-      ap (λ (o : Option Denial). answered_by (unless_refused o (allowed_of (access_of s) call)))
-      (first_of (token_rule ∷ not_you_rule ∷ forbidden_rule ∷ place_rule ∷ []) named_rule
-      (acts_rule ∷ version_rule ∷ exists_rule ∷ target_rule ∷ overwrite_rule ∷ sharing_rule ∷ locked_rule ∷ limit_rule ∷ room_rule ∷ quota_rule ∷ [])
-      (access_of s) call denial.NotFound
-      (well.token, (well.not_you, (well.forbidden, (place_is call ask wanted ∙ well.linked, tt))))
-      (named_is call ask wanted ∙ ap told_seen hidden));
+      answered_so call denial.NotFound (unseen_told call ask wanted well hidden);
   shut = λ s seat now words request ask refusal wanted well seen shut.
       let call = call_of s seat now words request in
-      ap (λ (o : Option Denial). answered_by (unless_refused o (allowed_of (access_of s) call)))
-      (first_of (token_rule ∷ not_you_rule ∷ forbidden_rule ∷ place_rule ∷ named_rule ∷ []) acts_rule
-      (version_rule ∷ exists_rule ∷ target_rule ∷ overwrite_rule ∷ sharing_rule ∷ locked_rule ∷ limit_rule ∷ room_rule ∷ quota_rule ∷ [])
-      (access_of s) call refusal
-      (well.token, (well.not_you, (well.forbidden, (place_is call ask wanted ∙ well.linked, (named_is call ask wanted ∙ ap told_seen seen, tt)))))
-      (acts_is call ask wanted ∙ shut));
+      answered_so call refusal (shut_told call ask wanted refusal well seen shut);
 }

@@ -152,7 +152,7 @@ is_seen call node =
     let t = call.state.tables in
     is_rooted t.nodes node && (is_owner t.nodes (seeker_of call) node || is_some (mount_above t.nodes t.mounts (asker_of call) node))
 
--- so is that of whose versions something is asked, and who asks may do what that needs
+-- the file of whose versions something is asked is seen so, and who asks may do what that needs
 pub record IsLetAsk (call : Call) (ask : VersionAsk) : Type 0 where
   pub seen : is_seen call (node_asked ask) ≡ true
   pub may : All (λ (need : Need). may_by (access_of call.state) call.state.tables.nodes (seeker_of call) call.now need.act need.node need.mount ≡ true)
