@@ -33,7 +33,8 @@ pub fn unreached_is_refused()
 {}
 
 /// What is asked about versions is refused as `kind` for a folder, and as `not-found` where the caller neither owns the file nor has a mount
-/// at it or above it, or where the file hasn't that version. Which of these it is, they alone are told who may do what they ask.
+/// at it or above it, or where the file hasn't that version. Whether it is a folder or has that version, they alone are told who may do what
+/// they ask.
 pub fn versions_tell_their_cause()
     ensures { VersionsTellTheirCause }
 {}
