@@ -3,21 +3,21 @@ use Rattle.std.proofs.Common.{◌≡◌, ◌⊎◌, inl, inr, ℕ, ◌&&◌, ◌
 use Rattle.std.specs.Prelude.{IfSome, is_some, option_and_then}
 use Rattle.std.specs.List.{list_all, list_any}
 use Rattle.std.specs.Option.{option_or}
-use Rattle.std.proofs.lemmas.Bool.{both_ways}
+use Rattle.std.proofs.lemmas.Bool.{both_ways, false≢true}
 use Rattle.std.proofs.lemmas.Option.{none-some, same_Some}
 use Rattle.nf_access.specs.Shares.{ground_of, link_row}
 use Rattle.nf_base.specs.declared.rows.ItemRow.{ItemRow}
 use Rattle.nf_base.specs.declared.rows.NodeRow.{NodeRow}
 use Rattle.nf_defs.specs.declared.Found.{Found}
 use Rattle.nf_defs.specs.declared.Found.TheVariants.{At, Free, Missing}
-use Rattle.nf_defs.specs.Prelude.{Access}
+use Rattle.nf_defs.specs.Prelude.{Access, is_folder}
 use Rattle.nf_defs.specs.declared.Seeker.{Seeker}
 use Rattle.nf_words.proofs.Orders.{first_of}
 use Rattle.nf_words.specs.Places.{has_forbidden, taken}
 use Rattle.nf_words.specs.Reached.{unlinked_by}
 use Rattle.nf_words.specs.Sharing.{unnamed_by}
 use Rattle.nf_words.specs.Trash.{lacks_item, untrashed}
-use Rattle.nf_words.specs.Prelude.{access_of, acts_rule, allowed_of, answered_by, are_named, asked_by, asks_by_link, Call, call_of, caller_row, exists_rule, forbidden_rule, is_caller, is_itself, IsSound, limit_rule, locked_rule, may_ask, mount_of, named_rule, needed, not_you_rule, receiver_named, overwrite_rule, own_item, paths_of, place_rule, places_of, refusal_of, room_rule, root_of, seeker_of, share_shown, share_steered, sharing_rule, source_lost, source_refused, State, target_lost, target_refused, target_rule, token_rule, unless_refused, unlinked, unreached, unreached_by, users_of, Way, way_by, way_of, quota_rule}
+use Rattle.nf_words.specs.Prelude.{access_of, acts_rule, allowed_of, answered_by, are_named, asked_by, asks_by_link, Call, call_of, caller_row, exists_rule, forbidden_rule, is_caller, is_itself, IsSound, lacks_version, limit_rule, locked_rule, may_ask, mount_of, named_rule, node_asked, not_you_rule, receiver_named, overwrite_rule, own_item, paths_of, place_rule, places_of, refusal_of, room_rule, root_of, seeker_of, share_shown, share_steered, sharing_rule, source_lost, source_refused, State, target_lost, target_refused, target_rule, token_rule, unless_refused, unlinked, unreached, unreached_by, users_of, version_lost, version_rule, Way, way_by, way_of, quota_rule}
 use Rattle.nf_words.specs.declared.answer.Allowed.{Allowed}
 use Rattle.nf_words.specs.declared.answer.Denial.{Denial}
 use Rattle.nf_words.specs.declared.answer.Denial.TheVariants as denial
@@ -31,69 +31,101 @@ use Rattle.nf_words.specs.declared.request.Spot.{Spot}
 use Rattle.nf_words.specs.declared.request.TrashAsk.{TrashAsk}
 use Rattle.nf_words.specs.declared.request.TrashAsk.TheVariants as trash
 use Rattle.nf_words.specs.declared.request.Wanted.{Wanted}
-use Rattle.nf_words.specs.declared.request.Wanted.TheVariants.{People, Share, Trash}
+use Rattle.nf_words.specs.declared.request.Wanted.TheVariants.{People, Share, Trash, Version}
 use Rattle.nf_denials.proofs.Told.{acts_told, unreached_told}
-use Rattle.nf_denials.specs.Laws.{BeginsTellTheirBreak, GoesBy, IsKeptOut, IsStoppedAt, IsUnmet, UnreachedIsRefused, at_source, at_target, is_of_shares}
+use Rattle.nf_denials.specs.Laws.{BeginsTellTheirBreak, GoesBy, IsKeptOut, IsStoppedAt, IsUnmet, UnreachedIsRefused, all_needed, at_source, at_target, is_of_shares}
 
 -- ---- rules of other things
 
--- none, or a refusal that isn't by shares
-abbrev pub IsOther : Option Denial → Type 0
-IsOther o = IfSome o (λ (refusal : Denial). is_of_shares refusal ≡ false)
+module _ (of : Denial → Bool) where
+  -- none, or a refusal that isn't one of some
+  abbrev pub IsOther : Option Denial → Type 0
+  IsOther o = IfSome o (λ (refusal : Denial). of refusal ≡ false)
 
--- such a rule isn't the one that refuses by shares
-pub skip : (rule rest : Option Denial) (refusal : Denial) → IsOther rule → is_of_shares refusal ≡ true → option_or rule rest ≡ Some refusal
-    → rest ≡ Some refusal
-skip None rest refusal other shares is = is
-skip (Some first) rest refusal other shares is =
-    absurd (both_ways (is_of_shares refusal) (subst (λ (d : Denial). is_of_shares d ≡ false) (same_Some first refusal is) other) shares)
+  -- such a rule isn't the one that refuses so: it passes
+  pub passed : (rule rest : Option Denial) (refusal : Denial) → IsOther rule → of refusal ≡ true → option_or rule rest ≡ Some refusal
+      → (rule ≡ None) × (rest ≡ Some refusal)
+  passed None rest refusal other told is = (refl, is)
+  passed (Some first) rest refusal other told is =
+      absurd (both_ways (of refusal) (subst (λ (d : Denial). of d ≡ false) (same_Some first refusal is) other) told)
 
-unless_test : (b : Bool) (refusal : Denial) → is_of_shares refusal ≡ false → IsOther (if b then None else Some refusal)
-unless_test true refusal fine = tt
-unless_test false refusal fine = fine
+  pub skip : (rule rest : Option Denial) (refusal : Denial) → IsOther rule → of refusal ≡ true → option_or rule rest ≡ Some refusal
+      → rest ≡ Some refusal
+  skip rule rest refusal other told is = (passed rule rest refusal other told is).1
 
-pub if_test : (b : Bool) (refusal : Denial) → is_of_shares refusal ≡ false → IsOther (if b then Some refusal else None)
-if_test true refusal fine = fine
-if_test false refusal fine = tt
+  pub unless_test : (b : Bool) (refusal : Denial) → of refusal ≡ false → IsOther (if b then None else Some refusal)
+  unless_test true refusal fine = tt
+  unless_test false refusal fine = fine
 
-pub told_by : {X : Type 0} (tell : X → Denial) (o : Option X) → ((x : X) → is_of_shares (tell x) ≡ false) → IsOther (option_map tell o)
-told_by tell None fine = tt
-told_by tell (Some x) fine = fine x
+  pub if_test : (b : Bool) (refusal : Denial) → of refusal ≡ false → IsOther (if b then Some refusal else None)
+  if_test true refusal fine = fine
+  if_test false refusal fine = tt
 
-taken_other : (rows : List NodeRow) (places : Places) (makes : Making) → IsOther (taken rows places makes)
+  pub told_by : {X : Type 0} (tell : X → Denial) (o : Option X) → ((x : X) → of (tell x) ≡ false) → IsOther (option_map tell o)
+  told_by tell None fine = tt
+  told_by tell (Some x) fine = fine x
+
+-- what shares refuse, or is told of what isn't there or has no versions
+abbrev pub is_early : Denial → Bool
+is_early denial.NoShare = true
+is_early (denial.BrokenLink link cause) = true
+is_early denial.NotFound = true
+is_early denial.Kind = true
+is_early other = false
+
+early_shares : (refusal : Denial) → is_of_shares refusal ≡ true → is_early refusal ≡ true
+early_shares denial.NoShare is = refl
+early_shares (denial.BrokenLink link cause) is = refl
+early_shares other is = absurd (false≢true is)
+
+taken_other : (rows : List NodeRow) (places : Places) (makes : Making) → IsOther is_early (taken rows places makes)
 taken_other rows places making.Nothing = tt
-taken_other rows places (making.File length) = if_test _ (denial.Exists _) refl
-taken_other rows places making.Folder = if_test _ (denial.Exists _) refl
+taken_other rows places (making.File length) = if_test is_early _ (denial.Exists _) refl
+taken_other rows places making.Folder = if_test is_early _ (denial.Exists _) refl
 taken_other rows places making.Moved = tt
 taken_other rows places making.Copied = tt
 taken_other rows places making.Shared = tt
 taken_other rows places making.Told = tt
 taken_other rows places (making.Restored item) = tt
+taken_other rows places (making.Sent node) = tt
+taken_other rows places (making.Refilled node at) = tt
 
 -- an item of the trash that isn't there
-lacks_other : (item : Option ItemRow) → IsOther (lacks_item item)
+lacks_other : (item : Option ItemRow) → IsOther is_of_shares (lacks_item item)
 lacks_other None = refl
 lacks_other (Some item) = tt
 
-trash_other : (call : Call) (asked : TrashAsk) → IsOther (untrashed call asked)
+trash_other : (call : Call) (asked : TrashAsk) → IsOther is_of_shares (untrashed call asked)
 trash_other call (trash.List user) = tt
 trash_other call (trash.Drop user item) = lacks_other (own_item call item)
 trash_other call (trash.Empty user) = tt
 trash_other call (trash.Restore user item) = lacks_other (own_item call item)
 
--- a user, a group, a share or an item of the trash that isn't there
-named_other : (call : Call) (wanted : Wanted) → IsOther (unnamed_by call wanted)
-named_other call (Share (ask.New spot to perms until)) = unless_test (is_some (receiver_named call.state.tables to)) denial.NotFound refl
+-- a user, a group, a share, an item of the trash or a file that isn't there
+named_other : (call : Call) (wanted : Wanted) → IsOther is_of_shares (unnamed_by call wanted)
+named_other call (Share (ask.New spot to perms until)) = unless_test is_of_shares (is_some (receiver_named call.state.tables to)) denial.NotFound refl
 named_other call (Share (ask.List spot with_me)) = tt
-named_other call (Share (ask.Show share)) = unless_test (is_some (share_shown call share)) denial.NotFound refl
-named_other call (Share (ask.Set share perms until)) = unless_test (is_some (share_steered call share)) denial.NotFound refl
-named_other call (Share (ask.End share)) = unless_test (is_some (share_steered call share)) denial.NotFound refl
-named_other call (People asked) = unless_test (are_named call.state.tables asked) denial.NotFound refl
+named_other call (Share (ask.Show share)) = unless_test is_of_shares (is_some (share_shown call share)) denial.NotFound refl
+named_other call (Share (ask.Set share perms until)) = unless_test is_of_shares (is_some (share_steered call share)) denial.NotFound refl
+named_other call (Share (ask.End share)) = unless_test is_of_shares (is_some (share_steered call share)) denial.NotFound refl
+named_other call (People asked) = unless_test is_of_shares (are_named call.state.tables asked) denial.NotFound refl
 named_other call (Trash asked) = trash_other call asked
+named_other call (Version asked) = unless_test is_of_shares _ denial.NotFound refl
 named_other call other = tt
 
--- the rules behind those of places and of acts don't refuse by shares
-abbrev behind : Access → Call → Option Denial
+-- a folder, or a version that isn't there
+version_other : (call : Call) (wanted : Wanted) → IsOther is_of_shares (version_lost call wanted)
+version_other call (Version asked) =
+    here (is_folder call.state.tables.nodes (node_asked asked)) (lacks_version call.state.tables.versions asked)
+  where
+    here : (folder lacks : Bool)
+        → IsOther is_of_shares (if folder then Some denial.Kind else if lacks then Some denial.NotFound else None)
+    here true lacks = refl
+    here false lacks = if_test is_of_shares lacks denial.NotFound refl
+version_other call other = tt
+
+-- the rules behind those of places, of acts and of versions don't refuse so
+abbrev pub behind : Access → Call → Option Denial
 behind access call =
     option_or (exists_rule access call)
     (option_or (target_rule access call)
@@ -101,40 +133,50 @@ behind access call =
     (option_or (sharing_rule access call)
     (option_or (locked_rule access call) (option_or (limit_rule access call) (option_or (room_rule access call) (option_or (quota_rule access call) None)))))))
 
-none_behind : (access : Access) (call : Call) (refusal : Denial) → is_of_shares refusal ≡ true → behind access call ≡ Some refusal → ⊥
+pub none_behind : (access : Access) (call : Call) (refusal : Denial) → is_early refusal ≡ true → behind access call ≡ Some refusal → ⊥
 unfolding exists_rule target_rule overwrite_rule sharing_rule locked_rule limit_rule room_rule quota_rule
-none_behind access call refusal shares is =
+none_behind access call refusal early is =
     none-some refusal
-    (skip (quota_rule access call) None refusal (told_by denial.Quota _ (λ excess. refl)) shares
-    (skip (room_rule access call) _ refusal (told_by denial.Limit _ (λ limit. refl)) shares
-    (skip (limit_rule access call) _ refusal (told_by denial.Limit _ (λ limit. refl)) shares
-    (skip (locked_rule access call) _ refusal (told_by denial.Locked _ (λ key. refl)) shares
-    (skip (sharing_rule access call) _ refusal (told_by denial.Rule _ (λ fault. refl)) shares
-    (skip (overwrite_rule access call) _ refusal (if_test _ denial.Overwrite refl) shares
-    (skip (target_rule access call) _ refusal (told_by denial.BadTarget _ (λ fault. refl)) shares
-    (skip (exists_rule access call) _ refusal (taken_other call.state.tables.nodes (places_of call) (asked_by call).makes) shares is))))))))
+    (skip is_early (quota_rule access call) None refusal (told_by is_early denial.Quota _ (λ excess. refl)) early
+    (skip is_early (room_rule access call) _ refusal (told_by is_early denial.Limit _ (λ limit. refl)) early
+    (skip is_early (limit_rule access call) _ refusal (told_by is_early denial.Limit _ (λ limit. refl)) early
+    (skip is_early (locked_rule access call) _ refusal (told_by is_early denial.Locked _ (λ key. refl)) early
+    (skip is_early (sharing_rule access call) _ refusal (told_by is_early denial.Rule _ (λ fault. refl)) early
+    (skip is_early (overwrite_rule access call) _ refusal (if_test is_early _ denial.Overwrite refl) early
+    (skip is_early (target_rule access call) _ refusal (told_by is_early denial.BadTarget _ (λ fault. refl)) early
+    (skip is_early (exists_rule access call) _ refusal (taken_other call.state.tables.nodes (places_of call) (asked_by call).makes) early is))))))))
 
 -- nor do those of who asks and of names
 by_rules : (access : Access) (call : Call) (refusal : Denial) → is_of_shares refusal ≡ true → refusal_of access call ≡ Some refusal
     → (place_rule access call ≡ Some refusal) ⊎ (acts_rule access call ≡ Some refusal)
-unfolding token_rule not_you_rule forbidden_rule named_rule
+unfolding token_rule not_you_rule forbidden_rule named_rule version_rule
 by_rules access call refusal shares is =
     here (place_rule access call) (acts_rule access call) refl refl
-    (skip (forbidden_rule access call) _ refusal (if_test (list_any has_forbidden (paths_of (asked_by call))) denial.ForbiddenName refl) shares
-    (skip (not_you_rule access call) _ refusal (unless_test (list_all (is_caller call) (users_of (asked_by call)) && may_ask call) denial.NotYou refl) shares
-    (skip (token_rule access call) _ refusal (unless_test (is_some (caller_row call) || asks_by_link call) denial.Token refl) shares is)))
+    (skip is_of_shares (forbidden_rule access call) _ refusal (if_test is_of_shares (list_any has_forbidden (paths_of (asked_by call))) denial.ForbiddenName refl) shares
+    (skip is_of_shares (not_you_rule access call) _ refusal (unless_test is_of_shares (list_all (is_caller call) (users_of (asked_by call)) && may_ask call) denial.NotYou refl) shares
+    (skip is_of_shares (token_rule access call) _ refusal (unless_test is_of_shares (is_some (caller_row call) || asks_by_link call) denial.Token refl) shares is)))
   where
     here : (place acts : Option Denial) → place_rule access call ≡ place → acts_rule access call ≡ acts
-        → option_or place (option_or (named_rule access call) (option_or acts (behind access call))) ≡ Some refusal
+        → option_or place (option_or (named_rule access call) (option_or acts (option_or (version_rule access call) (behind access call)))) ≡ Some refusal
         → (place_rule access call ≡ Some refusal) ⊎ (acts_rule access call ≡ Some refusal)
     here (Some first) acts e f is = inl (e ∙ is)
     here None acts e f is =
-        by_acts acts f (skip (named_rule access call) _ refusal (named_other call call.request.wanted) shares is)
+        by_acts acts f (skip is_of_shares (named_rule access call) _ refusal (named_other call call.request.wanted) shares is)
       where
-        by_acts : (acts : Option Denial) → acts_rule access call ≡ acts → option_or acts (behind access call) ≡ Some refusal
+        by_acts : (acts : Option Denial) → acts_rule access call ≡ acts
+            → option_or acts (option_or (version_rule access call) (behind access call)) ≡ Some refusal
             → (place_rule access call ≡ Some refusal) ⊎ (acts_rule access call ≡ Some refusal)
         by_acts (Some first) f is = inr (f ∙ is)
-        by_acts None f is = absurd (none_behind access call refusal shares is)
+        by_acts None f is =
+            absurd (none_behind access call refusal (early_shares refusal shares)
+            (skip is_of_shares (version_rule access call) _ refusal (version_other call call.request.wanted) shares is))
+
+-- what is refused early isn't refused for the token
+pub by_token : (access : Access) (call : Call) (refusal : Denial) → is_early refusal ≡ true → refusal_of access call ≡ Some refusal
+    → token_rule access call ≡ None
+unfolding token_rule
+by_token access call refusal early is =
+    (passed is_early (token_rule access call) _ refusal (unless_test is_early (is_some (caller_row call) || asks_by_link call) denial.Token refl) early is).0
 
 -- ---- places
 
@@ -149,20 +191,20 @@ itself_is rows who root names None node is = absurd (cc)
 itself_is rows who root names (Some other) node is = refl
 
 -- that there is no such link isn't of shares
-unlinked_other : (call : Call) → IsOther (unlinked call)
+unlinked_other : (call : Call) → IsOther is_of_shares (unlinked call)
 unlinked_other call = here call.request.caller
   where
-    here : (who : Caller) → IsOther (unlinked_by call.state who)
+    here : (who : Caller) → IsOther is_of_shares (unlinked_by call.state who)
     here caller.Absent = tt
     here (caller.Token digest) = tt
-    here (caller.Link token) = unless_test (is_some (link_row call.state.tables.shares token)) denial.NotFound refl
+    here (caller.Link token) = unless_test is_of_shares (is_some (link_row call.state.tables.shares token)) denial.NotFound refl
 
-source_other : (place : Found) → IsOther (source_lost place)
+source_other : (place : Found) → IsOther is_of_shares (source_lost place)
 source_other (At node) = tt
 source_other (Free folder) = refl
 source_other (Missing depth) = refl
 
-target_other : (place : Found) → IsOther (target_lost place)
+target_other : (place : Found) → IsOther is_of_shares (target_lost place)
 target_other (At node) = tt
 target_other (Free folder) = tt
 target_other (Missing depth) = refl
@@ -171,8 +213,8 @@ pub either : (a b : Option Denial) (refusal : Denial) → option_or a b ≡ Some
 either None b refusal is = inr is
 either (Some first) b refusal is = inl is
 
-pub first_one : (a b : Option Denial) (refusal : Denial) → IsOther b → is_of_shares refusal ≡ true → option_or a b ≡ Some refusal → a ≡ Some refusal
-first_one None b refusal other shares is = skip b None refusal other shares (ap (λ (o : Option Denial). option_or o None) is ∙ refl)
+pub first_one : (a b : Option Denial) (refusal : Denial) → IsOther is_of_shares b → is_of_shares refusal ≡ true → option_or a b ≡ Some refusal → a ≡ Some refusal
+first_one None b refusal other shares is = skip is_of_shares b None refusal other shares (ap (λ (o : Option Denial). option_or o None) is ∙ refl)
 first_one (Some first) b refusal other shares is = is
 
 module _ (s : State) (seat now : ℕ) (call : Call) (refusal : Denial) (sound : IsSound call.state) (shares : is_of_shares refusal ≡ true) where
@@ -192,7 +234,7 @@ module _ (s : State) (seat now : ℕ) (call : Call) (refusal : Denial) (sound : 
 
   kept_out : place_rule (access_of call.state) call ≡ Some refusal → IsKeptOut call refusal
   unfolding place_rule
-  kept_out is = elim (either _ _ refusal (skip (unlinked call) _ refusal (unlinked_other call) shares is)) [
+  kept_out is = elim (either _ _ refusal (skip is_of_shares (unlinked call) _ refusal (unlinked_other call) shares is)) [
     | inl source ↦ at (asked_by call).source refl source
     | inr target ↦ to (asked_by call).target refl target
   ]
@@ -218,9 +260,9 @@ module _ (s : State) (seat now : ℕ) (call : Call) (refusal : Denial) (sound : 
           by_way spot (first_one _ (target_lost (way_of call spot).place) refusal (target_other (way_of call spot).place) shares is)
           (λ mount by. inr (ap (option_and_then (mount_of call)) e ∙ by))
 
-  unmet : acts_rule (access_of call.state) call ≡ Some refusal → IsUnmet call.state call.now (seeker_of call) (needed call) refusal
+  unmet : acts_rule (access_of call.state) call ≡ Some refusal → IsUnmet call.state call.now (seeker_of call) (all_needed call) refusal
   unfolding acts_rule
-  unmet is = acts_told call.state (seeker_of call) call.now (needed call) refusal sound is
+  unmet is = acts_told call.state (seeker_of call) call.now (all_needed call) refusal sound is
 
 -- ---- requests
 
@@ -276,5 +318,5 @@ unreached_refused s seat now words request mount refusal well stop is =
     let access = access_of s in
     ap (λ (o : Option Denial). answered_by (unless_refused o (allowed_of access call)))
     (first_of (token_rule ∷ not_you_rule ∷ forbidden_rule ∷ []) place_rule
-    (named_rule ∷ acts_rule ∷ exists_rule ∷ target_rule ∷ overwrite_rule ∷ sharing_rule ∷ locked_rule ∷ limit_rule ∷ room_rule ∷ quota_rule ∷ []) access call refusal
+    (named_rule ∷ acts_rule ∷ version_rule ∷ exists_rule ∷ target_rule ∷ overwrite_rule ∷ sharing_rule ∷ locked_rule ∷ limit_rule ∷ room_rule ∷ quota_rule ∷ []) access call refusal
     (well.token, (well.not_you, (well.forbidden, tt))) (stopped call mount refusal well.linked stop is))

@@ -67,19 +67,19 @@ end_told s now by key length refusal sound shares is = elim (either _ _ refusal 
 ]
   where
     -- that the name was taken isn't of shares, nor is a limit, nor a quota
-    lost_other : (key : LockKey) → IsOther (end_lost s.tables key)
+    lost_other : (key : LockKey) → IsOther is_of_shares (end_lost s.tables key)
     lost_other (Node node) = tt
-    lost_other (Slot folder name) = if_test _ denial.NotFound refl
+    lost_other (Slot folder name) = if_test is_of_shares _ denial.NotFound refl
 
-    or_other : (a b : Option Denial) → IsOther a → IsOther b → IsOther (option_or a b)
+    or_other : (a b : Option Denial) → IsOther is_of_shares a → IsOther is_of_shares b → IsOther is_of_shares (option_or a b)
     or_other None b fine more = more
     or_other (Some first) b fine more = fine
 
-    unfit : IsOther (end_unfit s.tables key length)
-    unfit = or_other (option_map denial.Limit (limit_at s.tables (pieces_of length) (place_of key))) _ (told_by denial.Limit _ (λ limit. refl))
-        (told_by denial.Quota _ (λ excess. refl))
+    unfit : IsOther is_of_shares (end_unfit s.tables key length)
+    unfit = or_other (option_map denial.Limit (limit_at s.tables (pieces_of length) (place_of key))) _ (told_by is_of_shares denial.Limit _ (λ limit. refl))
+        (told_by is_of_shares denial.Quota _ (λ excess. refl))
 
-    lost : IsOther (option_or (end_lost s.tables key) (end_unfit s.tables key length))
+    lost : IsOther is_of_shares (option_or (end_lost s.tables key) (end_unfit s.tables key length))
     lost = or_other (end_lost s.tables key) (end_unfit s.tables key length) (lost_other key) unfit
 
     by_mount : (mount : Option ℕ) → by.mount ≡ mount → is_owner s.tables.nodes by.seeker (node_of_key key) ≡ false

@@ -4,3 +4,4 @@ pub mod Linked
 pub mod Needs
 pub mod Own
 pub mod Told
+pub mod Versions

@@ -3,8 +3,8 @@ use Rattle.std.proofs.Common.{◌≡◌, ◌==◌, ◌&&◌, ℕ, Bool, true, fa
 use Rattle.std.specs.Prelude.{Contains, option_and_then}
 use Rattle.std.specs.List.{All}
 use Rattle.std.specs.Option.{IfSome, option_map_or}
-use Rattle.std.proofs.lemmas.Bool.{and_from, both_ways, eq-eqb, eqb-true}
-use Rattle.std.proofs.lemmas.List.Elements.{All-cons, All-contains, All-nil}
+use Rattle.std.proofs.lemmas.Bool.{and_from, both_ways, eq-eqb, eqb-true, false≢true}
+use Rattle.std.proofs.lemmas.List.Elements.{All-append, All-cons, All-contains, All-nil}
 use Rattle.std.proofs.lemmas.Option.{same_Some}
 use Rattle.nf_access.proofs.LookUps.{find_among}
 use Rattle.nf_access.specs.Broken.{first_received}
@@ -17,9 +17,9 @@ use Rattle.nf_defs.specs.declared.Seeker.{Seeker}
 use Rattle.nf_defs.specs.declared.Seeker.TheVariants.{Link}
 use Rattle.nf_laws.proofs.Rows.{each_fails}
 use Rattle.nf_words.proofs.Ends.{goal_sound}
-use Rattle.nf_words.proofs.Starts.{link_mount, link_seeks}
+use Rattle.nf_words.proofs.Starts.{link_mount, link_seeks, only_files}
 use Rattle.nf_words.specs.Calls.{link_by}
-use Rattle.nf_words.specs.Prelude.{Call, call_of, caller_row, folder_for, is_by_link, is_itself, IsGoalSound, link_of, mount_of, Need, needed, needed_by, needs, needs_at, needs_in, node_found, node_of_key, root_of, seeker_of, State, Way, way_of}
+use Rattle.nf_words.specs.Prelude.{access_of, allowed_of, Call, call_of, caller_row, folder_for, is_about_files, is_by_link, is_itself, IsGoalSound, link_of, mount_of, Need, needed, needed_by, needed_for, needs, needs_at, needs_in, node_found, node_of_key, refusal_of, root_of, seeker_of, State, Way, way_of}
 use Rattle.nf_words.specs.Sound.{MayStoreBy}
 use Rattle.nf_words.specs.declared.answer.By.{By}
 use Rattle.nf_words.specs.declared.answer.Denial.TheVariants.{NoShare}
@@ -29,10 +29,12 @@ use Rattle.nf_words.specs.declared.answer.LockKey.TheVariants.{Node, Slot}
 use Rattle.nf_words.specs.declared.request.Caller.{Caller}
 use Rattle.nf_words.specs.declared.request.Caller.TheVariants as caller
 use Rattle.nf_words.specs.declared.request.Spot.{Spot}
-use Rattle.nf_denials.proofs.Begins.{begins_tell, itself_is, mount_is}
+use Rattle.nf_words.specs.declared.request.Wanted.{Wanted}
+use Rattle.nf_words.specs.declared.request.Wanted.TheVariants.{Version}
+use Rattle.nf_denials.proofs.Begins.{begins_tell, by_token, itself_is, mount_is, refused_so}
 use Rattle.nf_denials.proofs.Ends.{ends_tell}
 use Rattle.nf_denials.proofs.Needs.{each_need}
-use Rattle.nf_denials.specs.Laws.{IsKeptOut, IsShut, IsShutBy, IsUnmet, LinksTellTheirChain}
+use Rattle.nf_denials.specs.Laws.{all_needed, IsKeptOut, IsShut, IsShutBy, IsUnmet, LinksTellTheirChain}
 
 -- a share that is there is received on its node by whoever it is a link for
 first_some : (t : Tables) (share : ShareRow) → Contains t.shares share
@@ -131,8 +133,20 @@ module _ (call : Call) (share : ShareRow) (is : link_of call ≡ Some share) whe
         needs_by Create (folder_for call.state.tables.nodes (root_of call) way) (if way.itself then None else way.mount)
         (ap (λ (b : Bool). if b then None else way.mount) itself ∙ goes)
 
-  may_all : IsUnmet call.state call.now (seeker_of call) (needed call) NoShare → ⊥
-  may_all = no_need call.state call.now share (seeker_of call) (needed call) among seeks (each_need call GoesByIt at_by in_by)
+  -- of versions nothing is asked
+  no_version : (wanted : Wanted) → is_about_files wanted ≡ true → All GoesByIt (needed_for (access_of call.state) call wanted)
+  no_version (Version asked) files = absurd (false≢true files)
+  no_version other files = All-nil GoesByIt
+
+  may_all : is_about_files call.request.wanted ≡ true → IsUnmet call.state call.now (seeker_of call) (all_needed call) NoShare → ⊥
+  may_all files =
+      no_need call.state call.now share (seeker_of call) (all_needed call) among seeks
+      (All-append GoesByIt (needed call) (needed_for (access_of call.state) call call.request.wanted) (each_need call GoesByIt at_by in_by)
+      (no_version call.request.wanted files))
+
+  -- who isn't refused for the token asks about files
+  about_files : refusal_of (access_of call.state) call ≡ Some NoShare → is_about_files call.request.wanted ≡ true
+  about_files is = only_files call (by_token (access_of call.state) call NoShare refl is) by
 
 -- ---- bodies
 
@@ -164,7 +178,7 @@ links_tell = record {
       let call = call_of s seat now words request in
       elim (begins_tell s seat now words request NoShare sound refused refl) [
         | inl out ↦ let_in call share is out
-        | inr unmet ↦ may_all call share is unmet
+        | inr unmet ↦ may_all call share is (about_files call share is (refused_so _ (allowed_of (access_of s) call) NoShare refused)) unmet
       ];
   ends = λ s seat now link by key wanted outcome sound goal who refused.
       let may = subst (λ (o : Option Goal). IfSome o (IsGoalSound s.tables)) goal (goal_sound s seat sound) in

@@ -34,6 +34,8 @@ module _ (call : Call) (P : Need → Type 0) (at : (spot : Spot) (act : Act) →
   target_each spot making.Shared inside = All-nil P
   target_each spot making.Told inside = All-nil P
   target_each spot (making.Restored item) inside = All-nil P
+  target_each spot (making.Sent node) inside = All-nil P
+  target_each spot (making.Refilled node at) inside = All-nil P
 
   source_each : (spot : Spot) (makes : Making) (removes inside : Bool) → All P (source_needs makes removes inside (way_of call spot))
   source_each spot making.Shared removes inside = at spot Share

@@ -1,13 +1,16 @@
 -- What a request needs by no mount, which is at what is the caller's own.
-use Rattle.std.proofs.Common.{◌≡◌, ◌==◌, ℕ, Bool, true, false, [], Option, None, Some, if◌then◌else◌, refl, sym, ap, ◌∙◌, subst}
-use Rattle.std.specs.List.{All}
+use Rattle.std.proofs.Common.{◌≡◌, ◌==◌, ◌||◌, ℕ, Bool, true, false, [], Option, None, Some, if◌then◌else◌, refl, sym, ap, ◌∙◌, subst}
+use Rattle.std.specs.Prelude.{is_some}
+use Rattle.std.specs.List.{All, list_any}
 use Rattle.std.specs.Option.{option_map_or, option_or}
+use Rattle.std.proofs.lemmas.Bool.{and_parts, false≢true}
 use Rattle.std.proofs.lemmas.List.Elements.{All-cons, All-nil}
 use Rattle.std.proofs.lemmas.Option.{none-some, same_Some}
+use Rattle.nf_access.specs.Access.{allows}
 use Rattle.nf_base.specs.declared.perms.Act.{Act}
 use Rattle.nf_base.specs.declared.perms.Act.TheVariants.{Create}
 use Rattle.nf_base.specs.declared.rows.UserRow.{UserRow}
-use Rattle.nf_defs.specs.Prelude.{found_from, parent_of, Tables}
+use Rattle.nf_defs.specs.Prelude.{found_from, is_rooted, parent_of, Tables}
 use Rattle.nf_defs.specs.declared.Found.{Found}
 use Rattle.nf_defs.specs.declared.Found.TheVariants.{At, Free, Missing}
 use Rattle.nf_defs.specs.declared.Seeker.TheVariants.{User}
@@ -15,12 +18,16 @@ use Rattle.nf_laws.proofs.May.{own_may}
 use Rattle.nf_laws.proofs.Paths.{IsOf, found_free, found_leads, leads_own, root_own}
 use Rattle.nf_laws.proofs.Rows.{parent_there}
 use Rattle.nf_laws.specs.Access.{Owns}
+use Rattle.nf_words.proofs.Passing.{if_none}
 use Rattle.nf_words.proofs.Starts.{row_of_caller, user_root, user_seeks}
 use Rattle.nf_words.specs.Places.{folder_seen}
-use Rattle.nf_words.specs.Prelude.{access_of, AreSound, asker_of, Call, call_of, caller_row, may_by, mount_of, Need, needs, needs_at, needs_in, node_found, root_of, seeker_of, user_of, Way, way_by, way_of}
+use Rattle.nf_words.specs.Prelude.{access_of, act_asked, AreSound, asker_of, Call, call_of, caller_row, granting_above, is_owner, may_by, mount_above, mount_by, mount_of, Need, needed_for, needs, needs_at, needs_in, node_asked, node_found, root_of, seeker_of, unnamed_by, user_of, Way, way_by, way_of}
+use Rattle.nf_words.specs.declared.answer.Denial.TheVariants as denial
 use Rattle.nf_words.specs.declared.request.Spot.{Spot}
+use Rattle.nf_words.specs.declared.request.Wanted.{Wanted}
+use Rattle.nf_words.specs.declared.request.Wanted.TheVariants.{Version}
 use Rattle.nf_denials.proofs.Needs.{each_need}
-use Rattle.nf_denials.specs.Laws.{OwnIsNotRefused}
+use Rattle.nf_denials.specs.Laws.{IsMetByNone, OwnIsNotRefused}
 
 module _ (call : Call) (user : UserRow) (sound : AreSound call.state.tables) (known : caller_row call ≡ Some user) where
   abbrev t : Tables
@@ -28,7 +35,7 @@ module _ (call : Call) (user : UserRow) (sound : AreSound call.state.tables) (kn
 
   -- the caller's own may be used by the caller for whatever act
   abbrev Met : Need → Type 0
-  Met need = need.mount ≡ None → may_by (access_of call.state) t.nodes (seeker_of call) call.now need.act need.node need.mount ≡ true
+  Met need = IsMetByNone call need
 
   own_root : IsOf t user.id (root_of call)
   own_root =
@@ -112,7 +119,34 @@ module _ (call : Call) (user : UserRow) (sound : AreSound call.state.tables) (kn
         here true e = needs_met Create (Some (root_of call)) None (λ none node is. subst (IsOf t user.id) (same_Some (root_of call) node is) own_root)
         here false e = needs_met Create (option_or (folder_seen t.nodes (root_of call) way.place) (node_found way.place)) way.mount own_folder
 
+-- ---- versions
+
+-- who sees a file that is judged by no mount owns it
+seen_own : (owns : Bool) (granting above : Option ℕ) → (owns || is_some above) ≡ true
+    → option_or granting above ≡ None → owns ≡ true
+seen_own true granting above seen none = refl
+seen_own false (Some mount) above seen none = absurd (none-some mount (sym none))
+seen_own false None None seen none = absurd (false≢true seen)
+seen_own false None (Some mount) seen none = absurd (none-some mount (sym none))
+
+version_met : (call : Call) (wanted : Wanted) → unnamed_by call wanted ≡ None → All (IsMetByNone call) (needed_for (access_of call.state) call wanted)
+version_met call (Version asked) named =
+    let t = call.state.tables in
+    let node = node_asked asked in
+    let mount = mount_by (access_of call.state) t.nodes t.mounts (seeker_of call) (asker_of call) call.now (act_asked asked) node in
+    All-cons (IsMetByNone call) (record { act = act_asked asked; node = node; mount = mount }) []
+    (λ none.
+    ap (λ (b : Bool). b || option_map_or (λ shared. list_any (allows call.now (act_asked asked)) (access_of call.state (seeker_of call) shared)) mount false)
+    (seen_own (is_owner t.nodes (seeker_of call) node)
+    (granting_above (access_of call.state) t.nodes t.mounts (seeker_of call) (asker_of call) call.now (act_asked asked) node)
+    (mount_above t.nodes t.mounts (asker_of call) node) (and_parts (is_rooted t.nodes node) _ (if_none _ denial.NotFound named)).1 none))
+    (All-nil (IsMetByNone call))
+version_met call other named = All-nil (IsMetByNone call)
+
 pub own_unrefused : OwnIsNotRefused
-own_unrefused s seat now words request user sound known =
-    let call = call_of s seat now words request in
-    each_need call (Met call user sound.rows known) (at_met call user sound.rows known) (in_met call user sound.rows known)
+own_unrefused = record {
+  paths = λ s seat now words request user sound known.
+      let call = call_of s seat now words request in
+      each_need call (Met call user sound.rows known) (at_met call user sound.rows known) (in_met call user sound.rows known);
+  versions = λ s seat now words request named. version_met (call_of s seat now words request) request.wanted named;
+}

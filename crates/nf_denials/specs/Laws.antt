@@ -1,5 +1,5 @@
 -- What a refusal by shares tells, and when it is made.
-use Rattle.std.specs.Prelude.{◌≡◌, ◌≢◌, ◌⊎◌, ℕ, ◌&&◌, All, Bool, false, true, Contains, List, Option, None, Some, Ok, Err, option_and_then}
+use Rattle.std.specs.Prelude.{◌≡◌, ◌≢◌, ◌⊎◌, ℕ, ◌&&◌, ◌||◌, ◌++◌, is_some, All, Bool, false, true, Contains, List, Option, None, Some, Ok, Err, option_and_then}
 use Rattle.nf_access.specs.Broken.{IsFirstBroken, first_received}
 use Rattle.nf_access.specs.Laws.{IsRefused}
 use Rattle.nf_access.specs.Shares.{Ground, chain_of, ground_of}
@@ -7,13 +7,15 @@ use Rattle.nf_access.specs.declared.Cause.{Cause}
 use Rattle.nf_base.specs.declared.perms.Act.{Act}
 use Rattle.nf_base.specs.declared.rows.ShareRow.{ShareRow}
 use Rattle.nf_base.specs.declared.rows.UserRow.{UserRow}
+use Rattle.nf_defs.specs.Prelude.{is_folder, is_rooted}
 use Rattle.nf_defs.specs.declared.Seeker.{Seeker}
 use Rattle.nf_defs.specs.declared.Seeker.TheVariants.{Link}
 use Rattle.nf_laws.specs.Reads.{IsWellAsked}
-use Rattle.nf_words.specs.Prelude.{access_of, answer_to, asked_by, Call, call_of, caller_row, end_unreached, first_refused, goal_at, is_itself, is_owner, link_of, IsSound, may_by, mount_of, Need, needed, needed_by, node_of_key, seeker_of, source_refused, State, unreached_by, way_of}
+use Rattle.nf_words.specs.Prelude.{access_of, answer_to, asked_by, asker_of, Call, call_of, caller_row, end_unreached, first_refused, goal_at, is_itself, is_owner, lacks_version, link_of, IsSound, may_by, mount_above, mount_of, Need, needed, needed_by, needed_for, node_asked, node_of_key, seeker_of, source_refused, State, unnamed_by, unreached_by, way_of}
+use Rattle.nf_words.specs.Needed.{version_needs}
 use Rattle.nf_words.specs.declared.answer.By.{By}
 use Rattle.nf_words.specs.declared.answer.Denial.{Denial}
-use Rattle.nf_words.specs.declared.answer.Denial.TheVariants.{BrokenLink, NoShare}
+use Rattle.nf_words.specs.declared.answer.Denial.TheVariants.{BrokenLink, Kind, NoShare, NotFound}
 use Rattle.nf_words.specs.declared.answer.Goal.TheVariants.{Serve, Store}
 use Rattle.nf_words.specs.declared.answer.LockKey.{LockKey}
 use Rattle.nf_words.specs.declared.answer.Reply.TheVariants.{Closed}
@@ -23,6 +25,8 @@ use Rattle.nf_words.specs.declared.history.Outcome.{Outcome}
 use Rattle.nf_words.specs.declared.history.Outcome.TheVariants.{Body}
 use Rattle.nf_words.specs.declared.request.Request.{Request}
 use Rattle.nf_words.specs.declared.request.Spot.{Spot}
+use Rattle.nf_words.specs.declared.request.VersionAsk.{VersionAsk}
+use Rattle.nf_words.specs.declared.request.Wanted.TheVariants.{Version}
 use Rattle.nf_words.specs.declared.request.Words.{Words}
 
 -- ---- what is told
@@ -88,21 +92,33 @@ pub record IsKeptOut (call : Call) (denial : Denial) : Type 0 where
   pub goes : GoesBy call mount
   pub shut : IsShut (ground_of call.state.tables) call.now (seeker_of call) None mount denial
 
+-- all that a request needs: at its paths, and where it is about versions
+abbrev pub all_needed : Call → List Need
+all_needed call = needed call ++ needed_for (access_of call.state) call call.request.wanted
+
 -- a request that is refused by shares is refused for a mount that its paths go by, or for an act that it needs
 abbrev pub BeginsTellTheirBreak : Type 0
 BeginsTellTheirBreak =
     (s : State) (seat now : ℕ) (words : Words) (request : Request) (denial : Denial) → IsSound s
     → answer_to s seat now (Begin words request) ≡ Err denial → is_of_shares denial ≡ true
     → let call = call_of s seat now words request in
-    IsKeptOut call denial ⊎ IsUnmet s now (seeker_of call) (needed call) denial
+    IsKeptOut call denial ⊎ IsUnmet s now (seeker_of call) (all_needed call) denial
 
--- who is known may do all that a request needs by no mount: a path in the own root leads to one's own. So what is unmet is by a mount
-abbrev pub OwnIsNotRefused : Type 0
-OwnIsNotRefused =
-    (s : State) (seat now : ℕ) (words : Words) (request : Request) (user : UserRow) → IsSound s
-    → let call = call_of s seat now words request in
-    caller_row call ≡ Some user
-    → All (λ (need : Need). need.mount ≡ None → may_by (access_of s) s.tables.nodes (seeker_of call) now need.act need.node need.mount ≡ true) (needed call)
+-- where a need is by no mount, who asks may do it
+abbrev pub IsMetByNone : Call → Need → Type 0
+IsMetByNone call need =
+    need.mount ≡ None
+    → may_by (access_of call.state) call.state.tables.nodes (seeker_of call) call.now need.act need.node need.mount ≡ true
+
+-- who is known may do all that a request needs by no mount: a path in the own root leads to one's own. So may whoever sees a file of whose
+-- versions something is asked: it is the own where no mount is at it or above it. So what is unmet is by a mount
+pub record OwnIsNotRefused : Type 0 where
+  pub paths : (s : State) (seat now : ℕ) (words : Words) (request : Request) (user : UserRow) → IsSound s
+      → let call = call_of s seat now words request in
+      caller_row call ≡ Some user → All (IsMetByNone call) (needed call)
+  pub versions : (s : State) (seat now : ℕ) (words : Words) (request : Request)
+      → let call = call_of s seat now words request in
+      unnamed_by call request.wanted ≡ None → All (IsMetByNone call) (needed_for (access_of s) call request.wanted)
 
 -- who asks by a link that is there, or was granted to store by one, is never told that there is no share: it is the link's own
 pub record LinksTellTheirChain : Type 0 where
@@ -127,6 +143,43 @@ UnreachedIsRefused =
     IsWellAsked call → IsStoppedAt call mount
     → unreached_by (access_of s) (ground_of s.tables) (seeker_of call) now mount ≡ Some denial
     → answer_to s seat now (Begin words request) ≡ Err denial
+
+-- ---- of versions
+
+-- the file is present, and who asks owns it or has a mount at it or above it
+abbrev pub is_seen : Call → ℕ → Bool
+is_seen call node =
+    let t = call.state.tables in
+    is_rooted t.nodes node && (is_owner t.nodes (seeker_of call) node || is_some (mount_above t.nodes t.mounts (asker_of call) node))
+
+-- the file of whose versions something is asked is seen so, and who asks may do what that needs
+pub record IsLetAsk (call : Call) (ask : VersionAsk) : Type 0 where
+  pub seen : is_seen call (node_asked ask) ≡ true
+  pub may : All (λ (need : Need). may_by (access_of call.state) call.state.tables.nodes (seeker_of call) call.now need.act need.node need.mount ≡ true)
+      (version_needs (access_of call.state) call ask)
+
+-- what is told of versions is so: `kind` of a folder, and `not-found` of what isn't seen or of a version that a file hasn't. Whether it is a
+-- folder or has that version, they alone are told who may do what is asked: who doesn't see it is told that there is none, and who may not
+-- do it is told what shares refuse
+pub record VersionsTellTheirCause : Type 0 where
+  pub kind : (s : State) (seat now : ℕ) (words : Words) (request : Request) (ask : VersionAsk)
+      → let call = call_of s seat now words request in
+      request.wanted ≡ Version ask → answer_to s seat now (Begin words request) ≡ Err Kind
+      → IsLetAsk call ask × (is_folder s.tables.nodes (node_asked ask) ≡ true)
+  pub lost : (s : State) (seat now : ℕ) (words : Words) (request : Request) (ask : VersionAsk)
+      → let call = call_of s seat now words request in
+      request.wanted ≡ Version ask → answer_to s seat now (Begin words request) ≡ Err NotFound
+      → (is_seen call (node_asked ask) ≡ false)
+      ⊎ (IsLetAsk call ask × (is_folder s.tables.nodes (node_asked ask) ≡ false) × (lacks_version s.tables.versions ask ≡ true))
+  pub unseen : (s : State) (seat now : ℕ) (words : Words) (request : Request) (ask : VersionAsk)
+      → let call = call_of s seat now words request in
+      request.wanted ≡ Version ask → IsWellAsked call → is_seen call (node_asked ask) ≡ false
+      → answer_to s seat now (Begin words request) ≡ Err NotFound
+  pub shut : (s : State) (seat now : ℕ) (words : Words) (request : Request) (ask : VersionAsk) (denial : Denial)
+      → let call = call_of s seat now words request in
+      request.wanted ≡ Version ask → IsWellAsked call → is_seen call (node_asked ask) ≡ true
+      → first_refused (access_of s) (ground_of s.tables) (seeker_of call) now (version_needs (access_of s) call ask) ≡ Some denial
+      → answer_to s seat now (Begin words request) ≡ Err denial
 
 -- ---- of bodies
 
