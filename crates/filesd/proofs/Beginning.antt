@@ -1,17 +1,21 @@
 -- What a run begins with, and what a run of `init` says by its parts.
-use Rattle.std.proofs.Common.{◌≡◌, ℕ, ◌≤◌, List, refl, sym, ap, subst, ◌∙◌}
+use Rattle.std.proofs.Common.{◌≡◌, ℕ, ◌≤◌, List, [], refl, sym, ap, subst, ◌∙◌}
 use Rattle.std.specs.Prelude.{Option, None, Some}
 use Rattle.nf_base.specs.declared.limits.TheConstants.{MAX_QUOTA}
 use Rattle.nf_base.specs.declared.rows.Row.{Row}
 use Rattle.nf_base.specs.Naming.{IsName}
 use Rattle.nf_command.proofs.Unbroken.{init_unbroken}
 use Rattle.nf_command.specs.First.{first_rows, init_rows}
-use Rattle.nf_desk.specs.Opened.{AreFirst}
+use Rattle.nf_desk.specs.Opened.{AreFirst, Opens, told_first as first_told}
+use Rattle.nf_desk.specs.Opening.{IsLoaded, OpensTo}
+use Rattle.nf_desk.specs.declared.first.Opening.TheVariants.{Fresh}
+use Rattle.nf_rows.specs.Spelling.{Raw}
 use Rattle.nf_site.proofs.DemoRows.{demo_unbroken}
 use Rattle.nf_site.specs.Demo.{demo_rows}
 use Rattle.nf_site.specs.Held.{Held}
+use Rattle.nf_site.specs.Kept.{opened_over}
 use Rattle.sha2.specs.Sha256.{sha256}
-use Rattle.filesd.specs.Init.{Inits, IsSomeDigest, Writes, ready}
+use Rattle.filesd.specs.Init.{Begins, Inits, IsSomeDigest, Writes, ready}
 use Rattle.filesd.specs.Outside.{Outside}
 use Rattle.filesd.specs.declared.status.Status.{Status}
 use Rattle.filesd.specs.declared.status.Status.TheVariants as exit
@@ -28,6 +32,24 @@ init_first rows name digest quota is named fits (token, of_token) = subst AreFir
     (record { unbroken = init_unbroken name token quota named fits; meta = (_, _, refl) })
 
 -- ---- a run of `init`
+
+-- the rows of a desk that was opened afresh are stored, and it says so
+pub init_begins : {C : Type 0} (rows : List Row) (a b : Outside C) (status : Status) (held : Held)
+    → Opens (Fresh (record { rows = rows; blob = None })) a.told b.told held.kept → b.faults ≡ a.faults → Writes ready a b status
+    → b.left ≡ a.left → b.begun ≡ a.begun → b.read_faults ≡ a.read_faults → b.lent ≡ a.lent → Begins rows a b status held
+init_begins rows a b status held opens faults writes left begun read_faults lent =
+    let none : opens.raws ≡ [] = opens.fresh tt in
+    record {
+      loaded = subst (IsLoaded a.told) none opens.loaded;
+      told = opens.told ∙ ap (λ (raws : List Raw). first_told (record { rows = rows; blob = None }) raws a.told) none;
+      faults = faults;
+      site = opens.begun ∙ ap opened_over (subst (λ (raws : List Raw). OpensTo rows raws held.kept.opening) none opens.rows);
+      writes = writes;
+      left = left;
+      begun = begun;
+      read_faults = read_faults;
+      lent = lent;
+    }
 
 -- the output and the keeper alone, as `init` uses them, or with a clock, beside the other ends and what is lent
 abbrev pub beside : {B C : Type 0} → Option (List ℕ) → ℕ → C → Outside B → Outside C

@@ -1,6 +1,6 @@
 -- A run over a safe store leaves a safe one, and nothing is damaged at any of its messages.
 use Rattle.std.proofs.Common.{◌≡◌, ◌≢◌, ℕ, List, [], ◌∷◌, refl, sym, ◌∙◌, ap, subst, inl, inr}
-use Rattle.std.specs.Prelude.{All, Option, None, Some, IfSome, IsSome, option_map}
+use Rattle.std.specs.Prelude.{All, Option, None, Some, IfSome, IsSome}
 use Rattle.std.specs.declared.snapshot.Snapshot.{Snapshot}
 use Rattle.std.proofs.lemmas.List.Elements.{All-nil}
 use Rattle.std.proofs.lemmas.Option.{same_Some}
@@ -10,7 +10,7 @@ use Rattle.nf_base.specs.declared.rows.Row.{Row}
 use Rattle.nf_command.specs.First.{first_rows}
 use Rattle.nf_defs.specs.Prelude.{Blobs}
 use Rattle.nf_desk.specs.Desk.{Served, TellsSite, blobs_in, meanings}
-use Rattle.nf_desk.specs.Opened.{Opens, first_of, told_first}
+use Rattle.nf_desk.specs.Opened.{first_of, told_first}
 use Rattle.nf_desk.specs.declared.first.First.{First}
 use Rattle.nf_desk.specs.declared.first.Opening.TheVariants.{Kept as OverKept}
 use Rattle.nf_hub.specs.Seats.{book_in}
@@ -41,7 +41,6 @@ use Rattle.filesd.specs.Seat.{book_of, seat}
 use Rattle.filesd.specs.Session.{Runs, first_book, scene_of}
 use Rattle.filesd.specs.Sweep.{IsSwept, Sweeps, beside_keeper}
 use Rattle.filesd.specs.declared.status.Status.{Status}
-use Rattle.filesd.specs.declared.status.Status.TheVariants as exit
 use Rattle.filesd.proofs.Closing.{closing_tells}
 use Rattle.filesd.proofs.Spelled.{loaded_is, missing_never, opened_so}
 use Rattle.filesd.proofs.Swept.{sweep_opening, sweep_tells}

@@ -1,9 +1,8 @@
 -- A run of `sweep`, from what the desk's sweep says.
-use Rattle.std.proofs.Common.{◌≡◌, ◌≢◌, ◌⊎◌, ℕ, ◌<◌, ◌≤◌, ◌++◌, List, [], ◌∷◌, refl, sym, ◌∙◌, ap, subst, inl, inr}
+use Rattle.std.proofs.Common.{◌≡◌, ◌≢◌, ◌⊎◌, ℕ, List, [], ◌∷◌, refl, sym, ◌∙◌, ap, subst, inl, inr}
 use Rattle.std.specs.Option.{IfSome}
 use Rattle.std.specs.Prelude.{None, Option, Some, option_map, Result, Ok, Err, IsSome, sum}
 use Rattle.nf_base.specs.declared.changes.Change.{Change}
-use Rattle.nf_base.specs.declared.limits.TheConstants.{MAX_ENTRIES}
 use Rattle.nf_base.specs.declared.rows.Row.{Row}
 use Rattle.std.specs.declared.snapshot.Snapshot.{Snapshot}
 use Rattle.nf_desk.specs.Desk.{IsDesk, Served, Shown, TellsSite, blobs_in, failed_marks, failures, meanings, moved, risen, shown, standing_in}
@@ -24,7 +23,7 @@ use Rattle.nf_rows.specs.Spelling.{Raw}
 use Rattle.nf_rules.specs.Ruled.{AreRuled}
 use Rattle.nf_rules.specs.Rules.{AreUnbroken}
 use Rattle.nf_session.specs.Book.{Answer, Strikes}
-use Rattle.nf_site.specs.Held.{Held, entries_wanted}
+use Rattle.nf_site.specs.Held.{Held}
 use Rattle.nf_site.specs.Kept.{IsHistory, Kept}
 use Rattle.nf_told.specs.Told.{Told}
 use Rattle.nf_turn.specs.Book.{AddsAlone}
@@ -32,12 +31,11 @@ use Rattle.nf_words.specs.Prelude.{after, answer_at, IsSound, State}
 use Rattle.nf_words.specs.declared.answer.Reply.{Reply}
 use Rattle.nf_words.specs.declared.answer.Denial.{Denial}
 use Rattle.nf_words.specs.declared.answer.Denial.TheVariants as denial
-use Rattle.nf_words.specs.declared.history.Entry.{Entry}
 use Rattle.nf_words.specs.declared.history.Event.TheVariants.{Sweep}
 use Rattle.nf_words.specs.declared.history.Mark.{Mark}
 use Rattle.nf_words.specs.declared.history.Mark.TheVariants as mark
 use Rattle.filesd.specs.Outside.{Outside, outlet_with, output_alone}
-use Rattle.filesd.specs.Seat.{AreOwn, seat}
+use Rattle.filesd.specs.Seat.{seat}
 use Rattle.filesd.specs.Sweep.{IsSwept, Sweeps, TellsSwept, beside_keeper, reads_clock}
 use Rattle.filesd.specs.declared.status.Status.{Status}
 use Rattle.filesd.specs.declared.status.Status.TheVariants as exit

@@ -105,6 +105,27 @@ returns-in-Ok-Some-Serve-clause-door g c = λ is.
     (runs_say g.K.Keeper g.D.Source.Ends g.D.Sink.Ends (takes g.W.Clock.reads g.V.Dice.draws) g.D.Door c.in-Ok-Some-Serve.connections c.args.keeper
     c.serve_doors.result.keeper _ _ c.serve_doors.result.status c.serve_doors.result.site c.serve_doors.ensures.runs)
 
+pub returns-in-Ok-Some-Serve-clause-read : goal.returns-in-Ok-Some-Serve-clause-read
+returns-in-Ok-Some-Serve-clause-read g c = λ is.
+    absurd (subst (λ (s : Status). Says g.K.Keeper g.D.Source.Ends g.D.Sink.Ends (takes g.W.Clock.reads g.V.Dice.draws) g.D.Door c.args.keeper c.serve_doors.result.keeper
+    c.args.workers.now c.serve_doors.new.workers s) is
+    (runs_say g.K.Keeper g.D.Source.Ends g.D.Sink.Ends (takes g.W.Clock.reads g.V.Dice.draws) g.D.Door c.in-Ok-Some-Serve.connections c.args.keeper
+    c.serve_doors.result.keeper _ _ c.serve_doors.result.status c.serve_doors.result.site c.serve_doors.ensures.runs))
+
+pub returns-in-Ok-Some-Serve-clause-write : goal.returns-in-Ok-Some-Serve-clause-write
+returns-in-Ok-Some-Serve-clause-write g c = λ is.
+    absurd (subst (λ (s : Status). Says g.K.Keeper g.D.Source.Ends g.D.Sink.Ends (takes g.W.Clock.reads g.V.Dice.draws) g.D.Door c.args.keeper c.serve_doors.result.keeper
+    c.args.workers.now c.serve_doors.new.workers s) is
+    (runs_say g.K.Keeper g.D.Source.Ends g.D.Sink.Ends (takes g.W.Clock.reads g.V.Dice.draws) g.D.Door c.in-Ok-Some-Serve.connections c.args.keeper
+    c.serve_doors.result.keeper _ _ c.serve_doors.result.status c.serve_doors.result.site c.serve_doors.ensures.runs))
+
+pub returns-in-Ok-Some-Serve-clause-store : goal.returns-in-Ok-Some-Serve-clause-store
+returns-in-Ok-Some-Serve-clause-store g c = λ is.
+    subst (λ (s : Status). Says g.K.Keeper g.D.Source.Ends g.D.Sink.Ends (takes g.W.Clock.reads g.V.Dice.draws) g.D.Door c.args.keeper c.serve_doors.result.keeper
+    c.args.workers.now c.serve_doors.new.workers s) is
+    (runs_say g.K.Keeper g.D.Source.Ends g.D.Sink.Ends (takes g.W.Clock.reads g.V.Dice.draws) g.D.Door c.in-Ok-Some-Serve.connections c.args.keeper
+    c.serve_doors.result.keeper _ _ c.serve_doors.result.status c.serve_doors.result.site c.serve_doors.ensures.runs)
+
 pub returns-in-Ok-Some-Batch-clause-safe : goal.returns-in-Ok-Some-Batch-clause-safe
 returns-in-Ok-Some-Batch-clause-safe g c =
     batch_keeps (takes g.C.Clock.reads g.Q.Dice.draws) _ _ c.batch.result.status c.batch.result.site c.batch.ensures.runs c.batch.ensures.leaves
