@@ -18,6 +18,7 @@ use Rattle.nf_base.specs.declared.rows.Row.TheVariants as rows
 use Rattle.nf_base.specs.declared.rows.ShareRow.{ShareRow}
 use Rattle.nf_base.specs.declared.rows.MetaRow.{MetaRow}
 use Rattle.nf_base.specs.declared.rows.UserRow.{UserRow}
+use Rattle.nf_base.specs.declared.rows.ChunkRow.{ChunkRow}
 use Rattle.nf_base.specs.declared.rows.VersionRow.{VersionRow}
 use Rattle.nf_retention.specs.declared.versions.Version.{Version}
 use Rattle.nf_words.proofs.Forgetting.{AreTwo, drop_differs, IsVersion, pairs_map}
@@ -26,7 +27,7 @@ use Rattle.nf_words.specs.Versions.{drop_version, version_for, version_row}
 use Rattle.nf_defs.specs.Prelude.{child_of, depth, is_folder, is_folder_kind, made, node_key, node_row, put, Tables}
 use Rattle.nf_words.proofs.Bodies.{IsOfBody, body_sound, IsNext, body_next}
 use Rattle.nf_words.proofs.Found.{found_has, put_is_found}
-use Rattle.nf_words.specs.Prelude.{AreSound, blob_after, counted, IsBorn, IsFilled, IsLean, IsMountSound, IsNewMount, IsNewShare, IsNewUser, IsNewVersion, IsNodeSound, IsOfPeople, IsOtherShare, IsRemounted, IsShareSound, IsUnmounted, last_number, LeadsToRoot, last_short, limit_passed, new_node, raised, stored_pieces}
+use Rattle.nf_words.specs.Prelude.{AreSound, blob_after, counted, IsBorn, IsFilled, IsLean, IsMountSound, IsNewChunk, IsNewMount, IsNewShare, IsNewUpload, IsNewUser, IsNewVersion, IsNodeSound, IsOfPeople, IsOtherShare, IsRemounted, IsShareSound, IsTouched, IsUnmounted, last_number, LeadsToRoot, last_short, limit_passed, new_node, raised, stored_pieces, whole_of}
 use Rattle.nf_words.specs.declared.answer.Limit.TheVariants as limit
 
 -- ---- limits
@@ -62,21 +63,29 @@ within t nodes deep versions pieces blobs none =
 
 -- ---- what is known of changes
 
--- a new node, with a number that wasn't given before and the content of a body
+-- what the chunks of an upload have together
+abbrev pub IsOfUpload : Tables → List Piece → Type 0
+IsOfUpload t content = (user : ℕ) × (dir : List ℕ) × (content ≡ whole_of t.chunks user dir)
+
+-- a new node, with a number that wasn't given before and the content of a body or of an upload
 pub record KnownBorn (first : Tables) (blob : Option ℕ) (t : Tables) (row : NodeRow) : Type 0 where
   pub born : IsBorn t row
   pub fresh : first.meta.next_node ≤ row.id
-  pub body : IsOfBody first.meta blob row.content
+  pub body : IsOfBody first.meta blob row.content ⊎ ((blob ≡ None) × IsOfUpload first row.content)
 
 -- the content of a version of a file
 abbrev pub IsOfVersion : Tables → ℕ → List Piece → Type 0
 IsOfVersion t node content = (version : VersionRow) × (at : ℕ) × (version_row t.versions node at ≡ Some version) × (content ≡ version.content)
 
--- a file, with the content of a body or of a version of it
+-- a content that rows have already: that of a version of the file, or of an upload
+abbrev pub IsAgain : Tables → ℕ → List Piece → Type 0
+IsAgain t node content = IsOfVersion t node content ⊎ IsOfUpload t content
+
+-- a file, with the content of a body, of a version of it or of an upload
 pub record KnownFilled (first : Tables) (blob : Option ℕ) (t : Tables) (row : NodeRow) : Type 0 where
   pub filled : IsFilled t row
   pub given : row.id < first.meta.next_node
-  pub body : IsOfBody first.meta blob row.content ⊎ ((blob ≡ None) × IsOfVersion first row.id row.content)
+  pub body : IsOfBody first.meta blob row.content ⊎ ((blob ≡ None) × IsAgain first row.id row.content)
 
 -- a version, of what a file had before the step
 pub record KnownVersion (first t : Tables) (row : VersionRow) : Type 0 where
@@ -91,13 +100,20 @@ IsTurned first t (Put (rows.Version row)) = KnownVersion first t row
 IsTurned first t (Drop (keys.Version node at)) = Unit {0}
 IsTurned first t other = ⊥
 
--- what is known of a change in the tables that it meets, by the kind of its row; a kind that isn't built yet isn't changed
+-- a chunk, with the content of a body
+pub record KnownChunk (first : Tables) (blob : Option ℕ) (t : Tables) (row : ChunkRow) : Type 0 where
+  pub chunk : IsNewChunk t row
+  pub body : IsOfBody first.meta blob row.content
+
+-- what is known of a change in the tables that it meets, by the kind of its row
 abbrev pub KnownRow : Tables → Option ℕ → Tables → Change → Type 0
 KnownRow first blob t (Put (rows.Node row)) = KnownBorn first blob t row ⊎ KnownFilled first blob t row
 KnownRow first blob t (Put (rows.Mount row)) = (blob ≡ None) × (IsRemounted t row ⊎ IsNewMount t row)
 KnownRow first blob t (Put (rows.Share row)) =
     (blob ≡ None) × ((IsNewShare t row × (first.meta.next_share ≤ row.id)) ⊎ (IsOtherShare t row × (row.id < first.meta.next_share)))
 KnownRow first blob t (Put (rows.Version row)) = IsTurned first t (Put (rows.Version row))
+KnownRow first blob t (Put (rows.Upload row)) = IsNewUpload t row ⊎ IsTouched t row
+KnownRow first blob t (Put (rows.Chunk row)) = KnownChunk first blob t row
 KnownRow first blob t (Drop (keys.Version node at)) = IsTurned first t (Drop (keys.Version node at))
 KnownRow first blob t other = (blob ≡ None) × IsOfPeople t other
 
