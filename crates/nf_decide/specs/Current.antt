@@ -43,6 +43,11 @@ abbrev pub is_fresh : ℕ → Change → Bool
 is_fresh next (Put (rows.Node row)) = not (nat_lt row.id next)
 is_fresh next other = false
 
+-- a node is put, new or not
+abbrev pub puts_node : Change → Bool
+puts_node (Put (rows.Node row)) = true
+puts_node other = false
+
 -- a share is put, new or not
 abbrev pub puts_share : Change → Bool
 puts_share (Put (rows.Share row)) = true
@@ -62,6 +67,15 @@ puts_version other = false
 abbrev pub puts_item : Change → Bool
 puts_item (Put (rows.Item row)) = true
 puts_item other = false
+
+-- and an upload or a chunk
+abbrev pub puts_upload : Change → Bool
+puts_upload (Put (rows.Upload row)) = true
+puts_upload other = false
+
+abbrev pub puts_chunk : Change → Bool
+puts_chunk (Put (rows.Chunk row)) = true
+puts_chunk other = false
 
 -- a user, new or not
 abbrev pub puts_user : Change → Bool
@@ -88,6 +102,8 @@ is_counted counted.Share = puts_share
 is_counted counted.Mount = puts_mount
 is_counted counted.Version = puts_version
 is_counted counted.Item = puts_item
+is_counted counted.Upload = puts_upload
+is_counted counted.Chunk = puts_chunk
 is_counted counted.User = puts_user
 is_counted counted.Token = puts_token
 is_counted counted.Group = puts_group
@@ -105,6 +121,8 @@ added_of next changes = record {
   mounts = count_by puts_mount changes;
   versions = count_by puts_version changes;
   items = count_by puts_item changes;
+  uploads = count_by puts_upload changes;
+  chunks = count_by puts_chunk changes;
 }
 
 -- how many rows a deed adds at most: an item, copies, or a user
@@ -118,7 +136,16 @@ requotes other = false
 
 abbrev pub rows_joined : Deed → ℕ
 rows_joined (deed.Join rows) = length rows
+rows_joined (deed.Store changes) = count_by puts_node changes
 rows_joined other = 0
+
+-- nodes and versions
+abbrev pub stored_rows : List Change → RowCounts
+stored_rows changes = record (only_nodes (count_by puts_node changes)) { versions = count_by puts_version changes }
+
+abbrev pub versions_stored : Deed → ℕ
+versions_stored (deed.Store changes) = count_by puts_version changes
+versions_stored other = 0
 
 abbrev pub added_deed : Deed → RowCounts
 added_deed (deed.Discard item) = record (only_nodes 0) { items = 1 }
@@ -128,19 +155,26 @@ added_deed (deed.Relink node folder name) = only_nodes 0
 added_deed (deed.Join rows) = only_nodes (length rows)
 added_deed (deed.Requote row) = record (only_nodes 0) { users = 1 }
 added_deed (deed.Forget node at) = only_nodes 0
+added_deed (deed.Store changes) = stored_rows changes
+added_deed (deed.Abandon user dir) = only_nodes 0
 
 -- and some deeds; a machine counts no further
 abbrev pub nodes_joined : List Deed → ℕ
 nodes_joined deeds = min (sum_by rows_joined deeds) last_number
 
 abbrev pub added_deeds : List Deed → RowCounts
-added_deeds deeds = record (only_nodes (nodes_joined deeds)) { users = count_by requotes deeds; items = count_by discards deeds }
+added_deeds deeds = record (only_nodes (nodes_joined deeds)) {
+  users = count_by requotes deeds;
+  items = count_by discards deeds;
+  versions = min (sum_by versions_stored deeds) last_number;
+}
 
 -- how many rows an act adds at most
 abbrev pub added_by : Tables → Allowed → RowCounts
 added_by t (allowed.Get node content) = only_nodes 0
 added_by t (allowed.List listing) = only_nodes 0
 added_by t (allowed.Put by key length) = only_nodes 0
+added_by t (allowed.Chunk user dir number length) = only_nodes 0
 added_by t (allowed.Change changes blob report) = added_of t.meta.next_node changes
 added_by t (allowed.Deeds deeds report) = added_deeds deeds
 added_by t allowed.Close = only_nodes 0
@@ -210,6 +244,8 @@ IsBorne next t (Put (rows.Share row)) = (old : ShareRow) → share_row t.shares 
 IsBorne next t (Put (rows.Mount row)) = Unit {0}
 IsBorne next t (Put (rows.Version row)) = Unit {0}
 IsBorne next t (Put (rows.Item row)) = Unit {0}
+IsBorne next t (Put (rows.Upload row)) = Unit {0}
+IsBorne next t (Put (rows.Chunk row)) = Unit {0}
 IsBorne next t other = ⊥
 
 abbrev pub AreBorne : ℕ → Tables → List Change → Type 0
@@ -228,6 +264,8 @@ IsCounted meta (Put (rows.Share row)) = row.id + 1 ≤ max meta.next_share last_
 IsCounted meta (Put (rows.Mount row)) = Unit {0}
 IsCounted meta (Put (rows.Version row)) = Unit {0}
 IsCounted meta (Put (rows.Item row)) = Unit {0}
+IsCounted meta (Put (rows.Upload row)) = Unit {0}
+IsCounted meta (Put (rows.Chunk row)) = Unit {0}
 IsCounted meta other = ⊥
 
 pub record BearsChanges (t : Tables) (changes : List Change) (blob : Option ℕ) : Type 0 where
@@ -264,6 +302,8 @@ BearsDeed t (deed.Relink node folder name) = BearsPlace t node folder name
 BearsDeed t (deed.Join rows) = BearsCopies t rows
 BearsDeed t (deed.Requote row) = IsRequoted t.users row
 BearsDeed t (deed.Forget node at) = Unit {0}
+BearsDeed t (deed.Store changes) = BearsChanges t changes None × AreGiven t
+BearsDeed t (deed.Abandon user dir) = Unit {0}
 
 -- each deed can be borne by the tables after those before it
 abbrev pub BearsDeeds : Tables → List Deed → Type 0
@@ -280,6 +320,7 @@ abbrev pub BearsAct : Tables → Allowed → Type 0
 BearsAct t (allowed.Get node content) = Unit {0}
 BearsAct t (allowed.List listing) = Unit {0}
 BearsAct t (allowed.Put by key length) = Unit {0}
+BearsAct t (allowed.Chunk user dir number length) = Unit {0}
 BearsAct t (allowed.Change changes blob report) = BearsChanges t changes blob
 BearsAct t (allowed.Deeds deeds report) = BearsStep t deeds
 BearsAct t allowed.Close = Unit {0}

@@ -56,7 +56,7 @@ pub(crate) fn stored_over(
 
 /// What becomes of the rows where that is another content.
 #[tactic(auto, using(crate::proofs::Refills::row_itself))]
-fn refilled(
+pub(crate) fn refilled(
     alloc: Global,
     view: &View<'_>,
     moment: Moment,

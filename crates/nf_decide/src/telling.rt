@@ -19,12 +19,12 @@ ghost use Rattle.nf_decide.specs.Gone.{TellsDeeds, closed_entry, told_first, tol
 use crate::counts::RowCounts;
 use crate::items::item_row;
 use crate::refilling::dropped;
-use crate::tables::{copy, copy_item, raised};
+use crate::tables::{copy, copy_item, counted, raised};
 use crate::versions::versions_of;
 use crate::view::View;
 use nf_base::{
     BlobId, Change, Changes, ItemRow, MetaRow, Moment, Name, NodeId, NodeRow, Place, Row, RowKey,
-    ShareId, ShareRow, UserRow, VersionRow,
+    ShareId, ShareRow, UserId, UserRow, VersionRow,
 };
 use nf_tree::Tree;
 use nf_words::{Allowed, Deed, Hold, LockKey, Mode};
@@ -39,6 +39,9 @@ enum Counted {
     Mount,
     Version,
     Item,
+    Upload,
+    Chunk,
+    Node,
     User,
     Token,
     Group,
@@ -79,7 +82,11 @@ fn told(alloc: Global, view: &View<'_>, act: &Allowed) -> Result<Changes, AllocE
     match act {
         Allowed::Change { changes, .. } => changes.copy(alloc),
         Allowed::Deeds { deeds, .. } => told_deeds(alloc, view, deeds.as_slice()),
-        Allowed::Get { .. } | Allowed::List(_) | Allowed::Put { .. } | Allowed::Close => {
+        Allowed::Get { .. }
+        | Allowed::List(_)
+        | Allowed::Put { .. }
+        | Allowed::Chunk { .. }
+        | Allowed::Close => {
             Ok(Changes::new(alloc))
         }
     }
@@ -279,7 +286,41 @@ fn push_deed(
         Deed::Join(rows) => put_all(changes, rows.rows()),
         Deed::Requote(row) => changes.push(Change::Put(Row::User(row.clone()?))),
         Deed::Forget { node, at } => changes.push(dropped(*node, *at)),
+        Deed::Store(stored) => push_all(changes, stored.copy(alloc)?),
+        Deed::Abandon { user, dir } => push_abandoned(view, *user, dir, changes),
     }
+}
+
+/// Some changes as they are.
+fn push_all(changes: &mut Changes, all: Changes) -> Result<(), AllocError>
+    ensures { OnOk result (changes.new ≡ changes.old ++ all) }
+{
+    for change in all.into_vec() {
+        changes.push(change)?;
+    }
+    Ok(())
+}
+
+/// The chunks of an upload are dropped, and then the upload.
+fn push_abandoned(
+    view: &View<'_>,
+    user: UserId,
+    dir: &Name,
+    changes: &mut Changes,
+) -> Result<(), AllocError>
+    ensures { OnOk result (changes.new ≡ changes.old ++ told_deed view.now.tables (deeds.Abandon user dir.now)) }
+{
+    for chunk in view.uploads().chunks_of(user, dir) {
+        changes.push(Change::Drop(RowKey::Chunk {
+            user: chunk.user,
+            dir: chunk.dir.copy()?,
+            number: chunk.number,
+        }))?;
+    }
+    changes.push(Change::Drop(RowKey::Upload {
+        user,
+        dir: dir.copy()?,
+    }))
 }
 
 /// The node of an item is in the trash, the item is there, and the shares of what is under the node are ended.
@@ -369,23 +410,49 @@ fn meta_after(view: &View<'_>, moment: Moment, act: &Allowed) -> MetaRow
     match act {
         Allowed::Change { changes, blob, .. } => raised(meta, moment, changes.as_slice(), *blob),
         Allowed::Deeds { deeds, .. } => MetaRow {
-            next_node: next_node(meta.next_node, deeds.as_slice()),
             last: moment,
-            ..*meta
+            ..counted_by(meta, deeds.as_slice())
         },
-        Allowed::Get { .. } | Allowed::List(_) | Allowed::Put { .. } | Allowed::Close => MetaRow {
+        Allowed::Get { .. }
+        | Allowed::List(_)
+        | Allowed::Put { .. }
+        | Allowed::Chunk { .. }
+        | Allowed::Close => MetaRow {
             last: moment,
             ..*meta
         },
     }
 }
 
-/// The next number of a node after some deeds.
-fn next_node(next: NodeId, deeds: &[Deed]) -> NodeId
-    requires { next + nodes_joined deeds.now ≤ max next last_number }
-    ensures { result ≡ next + nodes_joined deeds.now }
+/// The meta row with its counters after some deeds.
+fn counted_by(meta: &MetaRow, deeds: &[Deed]) -> MetaRow
+    ensures { result ≡ counted_by meta.now deeds.now }
 {
-    NodeId::new(next.number() + nodes_joined(deeds) as u64)
+    let mut counted = *meta;
+    for deed in deeds {
+        counted = counted_with(&counted, deed);
+    }
+    counted
+}
+
+/// And after one.
+fn counted_with(meta: &MetaRow, deed: &Deed) -> MetaRow
+    ensures { result ≡ counted_with meta.now deed.now }
+{
+    match deed {
+        Deed::Join(rows) => MetaRow {
+            next_node: NodeId::new(meta.next_node.number() + rows.rows().len() as u64),
+            ..*meta
+        },
+        Deed::Store(changes) => counted(meta, changes.as_slice()),
+        Deed::Discard(_)
+        | Deed::Purge(_)
+        | Deed::Restore { .. }
+        | Deed::Relink { .. }
+        | Deed::Requote(_)
+        | Deed::Forget { .. }
+        | Deed::Abandon { .. } => *meta,
+    }
 }
 
 /// How many nodes are made by some deeds.
@@ -405,12 +472,34 @@ fn rows_joined(deed: &Deed) -> usize
 {
     match deed {
         Deed::Join(rows) => rows.rows().len(),
+        Deed::Store(changes) => change_count(&Counted::Node, changes.as_slice()),
         Deed::Discard(_)
         | Deed::Purge(_)
         | Deed::Restore { .. }
         | Deed::Relink { .. }
         | Deed::Requote(_)
-        | Deed::Forget { .. } => 0,
+        | Deed::Forget { .. }
+        | Deed::Abandon { .. } => 0,
+    }
+}
+
+/// How many versions are put by some deeds.
+fn versions_put(deeds: &[Deed]) -> usize
+    ensures { result ≡ min (sum_by versions_stored deeds.now) last_number }
+{
+    let mut count: usize = 0;
+    for deed in deeds {
+        count = count.saturating_add(versions_stored(deed));
+    }
+    count
+}
+
+fn versions_stored(deed: &Deed) -> usize
+    ensures { result ≡ versions_stored deed.now }
+{
+    match deed {
+        Deed::Store(changes) => change_count(&Counted::Version, changes.as_slice()),
+        _ => 0,
     }
 }
 
@@ -420,7 +509,11 @@ pub fn added_by(view: &View<'_>, act: &Allowed) -> RowCounts
 {
     match act {
         Allowed::Change { changes, .. } => added_of(view.meta().next_node, changes.as_slice()),
-        Allowed::Get { .. } | Allowed::List(_) | Allowed::Put { .. } | Allowed::Close => {
+        Allowed::Get { .. }
+        | Allowed::List(_)
+        | Allowed::Put { .. }
+        | Allowed::Chunk { .. }
+        | Allowed::Close => {
             RowCounts::only_nodes(0)
         }
         Allowed::Deeds { deeds, .. } => added_deeds(deeds.as_slice()),
@@ -434,6 +527,7 @@ fn added_deeds(deeds: &[Deed]) -> RowCounts
     RowCounts {
         items: deeds.iter().filter(|deed| discards(deed)).count(),
         users: deeds.iter().filter(|deed| requotes(deed)).count(),
+        versions: versions_put(deeds),
         ..RowCounts::only_nodes(nodes_joined(deeds))
     }
 }
@@ -464,6 +558,8 @@ fn added_of(next: NodeId, changes: &[Change]) -> RowCounts
         mounts: change_count(&Counted::Mount, changes),
         versions: change_count(&Counted::Version, changes),
         items: change_count(&Counted::Item, changes),
+        uploads: change_count(&Counted::Upload, changes),
+        chunks: change_count(&Counted::Chunk, changes),
     }
 }
 
@@ -490,6 +586,9 @@ fn is_counted(counted: &Counted, change: &Change) -> bool
         Counted::Mount => puts_mount(change),
         Counted::Version => puts_version(change),
         Counted::Item => puts_item(change),
+        Counted::Upload => puts_upload(change),
+        Counted::Chunk => puts_chunk(change),
+        Counted::Node => puts_node(change),
         Counted::User => puts_user(change),
         Counted::Token => puts_token(change),
         Counted::Group => puts_group(change),
@@ -531,6 +630,24 @@ fn puts_item(change: &Change) -> bool
     matches!(change, Change::Put(Row::Item(_)))
 }
 
+fn puts_upload(change: &Change) -> bool
+    ensures { result ≡ puts_upload change.now }
+{
+    matches!(change, Change::Put(Row::Upload(_)))
+}
+
+fn puts_chunk(change: &Change) -> bool
+    ensures { result ≡ puts_chunk change.now }
+{
+    matches!(change, Change::Put(Row::Chunk(_)))
+}
+
+fn puts_node(change: &Change) -> bool
+    ensures { result ≡ puts_node change.now }
+{
+    matches!(change, Change::Put(Row::Node(_)))
+}
+
 fn puts_user(change: &Change) -> bool
     ensures { result ≡ puts_user change.now }
 {
@@ -564,6 +681,7 @@ pub fn blob_of(act: &Allowed) -> Option<BlobId>
         Allowed::Get { .. }
         | Allowed::List(_)
         | Allowed::Put { .. }
+        | Allowed::Chunk { .. }
         | Allowed::Deeds { .. }
         | Allowed::Close => None,
     }
@@ -576,9 +694,11 @@ pub fn hold_of(act: &Allowed) -> Result<Option<Hold>, AllocError>
     match act {
         Allowed::Get { node, .. } => Ok(Some(beside(*node))),
         Allowed::Put { key, .. } => Ok(Some(alone(key)?)),
-        Allowed::List(_) | Allowed::Change { .. } | Allowed::Deeds { .. } | Allowed::Close => Ok(
-            None,
-        ),
+        Allowed::List(_)
+        | Allowed::Chunk { .. }
+        | Allowed::Change { .. }
+        | Allowed::Deeds { .. }
+        | Allowed::Close => Ok(None),
     }
 }
 
