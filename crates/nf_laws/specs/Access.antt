@@ -27,7 +27,7 @@ use Rattle.nf_laws.specs.Tree.{Under}
 use Rattle.nf_words.specs.Prelude.{access_of, after, answer_to, asker_of, behind, Call, call_of, deeds_done, ended_row, goal_at, home_of, is_joined, is_member, IsModest, IsSound, kind_of, kind_to, last_name, listing_of, may_by, MayCome, MayWant, membership, mount_of, name_back, Need, needed, needed_by, new_root, new_user, own_item, people_limit, perms_after, purges, receiver_named, restored, root_of, row_named, seeker_of, set_fault, set_row, State, until_after, usual_perms, forgets, needed_for, mount_by, unversioned, version_row, LeadsToRoot}
 use Rattle.nf_words.specs.Tokens.{link_token}
 use Rattle.nf_words.specs.declared.answer.Goal.{Goal}
-use Rattle.nf_words.specs.declared.answer.Goal.TheVariants.{Serve, Store}
+use Rattle.nf_words.specs.declared.answer.Goal.TheVariants.{Chunk, Serve, Store}
 use Rattle.nf_words.specs.declared.answer.Reply.TheVariants.{Granted, Listing}
 use Rattle.nf_words.specs.declared.history.Entry.{Entry}
 use Rattle.nf_words.specs.declared.history.Event.{Event}
@@ -161,11 +161,13 @@ WhatMayBeReadIsListed =
 abbrev pub needs_of_goal : Goal → List Need
 needs_of_goal (Serve content) = []
 needs_of_goal (Store by key length) = needed_by by key
+needs_of_goal (Chunk user dir number length) = []
 
 -- who was granted to store
 abbrev pub seeker_of_goal : Goal → Option Seeker
 seeker_of_goal (Serve content) = None
 seeker_of_goal (Store by key length) = Some by.seeker
+seeker_of_goal (Chunk user dir number length) = None
 
 -- an event needs what its request or its goal needs; a request needs that of its paths, and that of a version
 abbrev pub needs_of : State → ℕ → ℕ → Event → List Need
