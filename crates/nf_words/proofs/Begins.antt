@@ -210,7 +210,7 @@ module _ (call : Call) (spot : Spot) (sound : AreSound call.state.tables) (is : 
       let slot = slot_known call spot sound is folder reached leads in
       new_known t call.now folder (last_name spot) Folder [] None 0 [] sound slot.folds (slot_present call spot sound is folder reached leads) slot.free
       slot.unmounted
-      (within t 1 (depth t.nodes folder + 1) 0 0 0 some) (omega arith) refl (λ _. refl) (All-nil (IsVersion t)) (no_pairs AreTwo)
+      (within t 1 (depth t.nodes folder + 1) 0 0 0 some) (omega arith) (inl refl) (λ _. refl) (All-nil (IsVersion t)) (no_pairs AreTwo)
   folder_known (Missing found) leads some = tt
 
   -- what is deleted is in a folder: it is no root, and present

@@ -13,6 +13,7 @@ pub mod Ways
 pub mod Mounting
 pub mod Ensured
 pub mod Versioned
+pub mod Chunked
 pub mod Begins
 pub mod Ends
 pub mod Histories
