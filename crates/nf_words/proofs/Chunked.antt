@@ -1,6 +1,6 @@
 -- What is known of a chunk that is stored: its row, if that is another, and that its upload is touched.
-use Rattle.std.proofs.Common.{◌≡◌, ◌≢◌, ℕ, ◌+◌, ◌≤◌, ◌==◌, ◌&&◌, inr, bytes_eq, max, Bool, true, false, List, [], ◌∷◌, ◌++◌, ◌∙◌, length, Option, if◌then◌else◌, refl, sym, ap, subst, arith, le_refl}
-use Rattle.std.specs.Prelude.{None, Some, is_some, nat_lt, option_map}
+use Rattle.std.proofs.Common.{◌≡◌, ◌≢◌, ℕ, ◌≤◌, ◌==◌, ◌&&◌, inr, bytes_eq, Bool, true, false, List, [], ◌∷◌, ◌++◌, ◌∙◌, length, Option, if◌then◌else◌, refl, sym, ap, subst, arith, le_refl}
+use Rattle.std.specs.Prelude.{None, Some, is_some, option_map}
 use Rattle.std.specs.List.{All}
 use Rattle.std.specs.Option.{IfSome, option_map_or, option_or}
 use Rattle.std.proofs.lemmas.Bool.{and_from, and_parts, both_ways, eq-eqb, eqb-true, ltb-false}
@@ -10,7 +10,7 @@ use Rattle.nf_base.specs.Content.{content_eq}
 use Rattle.nf_base.specs.declared.changes.Change.{Change}
 use Rattle.nf_base.specs.declared.changes.Change.TheVariants.{Put}
 use Rattle.nf_base.specs.declared.content.Piece.{Piece}
-use Rattle.nf_base.specs.declared.limits.TheConstants.{MAX_BODY, MAX_PIECES, MAX_STORED_PIECES}
+use Rattle.nf_base.specs.declared.limits.TheConstants.{MAX_BODY, MAX_PIECES}
 use Rattle.nf_base.specs.declared.rows.ChunkRow.{ChunkRow}
 use Rattle.nf_base.specs.declared.rows.MetaRow.{MetaRow}
 use Rattle.nf_base.specs.declared.rows.Row.TheVariants as rows
@@ -20,8 +20,7 @@ use Rattle.nf_words.proofs.Bodies.{again_none, body_known, body_next, body_sized
 use Rattle.nf_words.proofs.Fits.{AreApart, Differs, KnownChange, KnownChunk, KnownRows, lean_more, no_more, none_lean, one_more, Within, within}
 use Rattle.nf_words.proofs.Found.{found_has, found_passes, put_is_found}
 use Rattle.nf_words.proofs.Known.{Known}
-use Rattle.nf_words.specs.Prelude.{AreSound, blob_after, blob_for, chunk_limit, chunk_put, chunk_refusal, chunk_row, chunk_stored, content_in, content_size, counted, IsChunkSound, is_chunk_of, IsLean, IsTouched, limit_passed, pending_with, pieces_of, raised, stored_pieces, touched_row, upload_row, upload_touched}
-use Rattle.nf_words.specs.declared.answer.Denial.{Denial}
+use Rattle.nf_words.specs.Prelude.{AreSound, blob_for, chunk_limit, chunk_put, chunk_refusal, chunk_row, chunk_stored, content_in, counted, IsChunkSound, is_chunk_of, IsLean, limit_passed, pending_with, pieces_of, raised, touched_row, upload_row, upload_touched}
 use Rattle.nf_words.specs.declared.answer.Denial.TheVariants as denial
 use Rattle.nf_words.specs.declared.answer.Limit.{Limit}
 use Rattle.nf_words.specs.declared.answer.Limit.TheVariants as limit

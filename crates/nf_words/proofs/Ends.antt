@@ -1,8 +1,8 @@
 -- What is known of an End, and of every step, that no rule refuses.
-use Rattle.std.proofs.Common.{◌≡◌, ℕ, ◌+◌, ◌≤◌, ◌==◌, ◌&&◌, inl, not, sym, Bool, true, false, List, [], length, max, ap, ◌∙◌, Result, Ok, Option, refl, subst, arith, filter, flat_map, ◌++◌}
+use Rattle.std.proofs.Common.{◌≡◌, ℕ, ◌+◌, ◌≤◌, ◌==◌, ◌&&◌, inl, not, sym, Bool, true, false, List, [], length, Result, Ok, Option, refl, subst, arith, filter, flat_map, ◌++◌}
 use Rattle.std.specs.Prelude.{None, Some, is_some, option_map, if◌then◌else◌}
 use Rattle.std.specs.Option.{IfSome, option_map_or}
-use Rattle.std.proofs.lemmas.Bool.{eqb-true, not-true}
+use Rattle.std.proofs.lemmas.Bool.{not-true}
 use Rattle.nf_access.specs.Mounts.{mount_at}
 use Rattle.nf_base.specs.declared.limits.TheConstants.{MAX_BODY}
 use Rattle.nf_base.specs.declared.rows.NodeKind.TheVariants.{File}
@@ -13,13 +13,12 @@ use Rattle.nf_words.proofs.Chunked.{chunk_known}
 use Rattle.nf_words.proofs.Bodies.{body_known}
 use Rattle.nf_words.proofs.Forgetting.{unsettled_there, unsettled_two}
 use Rattle.nf_words.proofs.Refilling.{over_known}
-use Rattle.nf_base.specs.declared.content.Piece.{Piece}
 use Rattle.nf_words.proofs.Fits.{KnownChange, Within, new_known, within}
-use Rattle.nf_words.proofs.Found.{found_has, found_passes}
+use Rattle.nf_words.proofs.Found.{found_has}
 use Rattle.nf_words.proofs.Known.{alone, by_sweeping, Known}
 use Rattle.nf_words.proofs.Passing.{end_passes, not_refused}
 use Rattle.nf_words.proofs.Sweeping.{swept_goes, swept_idle}
-use Rattle.nf_words.specs.Prelude.{abandons, access_of, AreSound, blob_after, blob_for, call_of, chunk_refusal, chunk_stored, charged, content_size, is_same, IsNodeSound, last_number, new_node, purges, refills, unsettled, versions_added, content_in, decision_of, end_lost, end_refusal, ends_at, ends_goal, goal_at, gone_from, HoldsFor, is_idle, IsGoalSound, IsHeld, IsSound, IsStorable, IsTicketSound, IsUnmounted, LeadsToRoot, limit_at, MayAsk, MayBring, MayEnd, node_of_key, owners_of, pieces_of, place_of, refilled, State, stored_at, swept, ticket_of}
+use Rattle.nf_words.specs.Prelude.{abandons, access_of, AreSound, blob_for, call_of, chunk_refusal, chunk_stored, charged, content_size, new_node, purges, unsettled, versions_added, content_in, decision_of, end_lost, end_refusal, ends_at, ends_goal, goal_at, gone_from, HoldsFor, is_idle, IsGoalSound, IsHeld, IsSound, IsStorable, IsTicketSound, IsUnmounted, LeadsToRoot, limit_at, MayAsk, MayBring, MayEnd, node_of_key, owners_of, pieces_of, place_of, refilled, State, stored_at, swept, ticket_of}
 use Rattle.nf_words.specs.declared.answer.Allowed.{Allowed}
 use Rattle.nf_words.specs.declared.answer.Allowed.TheVariants as allowed
 use Rattle.nf_words.specs.declared.answer.Denial.TheVariants as denial

@@ -1,5 +1,5 @@
 -- What is known of what is asked about uploads.
-use Rattle.std.proofs.Common.{◌≡◌, ℕ, ◌+◌, ◌≤◌, ◌==◌, ◌&&◌, inl, inr, Bool, true, false, List, [], ◌∷◌, ◌∙◌, length, Option, if◌then◌else◌, refl, sym, ap, subst, arith, le_refl}
+use Rattle.std.proofs.Common.{◌≡◌, ℕ, ◌+◌, ◌≤◌, ◌&&◌, inl, inr, Bool, true, false, List, [], ◌∷◌, ◌∙◌, length, Option, if◌then◌else◌, refl, sym, ap, subst, arith, le_refl}
 use Rattle.std.specs.Prelude.{None, Some, is_some, nat_le}
 use Rattle.std.specs.List.{list_all}
 use Rattle.std.specs.Option.{option_map_or}
