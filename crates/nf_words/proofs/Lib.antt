@@ -16,6 +16,7 @@ pub mod Ensured
 pub mod Versioned
 pub mod Chunked
 pub mod Uploaded
+pub mod Wholes
 pub mod Begins
 pub mod Ends
 pub mod Histories
