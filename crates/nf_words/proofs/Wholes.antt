@@ -46,9 +46,12 @@ rising_few : (rows : List ChunkRow) (first : ℕ) → AllPairs Rise rows → All
     → All (λ (row : ChunkRow). row.number ≤ MAX_PIECES) rows → first ≤ MAX_PIECES → first + length rows ≤ MAX_PIECES
 rising_few [] first rise above below most = omega (arith, most)
 rising_few (row ∷ rows) first rise above below most =
-    omega (arith, All-head (λ (one : ChunkRow). first < one.number) row rows above,
-    rising_few rows row.number (tails Rise row rows rise) (heads Rise row rows rise) (All-tail (λ (one : ChunkRow). one.number ≤ MAX_PIECES) row rows below)
-    (All-head (λ (one : ChunkRow). one.number ≤ MAX_PIECES) row rows below))
+    omega (
+      arith,
+      All-head (λ (one : ChunkRow). first < one.number) row rows above,
+      rising_few rows row.number (tails Rise row rows rise) (heads Rise row rows rise) (All-tail (λ (one : ChunkRow). one.number ≤ MAX_PIECES) row rows below)
+          (All-head (λ (one : ChunkRow). one.number ≤ MAX_PIECES) row rows below),
+    )
 
 module _ (t : Tables) (sound : AreSound t) (user : ℕ) (dir : List ℕ) where
   abbrev chunks : List ChunkRow
@@ -72,17 +75,24 @@ module _ (t : Tables) (sound : AreSound t) (user : ℕ) (dir : List ℕ) where
 
   pub few_chunks : length chunks ≤ MAX_PIECES
   few_chunks =
-      omega (arith, rising_few chunks 0 chunks_numbers_rise
-      (All-filter (is_chunk_of user dir) (λ (row : ChunkRow). 0 < row.number) t.chunks
-      (All-weaker (IsChunkSound t) (λ (row : ChunkRow). 0 < row.number) (λ row s. omega (arith, s.some)) t.chunks sound.others.chunks))
-      (All-filter (is_chunk_of user dir) (λ (row : ChunkRow). row.number ≤ MAX_PIECES) t.chunks
-      (All-weaker (IsChunkSound t) (λ (row : ChunkRow). row.number ≤ MAX_PIECES) (λ row s. s.few) t.chunks sound.others.chunks))
-      (omega arith))
+      omega (
+        arith,
+        rising_few chunks 0 chunks_numbers_rise
+            (All-filter (is_chunk_of user dir) (λ (row : ChunkRow). 0 < row.number) t.chunks
+            (All-weaker (IsChunkSound t) (λ (row : ChunkRow). 0 < row.number) (λ row s. omega (arith, s.some)) t.chunks sound.others.chunks))
+            (All-filter (is_chunk_of user dir) (λ (row : ChunkRow). row.number ≤ MAX_PIECES) t.chunks
+            (All-weaker (IsChunkSound t) (λ (row : ChunkRow). row.number ≤ MAX_PIECES) (λ row s. s.few) t.chunks sound.others.chunks))
+            (omega arith),
+      )
 
   -- each has at most one
   pub whole_few : length (whole_of t.chunks user dir) ≤ MAX_PIECES
   whole_few =
-      omega (arith, few_chunks, length-flat_map (λ (row : ChunkRow). row.content) chunks,
-      sum_by-le (λ (row : ChunkRow). length row.content) 1 chunks
-      (All-filter (is_chunk_of user dir) (λ (row : ChunkRow). length row.content ≤ 1) t.chunks
-      (All-weaker (IsChunkSound t) (λ (row : ChunkRow). length row.content ≤ 1) (λ row s. s.one) t.chunks sound.others.chunks)))
+      omega (
+        arith,
+        few_chunks,
+        length-flat_map (λ (row : ChunkRow). row.content) chunks,
+        sum_by-le (λ (row : ChunkRow). length row.content) 1 chunks
+            (All-filter (is_chunk_of user dir) (λ (row : ChunkRow). length row.content ≤ 1) t.chunks
+            (All-weaker (IsChunkSound t) (λ (row : ChunkRow). length row.content ≤ 1) (λ row s. s.one) t.chunks sound.others.chunks)),
+      )
