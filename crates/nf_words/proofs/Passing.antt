@@ -256,7 +256,7 @@ if_none false refusal none = absurd (cc)
 
 -- ---- of what is asked about uploads
 
--- nothing is there that is to be made, where that is refused
+-- nothing is where something is to be made, and no upload of the name of a new one is there
 pub exists_passes : (access : Access) (call : Call) → exists_rule access call ≡ None
     → (taken call.state.tables.nodes (places_of call) (asked_by call).makes ≡ None) × (opened_by call call.request.wanted ≡ None)
 unfolding exists_rule
