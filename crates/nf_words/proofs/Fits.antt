@@ -1,10 +1,10 @@
 -- What is known of a new node, and of another content of a file, where no limit is passed.
-use Rattle.std.proofs.Common.{◌≡◌, ◌≢◌, ◌⊎◌, ℕ, ◌+◌, ◌<◌, ◌≤◌, ◌==◌, ◌||◌, inl, sym, Bool, true, false, List, [], ◌∷◌, length, map, max, ◌∙◌, Option, if◌then◌else◌, refl, ap, subst, arith, le_refl}
+use Rattle.std.proofs.Common.{◌≡◌, ◌≢◌, ◌⊎◌, ℕ, ◌+◌, ◌<◌, ◌≤◌, ◌==◌, ◌||◌, flat_map, inl, inr, sym, Bool, true, false, List, [], ◌∷◌, length, map, max, ◌∙◌, Option, if◌then◌else◌, refl, ap, subst, arith, le_refl}
 use Rattle.std.specs.Prelude.{None, Some}
 use Rattle.std.specs.List.{All, AllPairs}
 use Rattle.std.specs.Option.{IfSome}
 use Rattle.std.proofs.lemmas.Bool.{eq-eqb, eqb-true, ltb-false}
-use Rattle.std.proofs.lemmas.List.Elements.{All-cons, All-map, All-nil, All-weaker}
+use Rattle.std.proofs.lemmas.List.Elements.{All-append, All-cons, All-filter, All-head, All-map, All-nil, All-tail, All-weaker}
 use Rattle.std.proofs.lemmas.List.Kept.{AllPairs-cons}
 use Rattle.nf_base.specs.declared.changes.Change.{Change}
 use Rattle.nf_base.specs.declared.changes.Change.TheVariants.{Drop, Put}
@@ -25,9 +25,9 @@ use Rattle.nf_words.proofs.Forgetting.{AreTwo, drop_differs, IsVersion, pairs_ma
 use Rattle.nf_words.specs.Lean.{changed_key}
 use Rattle.nf_words.specs.Versions.{drop_version, version_for, version_row}
 use Rattle.nf_defs.specs.Prelude.{child_of, depth, is_folder, is_folder_kind, made, node_key, node_row, put, Tables}
-use Rattle.nf_words.proofs.Bodies.{IsOfBody, body_sound, IsNext, body_next}
+use Rattle.nf_words.proofs.Bodies.{IsOfBody, body_sound, IsNext, body_next, next_le, none_next, pieces_still}
 use Rattle.nf_words.proofs.Found.{found_has, put_is_found}
-use Rattle.nf_words.specs.Prelude.{AreSound, blob_after, counted, IsBorn, IsFilled, IsLean, IsMountSound, IsNewChunk, IsNewMount, IsNewShare, IsNewUpload, IsNewUser, IsNewVersion, IsNodeSound, IsOfPeople, IsOtherShare, IsRemounted, IsShareSound, IsTouched, IsUnmounted, last_number, LeadsToRoot, last_short, limit_passed, new_node, raised, stored_pieces, whole_of}
+use Rattle.nf_words.specs.Prelude.{AreSound, blob_after, chunks_of, counted, IsBorn, is_chunk_of, IsChunkSound, IsFilled, IsLean, IsMountSound, IsNewChunk, IsNewMount, IsNewShare, IsNewUpload, IsNewUser, IsNewVersion, IsNodeSound, IsOfPeople, IsOtherShare, IsPieceSound, IsRemounted, IsShareSound, IsTouched, IsUnmounted, last_number, LeadsToRoot, last_short, limit_passed, new_node, raised, stored_pieces, whole_of}
 use Rattle.nf_words.specs.declared.answer.Limit.TheVariants as limit
 
 -- ---- limits
@@ -66,6 +66,24 @@ within t nodes deep versions pieces blobs none =
 -- what the chunks of an upload have together
 abbrev pub IsOfUpload : Tables → List Piece → Type 0
 IsOfUpload t content = (user : ℕ) × (dir : List ℕ) × (content ≡ whole_of t.chunks user dir)
+
+-- the pieces of chunks, one after the other
+whole_has : (P : Piece → Type 0) (chunks : List ChunkRow) → All (λ (row : ChunkRow). All P row.content) chunks
+    → All P (flat_map (λ row. row.content) chunks)
+whole_has P [] all = All-nil P
+whole_has P (row ∷ chunks) all =
+    All-append P row.content (flat_map (λ row. row.content) chunks) (All-head (λ (row : ChunkRow). All P row.content) row chunks all)
+    (whole_has P chunks (All-tail (λ (row : ChunkRow). All P row.content) row chunks all))
+
+-- they are sound, since those of each chunk are
+pub upload_sound : (t u : Tables) (content : List Piece) → All (IsChunkSound t) t.chunks → t.meta.next_blob ≤ u.meta.next_blob → IsOfUpload t content
+    → All (IsPieceSound u) content
+upload_sound t u content chunks up of =
+    subst (λ (c : List Piece). All (IsPieceSound u) c) (sym of.2)
+    (pieces_still t u (whole_of t.chunks of.0 of.1) up
+    (whole_has (IsPieceSound t) (chunks_of t.chunks of.0 of.1)
+    (All-filter (is_chunk_of of.0 of.1) (λ (row : ChunkRow). All (IsPieceSound t) row.content) t.chunks
+    (All-weaker (IsChunkSound t) (λ (row : ChunkRow). All (IsPieceSound t) row.content) (λ row s. s.pieces) t.chunks chunks))))
 
 -- a new node, with a number that wasn't given before and the content of a body or of an upload
 pub record KnownBorn (first : Tables) (blob : Option ℕ) (t : Tables) (row : NodeRow) : Type 0 where
@@ -200,6 +218,19 @@ none_lean t = record { once = λ i j d before within. absurd (omega arith); diff
 
 -- ---- a new node
 
+-- its pieces are sound, be they of a body or of an upload
+born_sound : (t u : Tables) (blob : Option ℕ) (content : List Piece) → AreSound t
+    → IsOfBody t.meta blob content ⊎ ((blob ≡ None) × IsOfUpload t content) → blob_after t.meta.next_blob blob ≤ u.meta.next_blob
+    → All (IsPieceSound u) content
+born_sound t u blob content sound (inl of) given = body_sound t.meta u blob content sound.counters of given
+born_sound t u blob content sound (inr (none, of)) given =
+    upload_sound t u content sound.others.chunks (omega (arith, given, next_le t.meta.next_blob blob)) of
+
+born_next : (t : Tables) (blob : Option ℕ) (content : List Piece) → IsOfBody t.meta blob content ⊎ ((blob ≡ None) × IsOfUpload t content)
+    → IsNext t.meta.next_blob blob
+born_next t blob content (inl of) = body_next t.meta blob content of
+born_next t blob content (inr (none, of)) = none_next t.meta.next_blob blob none
+
 -- its number is above all others
 pub newest : (t : Tables) → AreSound t → All (λ (old : NodeRow). old.id < t.meta.next_node) t.nodes
 newest t sound = All-weaker (IsNodeSound t) (λ (old : NodeRow). old.id < t.meta.next_node) (λ old s. s.given) t.nodes sound.nodes
@@ -213,7 +244,8 @@ not_there t row sound id = λ is.
 pub new_known : (t : Tables) (now folder : ℕ) (name : List ℕ) (kind : NodeKind) (content : List Piece) (blob : Option ℕ) (blobs : ℕ) (gone : List Version)
     → AreSound t → is_folder t.nodes folder ≡ true → LeadsToRoot t.nodes folder → child_of t.nodes folder name ≡ None → IsUnmounted t folder name
     → Within t 1 (depth t.nodes folder + 1) 0 (length content) blobs → blob_after t.meta.next_blob blob ≤ t.meta.next_blob + blobs
-    → IsOfBody t.meta blob content → (is_folder_kind kind ≡ true → content ≡ []) → All (IsVersion t) gone → AllPairs AreTwo gone
+    → IsOfBody t.meta blob content ⊎ ((blob ≡ None) × IsOfUpload t content) → (is_folder_kind kind ≡ true → content ≡ [])
+    → All (IsVersion t) gone → AllPairs AreTwo gone
     → KnownChange t now (Put (rows.Node (new_node t now folder name kind content)) ∷ drops gone) blob
 new_known t now folder name kind content blob blobs gone sound there present free unmounted fits counts body empty versions two =
     let row = new_node t now folder name kind content in
@@ -236,7 +268,7 @@ new_known t now folder name kind content blob blobs gone sound there present fre
               unused = All-weaker (IsMountSound t) (λ (mount : MountRow). mount.node < t.meta.next_node) (λ mount s. s.node) t.mounts sound.others.mounts;
               given = omega (arith, next);
               changed = le_refl _;
-              pieces = body_sound t.meta up blob content sound.counters body (le_refl _);
+              pieces = born_sound t up blob content sound body (le_refl _);
               empty = empty;
               deep = fits.deep;
               few_nodes = fits.nodes;
@@ -248,7 +280,7 @@ new_known t now folder name kind content blob blobs gone sound there present fre
           (drops_rows t blob (made up (Put (rows.Node row))) gone);
       lean = lean_more t (Put (rows.Node row)) (drops gone) (put_differs t row (not_there t row sound refl)) (node_apart row gone) (drops_lean t gone versions two);
       stored = λ none. absurd (cc);
-      next = body_next t.meta blob content body;
+      next = born_next t blob content body;
       next_user = omega (arith, ap (λ (meta : MetaRow). meta.next_user) count);
       next_group = omega (arith, ap (λ (meta : MetaRow). meta.next_group) count);
       next_node = omega (arith, fits.next_node, next);

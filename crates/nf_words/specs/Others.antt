@@ -1,5 +1,5 @@
 -- What the rows of shares, mounts, versions, the trash and uploads keep.
-use Rattle.std.specs.Prelude.{◌≡◌, ◌≢◌, ℕ, ◌==◌, ◌<◌, ◌≤◌, All, false, true, length, List, [], Option, None, Some, IfSome, is_some}
+use Rattle.std.specs.Prelude.{◌≡◌, ◌≢◌, ℕ, ◌==◌, ◌<◌, ◌≤◌, All, false, true, length, [], None, Some, IfSome, is_some}
 use Rattle.std.specs.List.{AllPairs, list_any}
 use Rattle.nf_access.specs.Mounts.{root_folder}
 use Rattle.nf_access.specs.Shares.{chain_within, perms_of_share}

@@ -1,5 +1,5 @@
 -- The rules of what is asked about uploads.
-use Rattle.std.specs.Prelude.{ℕ, ◌+◌, ◌-◌, ◌==◌, not, nat_lt, Bool, false, List, length, bytes_eq, Option, None, Some, is_some, is_none, option_map, option_and_then, if◌then◌else◌}
+use Rattle.std.specs.Prelude.{ℕ, ◌+◌, ◌-◌, ◌==◌, not, nat_lt, Bool, List, length, bytes_eq, Option, None, Some, is_some, is_none, option_map, option_and_then, if◌then◌else◌}
 use Rattle.std.specs.Cmp.Lexicographic.{pointwise}
 use Rattle.std.specs.Option.{option_map_or, option_or}
 use Rattle.nf_base.specs.declared.rows.UploadRow.{UploadRow}

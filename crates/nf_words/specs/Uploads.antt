@@ -1,5 +1,5 @@
 -- Uploads in chunks: which there are, and what they have.
-use Rattle.std.specs.Prelude.{ℕ, ◌+◌, ◌-◌, ◌*◌, ◌==◌, ◌&&◌, not, nat_le, Bool, List, [], ◌∷◌, bytes_eq, filter, find, length, map, sum_by, Option, None, Some, if◌then◌else◌}
+use Rattle.std.specs.Prelude.{ℕ, ◌+◌, ◌-◌, ◌*◌, ◌==◌, ◌&&◌, nat_le, Bool, List, [], ◌∷◌, bytes_eq, filter, find, sum_by, Option, None, Some, if◌then◌else◌}
 use Rattle.std.specs.List.{flat_map, list_all}
 use Rattle.nf_base.specs.declared.content.Piece.{Piece}
 use Rattle.nf_base.specs.declared.limits.TheConstants.{MAX_PIECES}

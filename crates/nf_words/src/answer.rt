@@ -282,7 +282,11 @@ pub enum Goal {
     /// Send this content.
     Serve(Content),
     /// Store a body of that many bytes for who asked.
-    Store { by: By, key: LockKey, length: u64 },
+    Store {
+        by: By,
+        key: LockKey,
+        length: u64,
+    },
     /// Store a body of that many bytes as the chunk of that number of an upload of the user's.
     Chunk {
         user: UserId,
