@@ -40,11 +40,11 @@ pending_of rows user = sum_by (λ row. content_size row.content) (filter (λ row
 
 -- ---- the number that a chunk's name tells
 
-abbrev is_digit : ℕ → Bool
+abbrev pub is_digit : ℕ → Bool
 is_digit byte = nat_le 48 byte && nat_le byte 57
 
 -- a number and further digits
-abbrev number_on : ℕ → List ℕ → ℕ
+abbrev pub number_on : ℕ → List ℕ → ℕ
 number_on number [] = number
 number_on number (byte ∷ bytes) = number_on (number * 10 + (byte - 48)) bytes
 
