@@ -1,24 +1,24 @@
 -- What the chunks of an upload have together.
-use Rattle.std.proofs.Common.{ℕ, ◌+◌, ◌<◌, ◌≤◌, ◌≡◌, Bool, true, List, [], ◌∷◌, ◌++◌, length, get_or, refl, sym, ap, ◌∙◌, arith, bytes_eq}
+use Rattle.std.proofs.Common.{ℕ, ◌+◌, ◌<◌, ◌≤◌, ◌≡◌, true, List, [], ◌∷◌, ◌++◌, length, get_or, take, refl, sym, ap, ◌∙◌, arith, bytes_eq}
 use Rattle.std.specs.Prelude.{◌==◌, sum_by}
-use Rattle.std.specs.List.{All, filter, flat_map}
+use Rattle.std.specs.List.{All, flat_map}
 use Rattle.std.specs.Ordering.{nat_cmp, ordering_then}
 use Rattle.std.specs.declared.cmp.Ordering.{Ordering}
 use Rattle.std.specs.declared.cmp.Ordering.TheVariants.{Less, Equal}
 use Rattle.std.proofs.lemmas.Bool.{and_parts, eqb-true}
 use Rattle.std.proofs.lemmas.Cmp.{ranked, tied_itself}
+use Rattle.std.proofs.lemmas.Grind.{flat_map-append}
+use Rattle.std.proofs.lemmas.List.{append-nil, take_more}
 use Rattle.std.proofs.lemmas.List.Concat.{flat_map-cons, length-flat_map}
 use Rattle.std.proofs.lemmas.List.Elements.{All-filter, All-head, All-tail, filter_passes}
 use Rattle.std.proofs.lemmas.List.Kept.{AllPairs-filter}
 use Rattle.std.proofs.lemmas.List.Sums.{sum_by-append, sum_by-cons}
 use Rattle.std.proofs.lemmas.Slice.Eq.{bytes_eq-Decides}
-use Rattle.nf_base.specs.declared.content.Piece.{Piece}
 use Rattle.nf_base.specs.declared.limits.TheConstants.{MAX_PIECES}
 use Rattle.nf_base.specs.declared.rows.ChunkRow.{ChunkRow}
 use Rattle.nf_defs.specs.Prelude.{IsRising, chunk_key, key_cmp}
 use Rattle.nf_defs.proofs.Puts.{Below, below_rest, chunk_cmp, key_total, tail_rising}
-use Rattle.nf_words.specs.Uploads.{chunks_of, is_chunk_of, whole_of}
-use Rattle.nf_words.specs.Versions.{content_size}
+use Rattle.nf_words.specs.Uploads.{chunks_of, is_chunk_of}
 use Rattle.nf_uploads.specs.Laws.{IsNumbered, WholesFit}
 
 -- ---- sums
@@ -31,6 +31,17 @@ sum_joined {X} {Y} size f (x ∷ xs) =
     ∙ ap (λ (n : ℕ). sum_by size (f x) + n) (sum_joined size f xs)
     ∙ sym (sum_by-append size (f x) (flat_map f xs))
     ∙ ap (sum_by size) (sym (flat_map-cons f x xs))
+
+-- what is joined, with what one more has
+pub joined_more : {X Y : Type 0} (f : X → List Y) (xs : List X) (i : ℕ) (x : X) (joined part more : List Y) → i < length xs → x ≡ get_or xs i x
+    → joined ≡ flat_map f (take i xs) → part ≡ f x → more ≡ joined ++ part → more ≡ flat_map f (take (i + 1) xs)
+joined_more f xs i x joined part more within is so_far its with =
+    with
+    ∙ ap (λ list. list ++ part) so_far
+    ∙ ap (λ list. flat_map f (take i xs) ++ list)
+    (its ∙ ap f is ∙ sym (append-nil (f (get_or xs i x))) ∙ sym (flat_map-cons f (get_or xs i x) []))
+    ∙ sym (flat_map-append f (take i xs) (get_or xs i x ∷ []))
+    ∙ ap (flat_map f) (sym (take_more xs i x within))
 
 -- of at most one each
 few_each : {X : Type 0} (f : X → ℕ) (xs : List X) → All (λ x. f x ≤ 1) xs → sum_by f xs ≤ length xs
@@ -76,7 +87,7 @@ module _ (user : ℕ) (dir : List ℕ) where
 pub wholes_fit : WholesFit
 wholes_fit chunks user dir rising numbered =
     let rows = chunks_of chunks user dir in
-    let all : All IsNumbered rows = All-filter IsNumbered (is_chunk_of user dir) chunks numbered in
+    let all : All IsNumbered rows = All-filter (is_chunk_of user dir) IsNumbered chunks numbered in
     let few = few_numbers user dir 0 rows (omega arith) (AllPairs-filter (Below chunk_key) (is_chunk_of user dir) chunks rising)
     (filter_passes (is_chunk_of user dir) chunks) all (λ k d less. (all k d less).from) in
     omega (

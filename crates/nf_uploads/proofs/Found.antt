@@ -1,15 +1,13 @@
--- What is found by the key of an upload or a chunk, and what begins with a user or an upload.
-use Rattle.std.proofs.Common.{ℕ, suc, ◌+◌, ◌≡◌, Bool, true, false, List, [], ◌∷◌, ◌++◌, length, take, refl, sym, ap, ◌∙◌, arith, bytes_eq}
+-- What is found by the key of an upload or a chunk.
+use Rattle.std.proofs.Common.{ℕ, ◌≡◌, Bool, List, [], ◌∷◌, ◌++◌, length, refl, ap, arith, bytes_eq}
 use Rattle.std.specs.Prelude.{◌==◌, ◌&&◌, find}
-use Rattle.std.specs.List.{filter}
 use Rattle.std.proofs.lemmas.Bool.Decides.{nat_tests}
-use Rattle.std.proofs.lemmas.List.Elements.{filter_agree}
 use Rattle.std.proofs.lemmas.Slice.Eq.{bytes_eq-Decides}
 use Rattle.nf_base.specs.declared.rows.ChunkRow.{ChunkRow}
 use Rattle.nf_base.specs.declared.rows.UploadRow.{UploadRow}
 use Rattle.nf_defs.specs.Prelude.{chunk_key, upload_key}
-use Rattle.nf_table.specs.Rows.{begins, row_at}
-use Rattle.nf_words.specs.Uploads.{chunk_row, chunks_of, is_chunk_of, upload_row, uploads_of}
+use Rattle.nf_table.specs.Rows.{row_at}
+use Rattle.nf_words.specs.Uploads.{chunk_row, is_chunk_of, upload_row}
 
 -- ---- keys that are the same
 
@@ -23,13 +21,6 @@ numbered [] [] m n = grind (arith, nat_tests)
 numbered [] (y ∷ b) m n = grind (arith, nat_tests)
 numbered (x ∷ a) [] m n = grind (arith, nat_tests)
 numbered (x ∷ a) (y ∷ b) m n = let rest = numbered a b m n in grind (arith, nat_tests)
-
--- a front as long as the name that is sought
-fronted : (a b : List ℕ) (m : ℕ) → (length a == length b && bytes_eq (take (length b) (a ++ m ∷ [])) b) ≡ bytes_eq a b
-fronted [] [] m = refl
-fronted [] (y ∷ b) m = grind (arith, nat_tests)
-fronted (x ∷ a) [] m = grind (arith, nat_tests)
-fronted (x ∷ a) (y ∷ b) m = let rest = fronted a b m in grind (arith, nat_tests)
 
 -- ---- what is found
 
@@ -48,19 +39,3 @@ pub found_chunk : (rows : List ChunkRow) (user : ℕ) (dir : List ℕ) (number :
 found_chunk rows user dir number =
     find_agree (λ row. bytes_eq (chunk_key row) (user ∷ length dir ∷ dir ++ number ∷ [])) (λ row. is_chunk_of user dir row && row.number == number)
     (λ row. let same = numbered row.dir dir row.number number in grind (arith, nat_tests)) rows
-
--- ---- what begins with that
-
-pub users_uploads : (rows : List UploadRow) (user : ℕ) → filter (λ row. begins (upload_key row) (user ∷ [])) rows ≡ uploads_of rows user
-users_uploads rows user =
-    filter_agree (λ (row : UploadRow). begins (upload_key row) (user ∷ [])) (λ row. row.user == user) (λ row. grind (arith, nat_tests)) rows
-
-pub users_chunks : (rows : List ChunkRow) (user : ℕ) → filter (λ row. begins (chunk_key row) (user ∷ [])) rows ≡ filter (λ row. row.user == user) rows
-users_chunks rows user =
-    filter_agree (λ (row : ChunkRow). begins (chunk_key row) (user ∷ [])) (λ row. row.user == user) (λ row. grind (arith, nat_tests)) rows
-
-pub uploads_chunks : (rows : List ChunkRow) (user : ℕ) (dir : List ℕ)
-    → filter (λ row. begins (chunk_key row) (user ∷ length dir ∷ dir)) rows ≡ chunks_of rows user dir
-uploads_chunks rows user dir =
-    filter_agree (λ (row : ChunkRow). begins (chunk_key row) (user ∷ length dir ∷ dir)) (is_chunk_of user dir)
-    (λ row. ap (λ (b : Bool). row.user == user && b) (fronted row.dir dir row.number)) rows
