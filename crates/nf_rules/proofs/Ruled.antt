@@ -4,8 +4,6 @@ use Rattle.std.specs.Prelude.{is_some, nat_lt}
 use Rattle.std.specs.List.{All, AllByRecursion}
 use Rattle.std.specs.Option.{option_map_or}
 use Rattle.std.proofs.lemmas.Bool.{and_from, and_right, eq-eqb, eqb-true, false≢true, le-ltb, lt-ltb, not_from_false, not_from_true, or_from}
-use Rattle.std.proofs.lemmas.List.Elements.{All-weaker}
-use Rattle.std.proofs.lemmas.List.Folds.{list_any_none}
 use Rattle.std.proofs.lemmas.Slice.Eq.{bytes_eq-Decides}
 use Rattle.nf_base.specs.declared.limits.TheConstants.{MAX_GROUPS, MAX_MEMBERS, MAX_MOUNTS, MAX_QUOTA, MAX_SHARES, MAX_TOKENS, MAX_USERS, MAX_VERSIONS}
 use Rattle.nf_base.specs.declared.content.Piece.{Piece}
@@ -22,12 +20,12 @@ use Rattle.nf_defs.specs.Prelude.{is_root_place, node_row, rows_of, Tables, tabl
 use Rattle.nf_laws.proofs.Rows.{folder_there, found_is}
 use Rattle.nf_rows.specs.Spelling.{Fits}
 use Rattle.nf_words.specs.Others.{IsChunkSound, IsItemSound, IsMountSound, IsUploadSound, IsVersionSound}
-use Rattle.nf_words.specs.Prelude.{AreCounters, count_of, HasRoot, IsNodeSound, IsPieceSound, IsPlaceSound, charge_of, quota_of, stored_pieces}
+use Rattle.nf_words.specs.Prelude.{AreCounters, count_of, HasRoot, IsNodeSound, IsPlaceSound, charge_of, quota_of, stored_pieces}
 use Rattle.nf_words.specs.declared.answer.Limit.TheVariants as limit
 use Rattle.nf_rules.specs.Keys.{name_key}
 use Rattle.nf_rules.specs.Laws.{RuledAreUnbroken}
 use Rattle.nf_rules.specs.Ruled.{AreOrdered, IsGiven, IsGroupRuled, IsItemRuled, IsMemberRuled, IsMountRuled, IsShareRuled, IsTokenRuled, IsUserRuled, AreSettled}
-use Rattle.nf_rules.specs.Rules.{are_counters, are_numbers, has_ungiven_blob, is_beyond, is_given, is_place_given, is_place_there, is_placed, is_root_of, is_shared_well, is_user, names_are_there, rules, is_over, held_bytes}
+use Rattle.nf_rules.specs.Rules.{are_counters, are_numbers, is_beyond, is_place_given, is_place_there, is_placed, is_root_of, is_shared_well, is_user, names_are_there, rules, is_over, held_bytes}
 use Rattle.nf_rules.proofs.Apart.{keys_unshared, names_unshared}
 use Rattle.nf_rules.proofs.Firsts.{Keep, none_broken}
 use Rattle.nf_rules.proofs.Items.{item_names, item_numbers, item_placed}

@@ -1,5 +1,5 @@
 -- Uploads and their chunks: what the rules say of their rows, and what sound tables say of them.
-use Rattle.std.proofs.Common.{◌≡◌, ℕ, ◌<◌, ◌≤◌, ◌==◌, ◌&&◌, Bool, true, false, not, List, [], ◌∷◌, length, filter, sum_by, Option, None, Some, refl, sym, ap, ◌∙◌, subst, ⊎_elim, inl, inr, arith}
+use Rattle.std.proofs.Common.{◌≡◌, ℕ, ◌<◌, ◌≤◌, ◌==◌, ◌&&◌, Bool, true, false, not, List, [], ◌∷◌, length, filter, sum_by, Option, None, Some, refl, ap, subst, ⊎_elim, inl, inr, arith}
 use Rattle.std.specs.Prelude.{bytes_eq, is_some, nat_le, nat_lt}
 use Rattle.std.specs.List.{All}
 use Rattle.std.proofs.lemmas.Bool.{and_cases, and_from, and_parts, and_right, cases_Bool, cases_lt, eqb-true, false≢true, le-leb, le-ltb, leb-true, ltb-false, not-false, not-true, not_from_false, not_from_true, or_from, or_parts}
