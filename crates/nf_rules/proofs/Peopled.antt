@@ -19,7 +19,7 @@ use Rattle.nf_base.specs.declared.rows.TokenRow.{TokenRow}
 use Rattle.nf_base.specs.declared.rows.UserRow.{UserRow}
 use Rattle.nf_defs.proofs.Loads.{rises}
 use Rattle.nf_defs.proofs.Puts.{all_put, dropped_length, dropped_rising, put_length, put_rising}
-use Rattle.nf_defs.specs.Prelude.{chunk_key, dropped, group_key, group_named, group_row, IsRising, member_key, node_row, put, Tables, token_key, upload_key, user_key, user_named, user_row}
+use Rattle.nf_defs.specs.Prelude.{dropped, group_key, group_named, group_row, IsRising, member_key, node_row, put, Tables, token_key, user_key, user_named, user_row}
 use Rattle.nf_laws.proofs.Leaning.{any_found}
 use Rattle.nf_laws.proofs.Peopled.{group_put}
 use Rattle.nf_laws.proofs.Rows.{each_fails, found_is, no_value, row_is, row_joined}
