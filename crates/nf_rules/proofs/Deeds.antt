@@ -225,10 +225,10 @@ module _ (t : Tables) (now : ℕ) where
       (modest_discards from rest
       (All-append IsModestDeed (besides t now transfer.replaced) (besides t now (Some transfer.node))
       (modest_besides (row_at t transfer.replaced)) (modest_besides from))))
-  modest_deeds _ (by_joining changes user dir known open) modest =
+  modest_deeds _ (by_joining changes user dir known there) modest =
       modest_then (deed.Store changes) (deed.Abandon user dir ∷ []) tt
       (modest_then (deed.Abandon user dir) [] tt (All-nil IsModestDeed))
-  modest_deeds _ (by_abandoning user dir open) modest = modest_then (deed.Abandon user dir) [] tt (All-nil IsModestDeed)
+  modest_deeds _ (by_abandoning user dir there) modest = modest_then (deed.Abandon user dir) [] tt (All-nil IsModestDeed)
   modest_deeds _ (by_sweeping nodes rows goes idle) modest =
       All-append IsModestDeed (purges nodes) (abandons rows) (modest_purges nodes)
       (All-map IsModestDeed (λ (row : UploadRow). deed.Abandon row.user row.dir) rows (λ k d within. tt))

@@ -1,10 +1,14 @@
 -- Tables of which nodes, shares, mounts, items and uploads are others keep the rules, where these do.
-use Rattle.std.proofs.Common.{◌≡◌, ◌⊎◌, inl, inr, Bool, true, false, ◌<◌, if◌then◌else◌, map, length, get_or, refl, sym, ap, ◌∙◌, subst, arith}
+use Rattle.std.proofs.Common.{◌≡◌, ◌⊎◌, inl, inr, Bool, true, false, ◌<◌, if◌then◌else◌, List, map, length, get_or, refl, sym, ap, ◌∙◌, subst, arith}
 use Rattle.std.specs.List.{All, AllPairs}
 use Rattle.std.proofs.lemmas.List.{get_or-map, length-map}
 use Rattle.std.proofs.lemmas.List.Elements.{All-map, All-weaker}
 use Rattle.nf_access.proofs.Kept.{share_row_each}
+use Rattle.nf_base.specs.declared.rows.GroupRow.{GroupRow}
+use Rattle.nf_base.specs.declared.rows.MemberRow.{MemberRow}
 use Rattle.nf_base.specs.declared.rows.ShareRow.{ShareRow}
+use Rattle.nf_base.specs.declared.rows.TokenRow.{TokenRow}
+use Rattle.nf_base.specs.declared.rows.UserRow.{UserRow}
 use Rattle.nf_defs.proofs.Loads.{rises}
 use Rattle.nf_defs.specs.Prelude.{Tables}
 use Rattle.nf_laws.proofs.Upwards.{owners_there}
@@ -87,6 +91,15 @@ with_others t made = record t {
   uploads = made.uploads;
   chunks = made.chunks;
 }
+
+-- as tables are whose people are the same
+pub as_others : (t made : Tables) → made.users ≡ t.users → made.tokens ≡ t.tokens → made.groups ≡ t.groups → made.members ≡ t.members
+    → made ≡ with_others t made
+as_others t made users tokens groups members =
+    ap (λ (some : List UserRow). record made { users = some }) users
+    ∙ ap (λ (some : List TokenRow). record made { users = t.users; tokens = some }) tokens
+    ∙ ap (λ (some : List GroupRow). record made { users = t.users; tokens = t.tokens; groups = some }) groups
+    ∙ ap (λ (some : List MemberRow). record made { users = t.users; tokens = t.tokens; groups = t.groups; members = some }) members
 
 -- where these keep the rules of their kinds
 pub others_ruled : (t other : Tables) → let made = with_others t other in AreOrdered t → AreSound made → AreHigher t.meta made.meta
