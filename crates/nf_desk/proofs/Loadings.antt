@@ -88,7 +88,7 @@ first_told first all before told same fit meta =
 loaded_told : (all : List Row) (raws : List Raw) (before : Option Told) → AreTold before raws → AreRisingRaws raws
     → AreSpelled raws all → AreUnbroken all → AreToldRows all before
 loaded_told all raws before told rising spelled unbroken =
-    let there = meta_has (Contains all) all (keep_each rules all unbroken).1.0.1 (All-contains_itself all) in
+    let there = meta_has (Contains all) all (keep_each rules all unbroken).0.1 (All-contains_itself all) in
     let law = told_again all (tables_of all).meta spelled.fit (subst AreRisingRaws (sym spelled.spelled) rising) there in
     record { fit = law.fit; told = here before told (sym spelled.spelled ∙ law.told) }
   where

@@ -1,16 +1,18 @@
 //! The rule that the versions of a user's files are within half of what the charge leaves of the quota.
 
-ghost use Rattle.std.specs.Prelude.{◌≡◌, ◌==◌, ◌+◌, ◌<◌, ◌^◌, ℕ, IfOk, OnOk, if◌then◌else◌};
+ghost use Rattle.std.specs.Prelude.{◌≡◌, ◌==◌, ◌<◌, ℕ, IfOk};
 ghost use Rattle.std.specs.List.{list_any};
 ghost use Rattle.std.specs.BTreeSet.{contains};
 ghost use Rattle.std.specs.Ordering.{nat_cmp};
 ghost use Rattle.nf_defs.specs.Prelude.{AreRising, is_present, owner_of};
 ghost use Rattle.nf_words.specs.Charges.{charge_of, quota_of};
 ghost use Rattle.nf_rules.specs.Rules.{held_bytes, is_unsettled};
-ghost use Rattle.nf_opening.specs.Bounds.{AreBounds, total_of};
+ghost use Rattle.nf_opening.specs.Bounds.{AreBounds};
+ghost use Rattle.nf_opening.specs.Totals.{total_of};
 
 use crate::Loaded;
 use crate::sharing::parent_of;
+use crate::totals::{add, total};
 use nf_base::{MAX_DEPTH, NodeId, UserId, UserRow, VersionRow};
 use std::alloc::{AllocError, Global};
 use std::collections::{BTreeMap, BTreeSet};
@@ -97,26 +99,6 @@ fn quota_of(loaded: &Loaded, user: UserId) -> u64
         Some(row) => row.quota,
         None => 0,
     }
-}
-
-/// The bytes of an owner.
-fn total(totals: &BTreeMap<u32, u128>, owner: UserId) -> u128
-    ensures { result ≡ total_of totals.now owner }
-{
-    match totals.get(&owner.number()) {
-        Some(bytes) => *bytes,
-        None => 0,
-    }
-}
-
-/// An owner has so many bytes more.
-fn add(totals: &mut BTreeMap<u32, u128>, owner: UserId, bytes: u64) -> Result<(), AllocError>
-    requires { total_of totals.old owner + bytes < 2 ^ 128 }
-    ensures { OnOk result ((other : ℕ) → total_of totals.new other ≡ (if owner == other then total_of totals.old owner + bytes else total_of totals.old other)) }
-{
-    let more = total(totals, owner) + u128::from(bytes);
-    totals.insert(owner.number(), more)?;
-    Ok(())
 }
 
 /// The roots of users.

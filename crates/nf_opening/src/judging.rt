@@ -7,7 +7,7 @@ ghost use Rattle.nf_rules.specs.Rules.{first_index, is_over};
 ghost use Rattle.nf_opening.specs.Bounds.{AreBounds};
 ghost use Rattle.nf_opening.specs.Judged.{AreJudged, IsFaultAt};
 
-use crate::alone::{first_later, first_ungiven, is_lavish};
+use crate::alone::{first_ungiven, is_lavish};
 use crate::bounds::Bounds;
 use crate::first::first;
 use crate::keys::first_twice;
@@ -35,14 +35,13 @@ fn judge_rows(alloc: Global, loaded: &Loaded, rows: &[Row]) -> Result<(), SiteFa
     requires rising { AreRising loaded.now }
     ensures { AreJudged rows.now result }
 {
-    keeps(0, first_later(rows))?;
     keeps(1, first_twice(alloc, rows)?)?;
     keeps(2, first_ungiven(&loaded.meta, rows))?;
     keeps(3, first_dangling(loaded, rows))?;
     keeps(4, first_namesake(alloc, loaded, rows)?)?;
     keeps(5, first_astray(loaded, rows))?;
     keeps(6, first_unkept(loaded, rows))?;
-    keeps(7, first_beyond(loaded, rows))?;
+    keeps(7, first_beyond(alloc, loaded, rows)?)?;
     keeps(8, first_over(alloc, loaded, rows)?)?;
     Ok(())
 }

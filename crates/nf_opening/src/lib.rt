@@ -4,6 +4,7 @@
 mod again;
 mod alone;
 mod bounds;
+mod counts;
 mod fault;
 mod first;
 mod judging;
@@ -15,6 +16,8 @@ mod numbered;
 mod placed;
 mod present;
 mod sharing;
+mod totals;
+mod uploads;
 
 pub use fault::{Broken, SiteFault};
 pub use judging::judge;

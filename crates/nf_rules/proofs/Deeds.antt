@@ -11,6 +11,7 @@ use Rattle.nf_base.specs.declared.rows.ItemRow.{ItemRow}
 use Rattle.nf_base.specs.declared.rows.NodeRow.{NodeRow}
 use Rattle.nf_base.specs.declared.rows.Place.{Place}
 use Rattle.nf_base.specs.declared.rows.ShareRow.{ShareRow}
+use Rattle.nf_base.specs.declared.rows.UploadRow.{UploadRow}
 use Rattle.nf_base.specs.declared.rows.UserRow.{UserRow}
 use Rattle.nf_defs.proofs.Puts.{all_put}
 use Rattle.nf_defs.specs.Prelude.{folder_of, is_under, item_key, node_row, put, relinked, Tables, user_key, user_row}
@@ -26,8 +27,8 @@ use Rattle.nf_laws.proofs.Puts.{number_found}
 use Rattle.nf_laws.proofs.Rows.{folder_there, found_is, none_higher, row_is, stamp}
 use Rattle.nf_laws.specs.Numbers.{AreHigher}
 use Rattle.nf_words.proofs.Known.{KnownDeeds, KnownLeaving, KnownSettled}
-use Rattle.nf_words.proofs.Known.KnownDeeds.{by_copying, by_crossing, by_going, by_leaving, by_moving, by_requoting, by_restoring}
-use Rattle.nf_words.specs.Prelude.{AreSound, beside, besides, copies_to, deed_done, deeds_done, discard, discarded, discards, goes_itself, IsPlaceSound, IsRequoted, item_for, joined, purged, purges, restored, row_at, forgotten, forgets}
+use Rattle.nf_words.proofs.Known.KnownDeeds.{by_abandoning, by_copying, by_crossing, by_going, by_joining, by_leaving, by_moving, by_requoting, by_restoring, by_sweeping}
+use Rattle.nf_words.specs.Prelude.{abandoned, abandons, AreSound, beside, besides, copies_to, deed_done, deeds_done, discard, discarded, discards, goes_itself, IsPlaceSound, IsRequoted, item_for, joined, purged, purges, restored, row_at, forgotten, forgets}
 use Rattle.nf_words.specs.declared.answer.Deed.{Deed}
 use Rattle.nf_words.specs.declared.answer.Deed.TheVariants as deed
 use Rattle.nf_rules.specs.Ruled.{AreOrdered, IsItemRuled}
@@ -224,12 +225,27 @@ module _ (t : Tables) (now : ℕ) where
       (modest_discards from rest
       (All-append IsModestDeed (besides t now transfer.replaced) (besides t now (Some transfer.node))
       (modest_besides (row_at t transfer.replaced)) (modest_besides from))))
+  modest_deeds _ (by_joining changes user dir known there) modest =
+      modest_then (deed.Store changes) (deed.Abandon user dir ∷ []) tt
+      (modest_then (deed.Abandon user dir) [] tt (All-nil IsModestDeed))
+  modest_deeds _ (by_abandoning user dir there) modest = modest_then (deed.Abandon user dir) [] tt (All-nil IsModestDeed)
+  modest_deeds _ (by_sweeping nodes rows goes idle) modest =
+      All-append IsModestDeed (purges nodes) (abandons rows) (modest_purges nodes)
+      (All-map IsModestDeed (λ (row : UploadRow). deed.Abandon row.user row.dir) rows (λ k d within. tt))
 
 -- ---- versions
 
 forgotten_ruled : (t : Tables) (node at : ℕ) → AreOrdered t → AreSound (forgotten t node at) → AreOrdered (forgotten t node at)
 forgotten_ruled t node at h sound =
     let made = forgotten t node at in
+    let up = none_higher t.meta t.meta.last in
+    ended_ruled t made (λ share. share) (λ share. inl refl) h sound up (none_ends t) refl (items_stay t made h up (λ item given kept. kept))
+
+-- ---- uploads
+
+abandoned_ruled : (t : Tables) (user : ℕ) (dir : List ℕ) → AreOrdered t → AreSound (abandoned t user dir) → AreOrdered (abandoned t user dir)
+abandoned_ruled t user dir h sound =
+    let made = abandoned t user dir in
     let up = none_higher t.meta t.meta.last in
     ended_ruled t made (λ share. share) (λ share. inl refl) h sound up (none_ends t) refl (items_stay t made h up (λ item given kept. kept))
 
@@ -254,6 +270,7 @@ deed_ruled t now (deed.Relink node folder name) h fit modest sound = relinked_ru
 deed_ruled t now (deed.Join rows) h joins modest sound = joined_ruled t now rows h joins sound
 deed_ruled t now (deed.Requote row) h is modest sound = requoted_ruled t row h is modest sound
 deed_ruled t now (deed.Forget node at) h fit modest sound = forgotten_ruled t node at h sound
+deed_ruled t now (deed.Abandon user dir) h fit modest sound = abandoned_ruled t user dir h sound
 
 deeds_ruled : (t : Tables) (now : ℕ) (deeds : List Deed) → AreOrdered t → t.meta.last ≡ now → InTurn t now deeds → AreModestDeeds deeds
     → AreOrdered (deeds_done t deeds)

@@ -117,7 +117,7 @@ there_in (rule ∷ others) all broken meta is =
 
 pub broken_is_there : BrokenIsThere
 broken_is_there all broken is =
-    there_in rules all broken (none, ((λ lacks. lacks), (none, (none, (none, (none, (none, (none, (none, tt))))))))) is
+    there_in rules all broken ((λ lacks. lacks), (none, (none, (none, (none, (none, (none, (none, tt)))))))) is
   where
     none : false ≡ true → lacks_meta all ≡ true
     none lacks = absurd (false≢true lacks)

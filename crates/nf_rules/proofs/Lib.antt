@@ -5,7 +5,6 @@ pub mod Deeds
 pub mod Firsts
 pub mod Items
 pub mod Kept
-pub mod Later
 pub mod Leading
 pub mod OneShare
 pub mod Pairs
@@ -21,3 +20,5 @@ pub mod Settled
 pub mod Held
 pub mod Dropped
 pub mod TurnedOver
+pub mod Blobs
+pub mod Uploads

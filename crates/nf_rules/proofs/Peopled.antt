@@ -19,7 +19,7 @@ use Rattle.nf_base.specs.declared.rows.TokenRow.{TokenRow}
 use Rattle.nf_base.specs.declared.rows.UserRow.{UserRow}
 use Rattle.nf_defs.proofs.Loads.{rises}
 use Rattle.nf_defs.proofs.Puts.{all_put, dropped_length, dropped_rising, put_length, put_rising}
-use Rattle.nf_defs.specs.Prelude.{chunk_key, dropped, group_key, group_named, group_row, IsRising, member_key, node_row, put, Tables, token_key, upload_key, user_key, user_named, user_row}
+use Rattle.nf_defs.specs.Prelude.{dropped, group_key, group_named, group_row, IsRising, member_key, node_row, put, Tables, token_key, user_key, user_named, user_row}
 use Rattle.nf_laws.proofs.Leaning.{any_found}
 use Rattle.nf_laws.proofs.Peopled.{group_put}
 use Rattle.nf_laws.proofs.Rows.{each_fails, found_is, no_value, row_is, row_joined}
@@ -196,15 +196,12 @@ module _ (t made : Tables) (h : AreOrdered t) (sound : AreSound made) (up : AreH
     few = omega (arith, ap length is, put_length token_key row t.tokens, ltb-false _ _ few);
   }
 
-  no_rows_rise : {R : Type 0} (key : R → List ℕ) (rows : List R) → rows ≡ [] → IsRising key rows
-  no_rows_rise key rows none = subst (IsRising key) (sym none) (λ i j d before within. absurd (omega (arith, before, within)))
-
   ruled_by : UsersKept → TokensKept → GroupsKept → MembersKept → made.shares ≡ t.shares → All (IsMountRuled made) made.mounts → AreOrdered made
   ruled_by users tokens groups members shares mounts = record {
     sound = sound;
     rising = rises made users.rising tokens.rising groups.rising members.rising (nodes_rise made.nodes sound.rising) sound.others.shares_rise
         sound.others.mounts_rise sound.others.versions_rise sound.others.items_rise
-        (no_rows_rise upload_key made.uploads sound.later.0) (no_rows_rise chunk_key made.chunks sound.later.1.0);
+        sound.others.uploads_rise sound.others.chunks_rise;
     owners = owners_there made sound;
     users = users.each;
     tokens = tokens.each;

@@ -42,7 +42,7 @@ use Rattle.nf_words.specs.declared.request.Words.{Words}
 use Rattle.nf_rules.specs.Laws.{StaysRuled}
 use Rattle.nf_rules.specs.Ruled.{AreOrdered, AreTokensApart, IsGiven, IsItemRuled, IsMountRuled, IsShareRuled}
 use Rattle.nf_rules.proofs.Items.{from_still, given_gone, items_ruled}
-use Rattle.nf_rules.proofs.Kept.{apart, EndsSome, ends_unless, others_ruled, shares_ruled, still_mounted}
+use Rattle.nf_rules.proofs.Kept.{apart, as_others, EndsSome, ends_unless, others_ruled, shares_ruled, still_mounted}
 use Rattle.nf_rules.proofs.OneShare.{mounts_ruled, one_apart, one_ruled}
 use Rattle.nf_rules.proofs.Peopled.{people_ruled}
 use Rattle.nf_rules.proofs.Deeds.{AreModest, step_ruled}
@@ -145,11 +145,13 @@ nodes_ruled s e made ruled is same changes =
     let kept = others_kept s e made ruled is.sound is.up (ap (λ (t : Tables). t.users) changes.rest) (ap (λ (t : Tables). t.groups) changes.rest)
     changes.others is.bounds in
     let items = items_ruled s.tables made ruled is.up same (from_still s e made is.none changes) in
-    subst AreOrdered (sym changes.rest)
-    (others_ruled s.tables made ruled (subst AreSound changes.rest is.sound) is.up
-    (subst (λ (u : Tables). All (IsShareRuled u) u.shares) changes.rest kept.shares) kept.apart
-    (subst (λ (u : Tables). All (IsMountRuled u) u.mounts) changes.rest kept.mounts)
-    (subst (λ (u : Tables). All (IsItemRuled u) u.items) changes.rest items))
+    let rest = as_others s.tables made (ap (λ (t : Tables). t.users) changes.rest) (ap (λ (t : Tables). t.tokens) changes.rest)
+    (ap (λ (t : Tables). t.groups) changes.rest) (ap (λ (t : Tables). t.members) changes.rest) in
+    subst AreOrdered (sym rest)
+    (others_ruled s.tables made ruled (subst AreSound rest is.sound) is.up
+    (subst (λ (u : Tables). All (IsShareRuled u) u.shares) rest kept.shares) kept.apart
+    (subst (λ (u : Tables). All (IsMountRuled u) u.mounts) rest kept.mounts)
+    (subst (λ (u : Tables). All (IsItemRuled u) u.items) rest items))
 
 -- ---- an act that does no deeds
 

@@ -10,7 +10,7 @@ use std::process::Abort;
 use std::test::Fail;
 
 /// Numbers up to 9,999 were given, and moments up to a million.
-fn meta() -> Row {
+pub(crate) fn meta() -> Row {
     Row::Meta(MetaRow {
         next_user: UserId::new(10_000),
         next_group: GroupId::new(10_000),
@@ -136,7 +136,7 @@ fn rows_of(alloc: Global, sketches: &[Sketch]) -> Result<Vec<Row>, Fail> {
 const FIRST: [Sketch; 3] = [Sketch::Meta, Sketch::User(1, "ann", 1), Sketch::Root];
 
 /// The rule that is broken and the row that breaks it, or 9 where none is.
-fn told(alloc: Global, rows: &[Row]) -> Result<(u8, usize), Fail> {
+pub(crate) fn told(alloc: Global, rows: &[Row]) -> Result<(u8, usize), Fail> {
     match judge(alloc, rows) {
         Ok(_) => Ok((9, 0)),
         Err(SiteFault::Broken(Broken { rule, index })) => Ok((rule, index)),
@@ -191,7 +191,7 @@ fn lists_that_no_keeper_has(rt: HostRuntime) -> Result<(), Fail> {
 }
 
 /// A user and a root of that number.
-fn add_user(alloc: Global, rows: &mut Vec<Row>, id: u32) -> Result<(), Fail> {
+pub(crate) fn add_user(alloc: Global, rows: &mut Vec<Row>, id: u32) -> Result<(), Fail> {
     let name = format!(in alloc; "u{id}")?;
     let root = u64::from(id);
     rows.push(user(alloc, id, name.as_bytes(), ANY, root)?)?;
