@@ -14,6 +14,7 @@ pub mod Contents
 pub mod Copied
 pub mod Counters
 pub mod Departed
+pub mod Each
 pub mod Discarding
 pub mod Ended
 pub mod Turning
@@ -71,6 +72,7 @@ pub mod Settling
 pub mod Sharing
 pub mod Sizes
 pub mod Sources
+pub mod Stamping
 pub mod Stays
 pub mod Sent
 pub mod Sums
