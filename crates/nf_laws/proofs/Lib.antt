@@ -14,6 +14,7 @@ pub mod Contents
 pub mod Copied
 pub mod Counters
 pub mod Departed
+pub mod Each
 pub mod Discarding
 pub mod Ended
 pub mod Turning
@@ -41,6 +42,7 @@ pub mod May
 pub mod Mirrored
 pub mod Mounted
 pub mod Moved
+pub mod Naming
 pub mod Numbers
 pub mod OneRow
 pub mod Opening
@@ -71,7 +73,11 @@ pub mod Settling
 pub mod Sharing
 pub mod Sizes
 pub mod Sources
+pub mod Stamping
 pub mod Stays
+pub mod Sent
+pub mod Sums
+pub mod Uploads
 pub mod Stored
 pub mod Telling
 pub mod Told
