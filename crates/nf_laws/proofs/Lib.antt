@@ -4,11 +4,13 @@ pub mod Added
 pub mod Affording
 pub mod Allowing
 pub mod Asking
+pub mod Assembling
 pub mod Blobs
 pub mod Carried
 pub mod Chained
 pub mod Charging
 pub mod Children
+pub mod Chunking
 pub mod Climbs
 pub mod Contents
 pub mod Copied
