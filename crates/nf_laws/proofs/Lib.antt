@@ -74,6 +74,9 @@ pub mod Sharing
 pub mod Sizes
 pub mod Sources
 pub mod Stays
+pub mod Sent
+pub mod Sums
+pub mod Uploads
 pub mod Stored
 pub mod Telling
 pub mod Told
