@@ -4,26 +4,32 @@ use Rattle.std.specs.List.{All}
 use Rattle.std.specs.Option.{IfSome, option_and_then, option_map_or}
 use Rattle.nf_access.specs.Shares.{ground_of}
 use Rattle.nf_base.specs.declared.perms.Act.TheVariants as act
-use Rattle.nf_defs.specs.Prelude.{Tables, Access}
+use Rattle.nf_defs.specs.Prelude.{Tables, Access, put_all}
 use Rattle.nf_defs.specs.declared.Seeker.{Seeker}
 use Rattle.nf_laws.proofs.Acting.{put_rows}
 use Rattle.nf_laws.proofs.Entries.{entry_has}
-use Rattle.nf_laws.proofs.Fitting.{begin_fits, Fits, is_apart, need_of, OneOther, put_fits, versions_fit}
+use Rattle.nf_laws.proofs.Assembling.{assembled_fits, put_fits, stored_sound, stored_tables}
+use Rattle.nf_laws.proofs.Chunking.{abandon_leaves, chunk_leaves, is_that, LeavesOthers, only_part, only_these, that_is, upload_left}
+use Rattle.nf_laws.proofs.Fitting.{asked_for, begin_fits, Fits, is_apart, need_of, OneOther, versions_fit}
 use Rattle.nf_laws.proofs.Providing.{people_provide}
-use Rattle.nf_laws.proofs.Settling.{beside_settled, same_allowed, same_nodes, sweep_allowed, trash_allowed}
+use Rattle.nf_laws.proofs.Refilled.{changed_rest}
+use Rattle.nf_laws.proofs.Rows.{stamp, stamped_has}
+use Rattle.nf_laws.proofs.Settling.{beside_settled, dated_leaves, same_allowed, same_nodes, sweep_allowed, trash_allowed, uploads_allowed}
 use Rattle.nf_laws.proofs.Stays.{sound_after}
-use Rattle.nf_laws.specs.Access.{by_asking, by_delete, by_quota, by_sweep, ChangesAllowed, ChangesWhatMayBeChanged, IsItemSettled, IsNeeded, IsProviding, IsRemounted, IsRestoring, IsSharing, MayDo, needs_of, needs_of_goal, NodesAllowed, seeker_at, seeker_of_goal, Settles}
-use Rattle.nf_words.proofs.Begins.{wanted_passes, WantedPasses}
+use Rattle.nf_laws.specs.Access.{by_asking, by_delete, by_quota, by_sweep, ChangesAllowed, ChangesWhatMayBeChanged, IsItemSettled, IsNeeded, IsProviding, IsRemounted, IsRestoring, IsSharing, IsThatUpload, is_asked, is_same, is_sent, is_swept, MayDo, needs_of, needs_of_goal, NodesAllowed, seeker_at, seeker_of_goal, Settles, upload_asked, UploadsFollow}
+use Rattle.nf_words.proofs.Begins.{call_known, places_at, wanted_passes, WantedPasses}
 use Rattle.nf_words.proofs.Ends.{known_change, goal_held}
 use Rattle.nf_words.proofs.Known.{Known}
 use Rattle.nf_words.proofs.Passing.{call_passes, end_passes, needs_pass, not_refused, Passes, all_acts_pass}
 use Rattle.nf_words.proofs.Starts.{has_asker, IsAsking}
-use Rattle.nf_words.specs.Prelude.{access_of, allowed_of, AreSound, blob_for, Call, call_of, call_decision, changed, content_in, decision_of, deeds_done, end_refusal, ends_at, given, goal_at, IsSound, IsStorable, MayAsk, MayEnd, MayWant, Need, needed, needed_by, places_of, purges, seeker_of, State, stored_at, swept, forgets, needed_for, mount_by, asker_of}
+use Rattle.nf_words.specs.Prelude.{abandoned, access_of, allowed_of, AreSound, assembled, assembled_at, blob_for, chunk_number, chunk_put, chunk_refusal, chunk_sent, chunk_stored, Call, call_of, call_decision, changed, content_in, decision_of, deeds_done, done, end_refusal, found, last_name, ends_at, given, goal_at, IsSound, IsStorable, MayAsk, MayEnd, MayWant, Need, needed, needed_by, nothing_done, places_of, purges, replaced, seeker_of, State, stored_at, swept, told, upload_begun, upload_done, upload_row, upload_touched, whole_of, forgets, needed_for, mount_by, asker_of}
 use Rattle.nf_words.specs.declared.answer.Allowed.{Allowed}
 use Rattle.nf_words.specs.declared.answer.Allowed.TheVariants as allowed
+use Rattle.nf_words.specs.declared.answer.Deed.TheVariants as deed
 use Rattle.nf_words.specs.declared.answer.Goal.{Goal}
-use Rattle.nf_words.specs.declared.answer.Goal.TheVariants.{Serve, Store}
+use Rattle.nf_words.specs.declared.answer.Goal.TheVariants.{Chunk, Serve, Store}
 use Rattle.nf_words.specs.declared.answer.LockKey.TheVariants.{Node, Slot}
+use Rattle.nf_words.specs.declared.answer.Report.TheVariants.{Done, Made}
 use Rattle.nf_words.specs.declared.history.Entry.{Entry}
 use Rattle.nf_words.specs.declared.history.Event.{Event}
 use Rattle.nf_words.specs.declared.history.Event.TheVariants.{Begin, End, Sweep}
@@ -37,7 +43,12 @@ use Rattle.nf_words.specs.declared.request.Wanted.TheVariants as want
 use Rattle.nf_words.specs.declared.request.Words.{Words}
 use Rattle.nf_words.specs.Needed.{act_asked, node_asked}
 use Rattle.nf_laws.proofs.Behind.{forgets_only, versioned}
+use Rattle.nf_base.specs.declared.rows.ChunkRow.{ChunkRow}
+use Rattle.nf_base.specs.declared.rows.UploadRow.{UploadRow}
 use Rattle.nf_base.specs.declared.rows.VersionRow.{VersionRow}
+use Rattle.nf_words.specs.declared.request.Spot.{Spot}
+use Rattle.nf_words.specs.declared.request.UploadAsk.{UploadAsk}
+use Rattle.nf_words.specs.declared.request.UploadAsk.TheVariants as upload
 use Rattle.nf_words.specs.declared.request.VersionAsk.{VersionAsk}
 use Rattle.std.proofs.lemmas.List.{append-nil}
 use Rattle.std.proofs.lemmas.Bool.{false≢true}
@@ -252,6 +263,9 @@ module _ (s : State) (e : Entry) (words : Words) (request : Request) (decided : 
       (uploads_allowed s e sound dated.meta made
       (only_asked asked dated made same (dated_leaves t e.moment (abandoned t asker dir) (is_that asker dir) (abandon_leaves t asker dir))))
 
+  abbrev gives : (wanted : Wanted) → request.wanted ≡ wanted → given (access_of s) call (places_at call wanted) wanted ≡ decided
+  gives wanted same = ap (λ (w : Wanted). given (access_of s) call (places_at call w) w) (sym same) ∙ passes.1
+
   -- a content is stored at the end of a path, and then the upload goes
   joined_fine : (dir : List ℕ) (spot : Spot) (total : Option ℕ) → request.wanted ≡ want.Upload (upload.Join dir spot total)
       → ChangesAllowed s e (changed s.tables e.moment (assembled s.tables e.moment (last_name spot) asker dir (found call spot)))
@@ -263,15 +277,27 @@ module _ (s : State) (e : Entry) (words : Words) (request : Request) (decided : 
       let changes = assembled_at t e.moment (last_name spot) (whole_of t.chunks asker dir) place in
       let first = stored_tables t e.moment changes in
       let made = abandoned (replaced t changes) asker dir in
+      let known = subst (Known t e.moment) (sym (gives (want.Upload asked) same)) (call_known call decided sound may is) in
       let fits = subst (λ (needs : List Need). Fits t e.moment needs (OneOther call) first)
       (sym (append-nil (needed call)) ∙ sym (ap (λ (w : Wanted). needed call ++ needed_for (access_of s) call w) same))
       (subst (λ (w : Wanted). Fits t e.moment (asked_for call w) (OneOther call) first) (sym same)
       (assembled_fits call sound.rows asking spot (whole_of t.chunks asker dir) place p.place.target refl)) in
       stamped_has (ChangesAllowed s e) t made e.moment (told t (assembled t e.moment (last_name spot) asker dir place)) (same_allowed s e sound)
       (fits_allowed s e (Begin words request) (seeker_of call) (OneOther call) first (stamp made e.moment) begins refl
-      (all_acts_pass (access_of s) call passes.0.acts) fits others_fine (stored_sound changes)
+      (all_acts_pass (access_of s) call passes.0.acts) fits others_fine (stored_sound t e.moment changes (deed.Abandon asker dir ∷ []) sound.rows later known)
       (only_asked asked first (stamp made e.moment) same
       (dated_leaves (replaced t changes) e.moment made (is_that asker dir) (abandon_leaves (replaced t changes) asker dir))))
+
+  upload_fine : (asked : UploadAsk) → request.wanted ≡ want.Upload asked → IsFine s e (changed s.tables e.moment decided)
+  upload_fine asked same fine =
+      subst (λ (a : Allowed). ChangesAllowed s e (changed s.tables e.moment a)) (gives (want.Upload asked) same) (here asked same)
+    where
+      here : (asked : UploadAsk) → request.wanted ≡ want.Upload asked
+          → ChangesAllowed s e (changed s.tables e.moment (upload_done call (places_at call (want.Upload asked)) asked))
+      here (upload.New user dir to) same = begun_fine (upload.New user dir to) to same
+      here (upload.Chunk user dir name to length) same = sent_fine dir length (chunk_number name)
+      here (upload.Drop user dir) same = abandoned_fine (upload.Drop user dir) same
+      here (upload.Join dir spot total) same = joined_fine dir spot total same
 
   -- what is asked about users and groups
   people_fine : (asked : PeopleAsk) → request.wanted ≡ People asked → ChangesAllowed s e (changed s.tables e.moment decided)

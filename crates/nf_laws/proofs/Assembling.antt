@@ -1,5 +1,5 @@
 -- Where a file comes or has another content: by the End of a PUT, and by what the chunks of an upload have together.
-use Rattle.std.proofs.Common.{◌≡◌, ◌≢◌, ◌⊎◌, ℕ, ◌+◌, ◌==◌, ◌<◌, Bool, true, false, List, [], ◌∷◌, ◌++◌, ◌∙◌, length, map, Option, None, Some, refl, sym, ap, subst, arith, inl, inr}
+use Rattle.std.proofs.Common.{◌≡◌, ◌≢◌, ◌⊎◌, ℕ, ◌+◌, ◌==◌, ◌<◌, ◌≤◌, Bool, true, false, List, [], ◌∷◌, ◌++◌, ◌∙◌, length, map, Option, None, Some, refl, sym, ap, subst, arith, inl, inr}
 use Rattle.std.specs.Prelude.{is_some}
 use Rattle.std.specs.List.{All}
 use Rattle.std.specs.Option.{option_map_or}
@@ -18,6 +18,9 @@ use Rattle.nf_defs.specs.declared.Found.{Found}
 use Rattle.nf_defs.specs.declared.Found.TheVariants.{At, Free, Missing}
 use Rattle.nf_laws.proofs.Fitting.{added_fits, alone_fits, filled_fits, first_needed, Fits, FitsAlone, need_of, OneOther, refilled_fits}
 use Rattle.nf_laws.proofs.Following.{added_follow, AllFollow, kept_shares}
+use Rattle.nf_laws.proofs.InTurn.{fit_sound}
+use Rattle.nf_laws.proofs.Others.{stamp_sound}
+use Rattle.nf_laws.proofs.Parts.{deed_stamped, step_turn}
 use Rattle.nf_laws.proofs.Puts.{put_other}
 use Rattle.nf_laws.proofs.Refilled.{added_made, filled_at, nodes_filled, refilled_made}
 use Rattle.nf_laws.proofs.Remaining.{added_present}
@@ -26,11 +29,14 @@ use Rattle.nf_laws.proofs.Turning.{added_fewer}
 use Rattle.nf_laws.specs.Access.{IsNeeded}
 use Rattle.nf_laws.specs.Acts.{IsAdded, IsPut}
 use Rattle.nf_retention.specs.declared.versions.Version.{Version}
-use Rattle.nf_words.proofs.Fits.{newest, put_found}
+use Rattle.nf_words.proofs.Fits.{KnownChange, newest, put_found}
+use Rattle.nf_words.proofs.Known.{KnownSettled}
 use Rattle.nf_words.proofs.Starts.{IsAsking}
 use Rattle.nf_words.proofs.Ways.{free_no_mount, slot_known}
 use Rattle.nf_words.specs.Prelude.{access_of, AreSound, assembled_at, Call, charged, content_size, drop_version, found, is_there, last_name, Need, needed_by, needs_at, needs_in, new_file, new_node, node_found, refilled, replaced, root_of, unreached, unsettled, way_of}
 use Rattle.nf_words.specs.declared.answer.By.{By}
+use Rattle.nf_words.specs.declared.answer.Deed.{Deed}
+use Rattle.nf_words.specs.declared.answer.Deed.TheVariants as deed
 use Rattle.nf_words.specs.declared.answer.LockKey.{LockKey}
 use Rattle.nf_words.specs.declared.answer.LockKey.TheVariants.{Node, Slot}
 use Rattle.nf_words.specs.declared.request.Spot.{Spot}
@@ -51,6 +57,17 @@ put_fits t made now by (Slot folder name) content Other sound is =
 -- the tables with changes at a moment
 abbrev pub stored_tables : Tables → ℕ → List Change → Tables
 stored_tables t now changes = stamp (replaced t changes) now
+
+-- they are sound, where a step does that first
+pub first_change : (t : Tables) (now : ℕ) (changes : List Change) (more : List Deed) → AreSound t → t.meta.last ≤ now
+    → KnownSettled t now (deed.Store changes ∷ more) → KnownChange (stamp t now) now changes None
+first_change t now changes more sound later known = (step_turn t now (deed.Store changes ∷ more) sound later known).0
+
+pub stored_sound : (t : Tables) (now : ℕ) (changes : List Change) (more : List Deed) → AreSound t → t.meta.last ≤ now
+    → KnownSettled t now (deed.Store changes ∷ more) → AreSound (stored_tables t now changes)
+stored_sound t now changes more sound later known =
+    subst AreSound (deed_stamped t now (deed.Store changes))
+    (fit_sound (stamp t now) now (deed.Store changes) (stamp_sound t now sound later) refl (first_change t now changes more sound later known))
 
 module _ (t : Tables) (now : ℕ) (content : List Piece) (needs : List Need) (Other : Tables → Type 0) (sound : AreSound t) where
   abbrev FitsAt : List Change → Type 0
