@@ -280,7 +280,7 @@ module _ (s : State) (e : Entry) (words : Words) (request : Request) (decided : 
       let known = subst (Known t e.moment) (sym (gives (want.Upload asked) same)) (call_known call decided sound may is) in
       let fits = subst (λ (needs : List Need). Fits t e.moment needs (OneOther call) first)
       (sym (append-nil (needed call)) ∙ sym (ap (λ (w : Wanted). needed call ++ needed_for (access_of s) call w) same))
-      (subst (λ (w : Wanted). Fits t e.moment (asked_for call w) (OneOther call) first) (sym same)
+      (subst (λ (w : Wanted). Fits t e.moment (asked_for call sound.rows later asking w) (OneOther call) first) (sym same)
       (assembled_fits call sound.rows asking spot (whole_of t.chunks asker dir) place p.place.target refl)) in
       stamped_has (ChangesAllowed s e) t made e.moment (told t (assembled t e.moment (last_name spot) asker dir place)) (same_allowed s e sound)
       (fits_allowed s e (Begin words request) (seeker_of call) (OneOther call) first (stamp made e.moment) begins refl

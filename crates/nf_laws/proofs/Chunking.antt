@@ -1,5 +1,5 @@
 -- Which rows of uploads and chunks a step leaves as they are.
-use Rattle.std.proofs.Common.{◌≡◌, ℕ, ◌==◌, ◌&&◌, not, find, filter, length, bytes_eq, Bool, true, false, List, [], ◌∷◌, ◌++◌, Option, None, Some, if◌then◌else◌, refl, sym, ap, subst, ◌∙◌, inl, inr}
+use Rattle.std.proofs.Common.{◌≡◌, ℕ, ◌==◌, ◌&&◌, ◌||◌, not, find, filter, length, bytes_eq, Bool, true, false, List, [], ◌∷◌, ◌++◌, Option, None, Some, if◌then◌else◌, refl, sym, ap, subst, ◌∙◌, inl, inr}
 use Rattle.std.specs.List.{All, list_any}
 use Rattle.std.specs.Option.{option_map_or}
 use Rattle.std.proofs.lemmas.Bool.{and_from, and_parts, both_ways, cases_Bool, eq-eqb, eqb-true}
@@ -121,7 +121,7 @@ abandon_leaves t user dir = record {
 abbrev pub is_among : List UploadRow → ℕ → List ℕ → Bool
 is_among gone user dir = list_any (λ (row : UploadRow). is_that row.user row.dir user dir) gone
 
-none_left : (a b : Bool) → (if a then true else b) ≡ false → (a ≡ false) × (b ≡ false)
+none_left : (a b : Bool) → (a || b) ≡ false → (a ≡ false) × (b ≡ false)
 none_left false b none = (refl, none)
 none_left true b none = absurd (cc)
 
@@ -143,12 +143,15 @@ abandons_leave t (row ∷ gone) =
 pub among_has : (P : UploadRow → Type 0) (gone : List UploadRow) (user : ℕ) (dir : List ℕ) → All P gone → is_among gone user dir ≡ true
     → (row : UploadRow) × P row × IsThatUpload row.user row.dir user dir
 among_has P [] user dir all is = absurd (cc)
-among_has P (first ∷ gone) user dir all is = here (is_that first.user first.dir user dir) refl is
+among_has P (first ∷ gone) user dir all is =
+    here (is_that first.user first.dir user dir) refl is (λ is. among_has P gone user dir (All-tail P first gone all) is)
   where
-    here : (b : Bool) → is_that first.user first.dir user dir ≡ b → (if b then true else is_among gone user dir) ≡ true
-        → (row : UploadRow) × P row × IsThatUpload row.user row.dir user dir
-    here true e is = (first, All-head P first gone all, that_is first.user first.dir user dir e)
-    here false e is = among_has P gone user dir (All-tail P first gone all) is
+    Found : Type 0
+    Found = (row : UploadRow) × P row × IsThatUpload row.user row.dir user dir
+
+    here : (b : Bool) → is_that first.user first.dir user dir ≡ b → (b || is_among gone user dir) ≡ true → (is_among gone user dir ≡ true → Found) → Found
+    here true e is rest = (first, All-head P first gone all, that_is first.user first.dir user dir e)
+    here false e is rest = rest is
 
 -- ---- a chunk that is stored
 

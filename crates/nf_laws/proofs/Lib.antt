@@ -35,6 +35,7 @@ pub mod InTurn
 pub mod Lines
 pub mod Links
 pub mod Leaning
+pub mod Joining
 pub mod Leaving
 pub mod Left
 pub mod Lists

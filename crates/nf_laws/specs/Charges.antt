@@ -4,8 +4,10 @@ use Rattle.std.specs.Option.{option_or}
 use Rattle.nf_base.specs.declared.rows.NodeRow.{NodeRow}
 use Rattle.nf_base.specs.declared.rows.UserRow.{UserRow}
 use Rattle.nf_defs.specs.Prelude.{is_present, owner_of, Tables, user_row}
+use Rattle.nf_defs.specs.declared.Found.{Found}
+use Rattle.nf_defs.specs.declared.Found.TheVariants.{At, Free, Missing}
 use Rattle.nf_words.specs.Listing.{size_of}
-use Rattle.nf_words.specs.Prelude.{access_of, after, answer_at, answer_to, AreSound, asked_of, assembled_excess, bytes_of, Call, call_of, charge_of, earlier_rules, end_lost, end_unallowed, end_unreached, exceeded, excess_at, goal_at, IsSound, last_number, limit_at, limit_rule, locked_rule, MayCome, node_of_key, Pass, pieces_of, place_of, places_of, quota_of, room_rule, Rule, State}
+use Rattle.nf_words.specs.Prelude.{access_of, after, answer_at, answer_to, AreSound, asked_of, asker_of, assembled_excess, bytes_of, Call, call_of, charge_of, content_size, earlier_rules, end_lost, end_unallowed, end_unreached, exceeded, excess_at, found, goal_at, IsSound, last_number, limit_at, limit_rule, locked_rule, MayCome, node_of_key, Pass, pieces_of, place_of, places_of, quota_of, room_rule, Rule, State, whole_of}
 use Rattle.nf_words.specs.declared.answer.By.{By}
 use Rattle.nf_words.specs.declared.answer.Denial.TheVariants as denial
 use Rattle.nf_words.specs.declared.answer.Excess.{Excess}
@@ -16,6 +18,9 @@ use Rattle.nf_words.specs.declared.history.Entry.{Entry}
 use Rattle.nf_words.specs.declared.history.Event.TheVariants.{Begin, End}
 use Rattle.nf_words.specs.declared.history.Outcome.TheVariants.{Body}
 use Rattle.nf_words.specs.declared.request.Request.{Request}
+use Rattle.nf_words.specs.declared.request.Spot.{Spot}
+use Rattle.nf_words.specs.declared.request.UploadAsk.TheVariants as upload
+use Rattle.nf_words.specs.declared.request.Wanted.TheVariants as want
 use Rattle.nf_words.specs.declared.request.Words.{Words}
 
 -- ---- what is charged
@@ -65,6 +70,27 @@ WritesAreCharged =
     (n : ℕ) (s : State) (e : Entry) (by : By) (key : LockKey) (digest : List ℕ) (size : ℕ) → IsSound s → MayCome n s e
     → goal_at s e.seat ≡ Some (Store by key size) → e.event ≡ End (Body digest size) → IsOk (answer_at s e e.mark)
     → IsCharged s.tables (after s e).tables (owner_of s.tables.nodes (node_of_key key)) (bytes_at s.tables.nodes key) size
+
+-- who is charged for what is put there
+abbrev pub charged_at : List NodeRow → Found → ℕ
+charged_at rows (At node) = owner_of rows node
+charged_at rows (Free folder) = owner_of rows folder
+charged_at rows (Missing depth) = 0
+
+-- the bytes of what is there
+abbrev pub bytes_there : List NodeRow → Found → ℕ
+bytes_there rows (At node) = bytes_of rows node
+bytes_there rows (Free folder) = 0
+bytes_there rows (Missing depth) = 0
+
+-- and so it is with what the chunks of an upload have together, whoever joins them
+abbrev pub JoinsAreCharged : Type 0
+JoinsAreCharged =
+    (n : ℕ) (s : State) (e : Entry) (words : Words) (request : Request) (dir : List ℕ) (spot : Spot) (total : Option ℕ) → IsSound s → MayCome n s e
+    → e.event ≡ Begin words request → request.wanted ≡ want.Upload (upload.Join dir spot total) → IsOk (answer_at s e e.mark)
+    → IsCharged s.tables (after s e).tables (charged_at s.tables.nodes (found (call_of s e.seat e.moment words request) spot))
+    (bytes_there s.tables.nodes (found (call_of s e.seat e.moment words request) spot))
+    (content_size (whole_of s.tables.chunks (asker_of (call_of s e.seat e.moment words request)) dir))
 
 -- ---- what no step passes
 
