@@ -315,7 +315,9 @@ items_come_back s seat now words request user node sound may asked ok =
     (restored_rows call item gone sound.rows (ap (item_row t.items) id ∙ own.2) back.restore own.3
     (subst (λ (user : ℕ). All (IsItemOf t user) gone) own.3 (beside_own t now item sound.rows))
     back.others back.goes.once)
-    (deeds_fewer t (first ++ forgets versions)))))
+    (deeds_fewer t (first ++ forgets versions)
+    (All-append NoStore first (forgets versions)
+    (All-cons NoStore (deed.Restore item.node (home_of t item) (name_back t item)) (purges gone) tt (purges_none gone)) (forgets_none versions))))))
 
 -- ---- a sweep
 

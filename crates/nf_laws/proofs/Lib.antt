@@ -16,6 +16,7 @@ pub mod Contents
 pub mod Copied
 pub mod Counters
 pub mod Departed
+pub mod Each
 pub mod Discarding
 pub mod Ended
 pub mod Turning
@@ -74,6 +75,7 @@ pub mod Settling
 pub mod Sharing
 pub mod Sizes
 pub mod Sources
+pub mod Stamping
 pub mod Stays
 pub mod Sent
 pub mod Sums

@@ -158,7 +158,7 @@ AreBuilt [] = Unit {0}
 AreBuilt (change ∷ changes) = IsBuilt change × AreBuilt changes
 
 -- the meta row may be set before or behind them
-meta_one : (t : Tables) (meta : MetaRow) (change : Change) → IsBuilt change
+pub meta_one : (t : Tables) (meta : MetaRow) (change : Change) → IsBuilt change
     → made (record t { meta = meta }) change ≡ record (made t change) { meta = meta }
 meta_one t meta (Put (Node row)) built = refl
 meta_one t meta (Put (Mount row)) built = refl

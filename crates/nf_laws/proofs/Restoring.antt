@@ -3,7 +3,7 @@ use Rattle.std.proofs.Common.{ℕ, zero, suc, ◌==◌, ◌≡◌, ◌≢◌, tr
 use Rattle.std.specs.Prelude.{is_some}
 use Rattle.std.specs.List.{All, Contains}
 use Rattle.std.proofs.lemmas.Bool.{cases_Bool, cond_both, eq-eqb, eqb-true, ne_eqb}
-use Rattle.std.proofs.lemmas.List.Elements.{All-head}
+use Rattle.std.proofs.lemmas.List.Elements.{All-cons, All-head}
 use Rattle.std.proofs.lemmas.Option.{none-some, option_and_then_some, same_Some}
 use Rattle.nf_base.specs.declared.rows.ItemRow.{ItemRow}
 use Rattle.nf_base.specs.declared.rows.NodeRow.{NodeRow}
@@ -11,6 +11,7 @@ use Rattle.nf_base.specs.declared.rows.Place.TheVariants.{Trash}
 use Rattle.nf_defs.proofs.Climbs.{climb_under}
 use Rattle.nf_defs.specs.Prelude.{dropped, item_key, item_row, node_row, relinked, Tables}
 use Rattle.nf_laws.proofs.Discarding.{AreGoneBeside, deeds_told, goes_beside, items_are}
+use Rattle.nf_laws.proofs.Each.{NoStore, purges_none}
 use Rattle.nf_laws.proofs.Going.{ArePurged, item_is, items_purged, present_off, purged_rest, shares_purged}
 use Rattle.nf_laws.proofs.Moved.{Fits}
 use Rattle.nf_laws.proofs.OneRow.{row_itself, row_other}
@@ -62,7 +63,7 @@ taken_rows t now tops report sound goes = here tops goes
     here (top ∷ rest) goes =
         subst (λ (made : Tables). AreTaken t made (top ∷ rest))
         (sym (stamped_some t (deeds_done t (purges (top ∷ rest))) now (told t (allowed.Deeds (purges (top ∷ rest)) report))
-        (deeds_told t now (deed.Purge top) (purges rest) (inl (All-head (IsItem t) top rest goes.items)))))
+        (deeds_told t now (deed.Purge top) (purges rest) tt (inl (All-head (IsItem t) top rest goes.items)))))
         (without (top ∷ rest) now goes)
 
 -- each item of a user's is among them all
@@ -172,7 +173,8 @@ restored_rows call item gone sound there known own theirs others once = record {
   emptied = record { items = theirs; gone = beside.gone; none = purge.none };
   others = beside.others;
   items = λ other differs off. purge.items other off ∙ item_other item.node other t.items differs;
-  versions = deeds_fewer t (deed.Restore item.node (home_of t item) (name_back t item) ∷ purges gone);
+  versions = deeds_fewer t (deed.Restore item.node (home_of t item) (name_back t item) ∷ purges gone)
+      (All-cons NoStore (deed.Restore item.node (home_of t item) (name_back t item)) (purges gone) tt (purges_none gone));
   rest = ap (λ (made : Tables). stamp made call.now) (purged_rest u gone)
       ∙ (λ i. record t {
         meta = record t.meta { last = call.now };

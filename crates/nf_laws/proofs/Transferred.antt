@@ -112,7 +112,7 @@ copied_rows t now transfer name deeds leave report sound later known kind =
       left = unstamped t made now now leave kind.gone (have_left all now deeds _ _ _ _ fine kind);
       others = λ node old. others_after all now deeds _ _ _ _ fine kind node (λ new. absurd (omega (arith, old, new)));
       versions = subst (AreVersionsFewer all) (ap (deeds_done all) kind.are ∙ deeds_append all (kind.one ∷ kind.more) (purges kind.gone))
-          (deeds_fewer all deeds);
+          (deeds_fewer all deeds (kind_none all now deeds _ _ _ _ kind));
       rest = rest_after all now deeds _ _ _ _ fine kind;
     })
   where
@@ -142,7 +142,8 @@ copied_settled t now transfer name deeds leave gone report sound later known kin
     subst (λ (made : Tables). AreCopied t made now transfer name leave)
     (sym (behind_changed t now deeds gone report (kind_some t now deeds _ _ _ _ kind)))
     (copied_behind t (changed t now (done deeds report)) versions now transfer name leave
-    (copied_rows t now transfer name deeds leave report sound later known kind) (deeds_fewer t (deeds ++ forgets gone)))
+    (copied_rows t now transfer name deeds leave report sound later known kind) (deeds_fewer t (deeds ++ forgets gone)
+    (All-append NoStore deeds (forgets gone) (kind_none (stamp t now) now deeds _ _ _ _ kind) (forgets_none gone))))
 
 -- nothing that is under what is present is under what goes beside what left
 tops_apart : (t after : Tables) (now : ℕ) (leave tops : List ℕ) (mid node : ℕ) → AreSound t → HaveLeft t after now leave tops → LeadsToRoot t.nodes mid
