@@ -24,7 +24,6 @@ use Rattle.nf_laws.proofs.Stored.{end_other, stored_comes, refills_comes}
 use Rattle.nf_laws.proofs.Trashing.{act_kept, all_kept, KeepsTrash, trash_same}
 use Rattle.nf_laws.proofs.Weighing.{row_owned}
 use Rattle.nf_laws.specs.Charges.{bytes_at, bytes_owned, bytes_trashed, owned_bytes, QuotasAreKept}
-use Rattle.nf_words.proofs.Bodies.{IsOfBody}
 use Rattle.nf_words.proofs.Ends.{goal_held, known_change}
 use Rattle.nf_words.proofs.Fits.{KnownChange}
 use Rattle.nf_words.proofs.Known.{Known}
@@ -108,16 +107,13 @@ end_keeps access t now user outcome (Some goal) act sound held is = goal_keeps a
 empty_owned : (user : ℕ) (row : NodeRow) → row.content ≡ [] → owned_bytes user row ≡ 0
 empty_owned user row empty = ap (λ (content : List Piece). if row.owner == user then sum_by (λ piece. piece.size) content else 0) empty ∙ alike (row.owner == user) 0
 
-no_body : (meta : MetaRow) (blob : Option ℕ) (content : List Piece) → blob ≡ None → IsOfBody meta blob content → content ≡ []
-no_body meta blob content none of = subst (λ (o : Option ℕ). IsOfBody meta o content) none of
-
 -- where no row has a content, nobody has more
 pub rows_fewer : (t : Tables) (now user : ℕ) (changes : List Change) (blob : Option ℕ) (report : Report) → AreSound t → KnownChange t now changes blob
     → blob ≡ None → AreOf [] changes
     → bytes_owned (altered t now (allowed.Change changes blob report)).nodes user ≤ bytes_owned t.nodes user
 rows_fewer t now user changes blob report sound known none of =
     nodes_have Fewer (IsOf []) t now changes blob report sound.rising known (each_of changes of)
-    (λ u row fewer it any. pushed u.nodes row fewer (no_body t.meta blob row.content none it.body))
+    (λ u row fewer it empty. pushed u.nodes row fewer empty)
     (λ u row fewer it empty.
     let old = it.filled.old in
     let new = filled row.content row.changed old in
