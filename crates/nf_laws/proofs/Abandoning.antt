@@ -14,7 +14,7 @@ use Rattle.nf_base.specs.declared.rows.ChunkRow.{ChunkRow}
 use Rattle.nf_base.specs.declared.rows.UploadRow.{UploadRow}
 use Rattle.nf_defs.proofs.ByName.{Contains-filter}
 use Rattle.nf_defs.specs.Prelude.{chunk_key, dropped, IsDroppable, made, put_all, Tables, upload_key}
-use Rattle.nf_laws.proofs.Rows.{finds_none}
+use Rattle.nf_laws.proofs.Rows.{each_fails, finds_none}
 use Rattle.nf_words.specs.Prelude.{abandoned, chunk_row, chunks_of, is_chunk_of, told_chunks, told_deed, upload_row}
 use Rattle.nf_words.specs.declared.answer.Deed.TheVariants as deed
 
@@ -45,6 +45,14 @@ upload_gone uploads user dir =
     (dropped upload_key (user ∷ length dir ∷ dir) uploads)
     (filter_passes (λ (x : UploadRow). not (bytes_eq (user ∷ length dir ∷ dir) (upload_key x))) uploads))
 
+-- one that is gone is gone where others go
+pub upload_lost : (uploads : List UploadRow) (key : List ℕ) (user : ℕ) (dir : List ℕ) → upload_row uploads user dir ≡ None
+    → upload_row (dropped upload_key key uploads) user dir ≡ None
+upload_lost uploads key user dir none =
+    finds_none (λ (x : UploadRow). x.user == user && bytes_eq x.dir dir) (dropped upload_key key uploads)
+    (All-filter (λ (x : UploadRow). not (bytes_eq key (upload_key x))) (λ (x : UploadRow). (x.user == user && bytes_eq x.dir dir) ≡ false) uploads
+    (each_fails (λ (x : UploadRow). x.user == user && bytes_eq x.dir dir) uploads none))
+
 pub chunk_gone : (chunks : List ChunkRow) (user : ℕ) (dir : List ℕ) (number : ℕ)
     → chunk_row (dropped chunk_key (user ∷ length dir ∷ dir ++ number ∷ []) chunks) user dir number ≡ None
 chunk_gone chunks user dir number =
@@ -58,7 +66,7 @@ chunk_gone chunks user dir number =
     ((bytes_eq-Decides key (chunk_key x)).1
     (sym (ap (λ (n : ℕ). n ∷ length x.dir ∷ x.dir ++ x.number ∷ []) (eqb-true x.user user own.0)
     ∙ ap (λ (d : List ℕ). user ∷ length d ∷ d ++ x.number ∷ []) ((bytes_eq-Decides x.dir dir).0 own.1)
-    ∙ ap (λ (n : ℕ). user ∷ length dir ∷ dir ++ n ∷ []) (eqb-true x.number number both.1)))))
+    ∙ ap (λ (n : ℕ). user ∷ length dir ∷ dir ++ n ∷ []) (eqb-true x.number number both.1))))))
     (dropped chunk_key key chunks)
     (filter_passes (λ (x : ChunkRow). not (bytes_eq key (chunk_key x))) chunks))
   where

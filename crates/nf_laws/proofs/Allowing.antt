@@ -326,7 +326,7 @@ module _ (s : State) (e : Entry) (words : Words) (request : Request) (decided : 
   begin_fine (Share asked) is fine = plain (Share asked) is refl fine
   begin_fine (People asked) is fine = people_fine asked is
   begin_fine (want.Version asked) is fine = version_fine asked is fine
-  begin_fine (want.Upload asked) is fine = upload_fine asked is
+  begin_fine (want.Upload asked) is fine = upload_fine asked is fine
   begin_fine (Trash asked) is fine =
       subst (λ (a : Allowed). ChangesAllowed s e (changed s.tables e.moment a)) (does (Trash asked) is)
       (trash_allowed s e sound words request begins asked is)

@@ -56,6 +56,7 @@ pub mod Peopled
 pub mod Owned
 pub mod Parts
 pub mod Paths
+pub mod Plain
 pub mod Presence
 pub mod Present
 pub mod Providing
