@@ -7,7 +7,7 @@ use Rattle.nf_defs.proofs.Walks.{Contains-from_flat}
 use Rattle.std.specs.Option.{IfSome, option_map_or}
 use Rattle.std.proofs.Math.Seq.{get_or-append_seam}
 use Rattle.std.proofs.lemmas.Bool.{cases_Bool, eqb-true, ne_eqb, not-true}
-use Rattle.std.proofs.lemmas.List.Elements.{All-cons, All-contains, All-contains_itself, All-weaker, Contains-append_left, Contains-append_right}
+use Rattle.std.proofs.lemmas.List.Elements.{All-append, All-cons, All-contains, All-contains_itself, All-weaker, Contains-append_left, Contains-append_right}
 use Rattle.std.proofs.lemmas.Option.{unwrap_or-slice_get}
 use Rattle.nf_access.specs.Mounts.{mount_row}
 use Rattle.nf_base.specs.declared.changes.Change.{Change}
@@ -30,6 +30,7 @@ use Rattle.nf_laws.proofs.Acted.{NoNode}
 use Rattle.nf_laws.proofs.Carried.{Kind, leaving_kind, under_alone}
 use Rattle.nf_laws.proofs.Departed.{have_left, kind_changed, others_after, rest_after, unstamped}
 use Rattle.nf_laws.proofs.Discarding.{beside_own, emptied_own}
+use Rattle.nf_laws.proofs.Each.{forgets_none, NoStore, purges_none}
 use Rattle.nf_laws.proofs.Entries.{step_changed}
 use Rattle.nf_laws.proofs.Going.{item_is}
 use Rattle.nf_laws.proofs.Puts.{put_other}
@@ -49,12 +50,12 @@ use Rattle.nf_words.proofs.Fits.{newest, put_found, KnownChange}
 use Rattle.nf_words.proofs.Found.{free_known, last_more, last_of}
 use Rattle.nf_words.proofs.Known.{Known, KnownLeaving}
 use Rattle.nf_words.proofs.Mounting.{IsOwnMount, mount_found, mount_left_so, not_mount, own_known}
-use Rattle.nf_words.proofs.Passing.{call_passes, Passes, place_passes, PlacePasses}
+use Rattle.nf_words.proofs.Passing.{call_passes, exists_passes, Passes, place_passes, PlacePasses}
 use Rattle.nf_words.proofs.Starts.{has_asker, itself_asker, row_of_caller}
 use Rattle.nf_words.proofs.Sweeping.{gone_owned, swept_goes}
 use Rattle.nf_words.proofs.Trashing.{back_known, dropped_goes, emptied_goes}
 use Rattle.nf_words.proofs.Ways.{way_there}
-use Rattle.nf_words.specs.Prelude.{access_of, allowed_of, answered_by, AreSound, asked_of, asker_of, behind, beside, blob_after, blob_for, by_of, Call, call_decision, call_of, changed, content_in, decision_of, deleted, discard, deeds_done, done, end_refusal, ends_at, exists_rule, found, given, gone_beside, gone_from, IsHeld, IsStorable, item_dropped, item_restored, items_of, last_name, left_row, made_folder, makes, MayAsk, MayEnd, mount_left, mount_of, mount_renamed, moved, named_row, named_rule, new_node, node_at, nothing_done, own_mount, owners_of, purges, refilled, refusal_of, root_of, seeker_of, row_at, source_lost, stored, stored_at, stores, swept, taken, target_lost, transfer_of, unnamed_by, untrashed, user_of, way_by, way_of, with_mount_row, charged, content_size, drop_version, gone_after, is_same, raised, refills, turns_over, unsettled, forgets, item_size, purged_by, restoring}
+use Rattle.nf_words.specs.Prelude.{access_of, allowed_of, answered_by, AreSound, asked_of, asker_of, behind, beside, blob_after, blob_for, by_of, Call, call_decision, call_of, changed, content_in, decision_of, deleted, discard, deeds_done, done, end_refusal, ends_at, found, given, gone_beside, gone_from, IsHeld, IsStorable, item_dropped, item_restored, items_of, last_name, left_row, made_folder, makes, MayAsk, MayEnd, mount_left, mount_of, mount_renamed, moved, named_row, named_rule, new_node, node_at, nothing_done, own_mount, owners_of, purges, refilled, refusal_of, root_of, seeker_of, row_at, source_lost, stored, stored_at, stores, swept, taken, target_lost, transfer_of, unnamed_by, untrashed, user_of, way_by, way_of, with_mount_row, charged, content_size, drop_version, gone_after, is_same, raised, refills, turns_over, unsettled, forgets, item_size, purged_by, restoring}
 use Rattle.nf_words.specs.declared.answer.Allowed.{Allowed}
 use Rattle.nf_words.specs.declared.answer.Allowed.TheVariants as allowed
 use Rattle.nf_words.specs.declared.answer.Deed.{Deed}
@@ -479,10 +480,9 @@ added_rows t now folder name kind content blob gone report sound folds free coun
 makes_at : (call : Call) (spot : Spot) → call.request.wanted ≡ wanted.Mkcol spot → Passes (access_of call.state) call
     → (folder : ℕ) × (found call spot ≡ Free folder)
     × (allowed_of (access_of call.state) call ≡ makes (new_node call.state.tables call.now folder (last_name spot) Folder []) None)
-unfolding exists_rule
 makes_at call spot asked passes =
     here (found call spot) refl (placed call (wanted.Mkcol spot) asked passes).in_folder
-    (subst (λ (w : Wanted). taken t.nodes (places_at call w) (asked_of w).makes ≡ None) asked passes.exists)
+    (subst (λ (w : Wanted). taken t.nodes (places_at call w) (asked_of w).makes ≡ None) asked (exists_passes (access_of call.state) call passes.exists).0)
   where
     t : Tables
     t = call.state.tables

@@ -46,6 +46,7 @@ pub mod May
 pub mod Mirrored
 pub mod Mounted
 pub mod Moved
+pub mod Naming
 pub mod Numbers
 pub mod OneRow
 pub mod Opening

@@ -380,6 +380,9 @@ counted_rest meta (change ∷ changes) =
     let rest = counted_rest (above meta change) changes in
     (rest.0 ∙ first.0, rest.1 ∙ first.1)
 
+pub counted_blob : (meta : MetaRow) (changes : List Change) → (counted meta changes).next_blob ≡ meta.next_blob
+counted_blob meta changes = (counted_rest meta changes).1
+
 pub counted_last : (meta : MetaRow) (changes : List Change) → (counted meta changes).last ≡ meta.last
 counted_last meta changes = (counted_rest meta changes).0
 

@@ -27,12 +27,12 @@ abbrev is_upload : ℕ → List ℕ → UploadRow → Bool
 is_upload user dir row = row.user == user && bytes_eq row.dir dir
 
 -- what passes is the user's, and has that name
-upload_of : (user : ℕ) (dir : List ℕ) (row : UploadRow) → is_upload user dir row ≡ true → (row.user ≡ user) × (row.dir ≡ dir)
+pub upload_of : (user : ℕ) (dir : List ℕ) (row : UploadRow) → is_upload user dir row ≡ true → (row.user ≡ user) × (row.dir ≡ dir)
 upload_of user dir row is =
     let both = and_parts (row.user == user) (bytes_eq row.dir dir) is in
     (eqb-true row.user user both.0, (bytes_eq-Decides row.dir dir).0 both.1)
 
-same_name : (a b : ℕ) (x y : List ℕ) → a ∷ length x ∷ x ≡ b ∷ length y ∷ y → (a ≡ b) × (x ≡ y)
+pub same_name : (a b : ℕ) (x y : List ℕ) → a ∷ length x ∷ x ≡ b ∷ length y ∷ y → (a ≡ b) × (x ≡ y)
 same_name a b x y same = (cc, cc)
 
 -- two of one name have one key
@@ -131,6 +131,60 @@ module _ (t : Tables) (row : UploadRow) (sound : AreSound t) where
             sound.others.few_uploads owner,
           )
 
+-- ---- look-ups of chunks
+
+abbrev is_numbered : ℕ → List ℕ → ℕ → ChunkRow → Bool
+is_numbered user dir number row = is_chunk_of user dir row && row.number == number
+
+-- what passes is the user's, of that upload and number
+pub chunk_of : (user : ℕ) (dir : List ℕ) (number : ℕ) (row : ChunkRow) → is_numbered user dir number row ≡ true
+    → (row.user ≡ user) × ((row.dir ≡ dir) × (row.number ≡ number))
+chunk_of user dir number row is =
+    let both = and_parts (is_chunk_of user dir row) (row.number == number) is in
+    let own = and_parts (row.user == user) (bytes_eq row.dir dir) both.0 in
+    (eqb-true row.user user own.0, ((bytes_eq-Decides row.dir dir).0 own.1, eqb-true row.number number both.1))
+
+-- a chunk of one's upload and number has its key
+pub chunk_keyed : (row x : ChunkRow) → is_numbered row.user row.dir row.number x ≡ true → chunk_key x ≡ chunk_key row
+chunk_keyed row x passes =
+    let of = chunk_of row.user row.dir row.number x passes in
+    ap (λ (n : ℕ). n ∷ length x.dir ∷ x.dir ++ x.number ∷ []) of.0 ∙ ap (λ (dir : List ℕ). row.user ∷ length dir ∷ dir ++ x.number ∷ []) of.1.0
+    ∙ ap (λ (n : ℕ). row.user ∷ length row.dir ∷ row.dir ++ n ∷ []) of.1.1
+
+-- and the other way round
+pub chunk_parts : (x row : ChunkRow) → chunk_key x ≡ chunk_key row → (x.user ≡ row.user) × ((x.dir ≡ row.dir) × (x.number ≡ row.number))
+chunk_parts x row same =
+    let ends = ends_same x.dir row.dir x.number row.number (names same) (lengths same) in
+    (users same, ends)
+  where
+    users : {a b : ℕ} {xs ys : List ℕ} → a ∷ xs ≡ b ∷ ys → a ≡ b
+    users same = cc
+
+    lengths : {a b m n : ℕ} {xs ys : List ℕ} → a ∷ m ∷ xs ≡ b ∷ n ∷ ys → m ≡ n
+    lengths same = cc
+
+    names : {a b m n : ℕ} {xs ys : List ℕ} → a ∷ m ∷ xs ≡ b ∷ n ∷ ys → xs ≡ ys
+    names same = cc
+
+    first : {a b : ℕ} {xs ys : List ℕ} → a ∷ xs ≡ b ∷ ys → (a ≡ b) × (xs ≡ ys)
+    first same = (cc, cc)
+
+    ends_same : (xs ys : List ℕ) (m n : ℕ) → xs ++ m ∷ [] ≡ ys ++ n ∷ [] → length xs ≡ length ys → (xs ≡ ys) × (m ≡ n)
+    ends_same [] [] m n same long = (refl, (first same).0)
+    ends_same [] (y ∷ ys) m n same long = absurd (omega (arith, long))
+    ends_same (x ∷ xs) [] m n same long = absurd (omega (arith, long))
+    ends_same (x ∷ xs) (y ∷ ys) m n same long =
+        let both = first same in
+        let rest = ends_same xs ys m n both.1 (omega (arith, long)) in
+        (ap (λ (n : ℕ). n ∷ xs) both.0 ∙ ap (λ (all : List ℕ). y ∷ all) rest.0, rest.1)
+
+pub chunk_again : (row x : ChunkRow) → chunk_key x ≡ chunk_key row → is_numbered row.user row.dir row.number x ≡ true
+chunk_again row x same =
+    let of = chunk_parts x row same in
+    and_from (is_chunk_of row.user row.dir x) (x.number == row.number)
+    (and_from (x.user == row.user) (bytes_eq x.dir row.dir) (eq-eqb x.user row.user of.0) ((bytes_eq-Decides x.dir row.dir).1 of.1.0))
+    (eq-eqb x.number row.number of.1.1)
+
 -- ---- a chunk that is put
 
 abbrev bytes_by : ℕ → ChunkRow → ℕ
@@ -145,15 +199,6 @@ module _ (t : Tables) (row : ChunkRow) (sound : AreSound t) (is : IsNewChunk t r
 
   abbrev sought : ChunkRow → Bool
   sought one = is_chunk_of row.user row.dir one && one.number == row.number
-
-  -- a chunk of its upload and number has its key
-  keyed : (x : ChunkRow) → sought x ≡ true → chunk_key x ≡ chunk_key row
-  keyed x passes =
-      let both = and_parts (is_chunk_of row.user row.dir x) (x.number == row.number) passes in
-      let own = and_parts (x.user == row.user) (bytes_eq x.dir row.dir) both.0 in
-      ap (λ (n : ℕ). n ∷ length x.dir ∷ x.dir ++ x.number ∷ []) (eqb-true x.user row.user own.0)
-      ∙ ap (λ (dir : List ℕ). row.user ∷ length dir ∷ dir ++ x.number ∷ []) ((bytes_eq-Decides x.dir row.dir).0 own.1)
-      ∙ ap (λ (n : ℕ). row.user ∷ length row.dir ∷ row.dir ++ n ∷ []) (eqb-true x.number row.number both.1)
 
   few_bytes : (user : ℕ) → pending_of chunks user ≤ MAX_PENDING
   few_bytes user =
@@ -185,7 +230,7 @@ module _ (t : Tables) (row : ChunkRow) (sound : AreSound t) (is : IsNewChunk t r
           let both = and_parts (is_chunk_of row.user row.dir old) (old.number == row.number) (found_passes sought t.chunks old e) in
           let own = and_parts (old.user == row.user) (bytes_eq old.dir row.dir) both.0 in
           omega (arith, sum_passing passing (λ one. content_size one.content) chunks, sum_passing passing (λ one. content_size one.content) t.chunks,
-          put_sum_over chunk_key sought (bytes_by row.user) row old t.chunks keyed sound.others.chunks_rise e, own_bytes,
+          put_sum_over chunk_key sought (bytes_by row.user) row old t.chunks (chunk_keyed row) sound.others.chunks_rise e, own_bytes,
           bytes_so row.user old true own.0, pending (Some old) e)
 
   pub chunk_sound : AreSound (record t { chunks = chunks })

@@ -619,7 +619,7 @@ changes_told t now changes blob report sound known =
     let alone : rows ≡ record rows { meta = t.meta } = meta_first t t.meta changes (only_built t blob up changes known.rows) in
     rows_told t now (record rows { meta = up.meta }) changes (λ rest. put_more t changes rest ∙ ap (λ (u : Tables). put_all u rest) alone) known.lean.differ
     (λ some same.
-    lean_moves t up blob changes sound.rising sound.others.versions_rise refl known.rows known.lean some (alone ∙ ap (λ (u : Tables). record u { meta = t.meta }) same))
+    lean_moves t up blob changes sound.rising sound.others.versions_rise sound.others.chunks_rise refl known.rows known.lean some (alone ∙ ap (λ (u : Tables). record u { meta = t.meta }) same))
 
 act_told : (t : Tables) (now : ℕ) (act : Allowed) → AreSound t → Known t now act → IsPlainAct act → TellsAct t now act
 act_told t now (allowed.Change changes blob report) sound known plain = changes_told t now changes blob report sound known

@@ -11,8 +11,9 @@ use Rattle.nf_defs.specs.declared.Found.{Found}
 use Rattle.nf_defs.specs.declared.Found.TheVariants.{At, Free, Missing}
 use Rattle.nf_laws.proofs.Acted.{given_below, IsNew}
 use Rattle.nf_laws.proofs.Acting.{accepted, frees_by, given_for, leads_by, there_at}
-use Rattle.nf_laws.proofs.Carried.{AreJoined, copying_kind, crossing_kind, IsRelinked, Kind, meta_with, moving_kind, source_apart}
+use Rattle.nf_laws.proofs.Carried.{AreJoined, copying_kind, crossing_kind, IsRelinked, Kind, kind_none, meta_with, moving_kind, source_apart}
 use Rattle.nf_laws.proofs.Departed.{below_after, below_off, have_left, kind_changed, new_after, others_after, present_after, rest_after, unstamped, kind_some}
+use Rattle.nf_laws.proofs.Each.{forgets_none, NoStore}
 use Rattle.nf_laws.proofs.Entries.{step_changed}
 use Rattle.nf_laws.proofs.Mirrored.{mirrored}
 use Rattle.nf_laws.proofs.Others.{stamp_sound}
