@@ -104,13 +104,13 @@ pub record Fits (t : Tables) (now : ℕ) (needs : List Need) (Other : Tables →
 
 -- where a row is another what became of the node follows from what is needed, and what is present and there stays present. The shares of
 -- nodes that are gone end and mounts are as they were, or both are as something else has it
-record FitsAlone (t : Tables) (needs : List Need) (Other : Tables → Type 0) (made : Tables) : Type 0 where
-  follow : AllFollow needs t.nodes made.nodes
-  present : KeepsPresent t.nodes made.nodes
-  others : ((made.shares ≡ shares_gone t.nodes made.nodes t.shares) × (made.mounts ≡ t.mounts)) ⊎ Other made
-  rest : made ≡ record t { meta = made.meta; nodes = made.nodes; shares = made.shares; mounts = made.mounts; versions = made.versions }
+pub record FitsAlone (t : Tables) (needs : List Need) (Other : Tables → Type 0) (made : Tables) : Type 0 where
+  pub follow : AllFollow needs t.nodes made.nodes
+  pub present : KeepsPresent t.nodes made.nodes
+  pub others : ((made.shares ≡ shares_gone t.nodes made.nodes t.shares) × (made.mounts ≡ t.mounts)) ⊎ Other made
+  pub rest : made ≡ record t { meta = made.meta; nodes = made.nodes; shares = made.shares; mounts = made.mounts; versions = made.versions }
 
-alone_fits : (t made : Tables) (now : ℕ) (needs : List Need) (Other : Tables → Type 0) → AreSound t → FitsAlone t needs Other made
+pub alone_fits : (t made : Tables) (now : ℕ) (needs : List Need) (Other : Tables → Type 0) → AreSound t → FitsAlone t needs Other made
     → Fits t now needs Other made
 alone_fits t made now needs Other sound alone = record {
   between = made;
@@ -140,7 +140,7 @@ same_fits t now needs Other sound =
     })
 
 -- where a node is added, or refilled
-added_fits : (t made : Tables) (now folder : ℕ) (name : List ℕ) (kind : NodeKind) (content : List Piece) (needs : List Need)
+pub added_fits : (t made : Tables) (now folder : ℕ) (name : List ℕ) (kind : NodeKind) (content : List Piece) (needs : List Need)
     (Other : Tables → Type 0) → AreSound t → IsAdded t made now folder name kind content → IsNeeded needs act.Create folder
     → Fits t now needs Other made
 added_fits t made now folder name kind content needs Other sound is needed =
@@ -159,7 +159,7 @@ added_fits t made now folder name kind content needs Other sound is needed =
         ]
 
 -- where a file is filled
-filled_fits : (t : Tables) (nodes : List NodeRow) (meta : MetaRow) (versions : List VersionRow) (now node : ℕ) (content : List Piece) (needs : List Need)
+pub filled_fits : (t : Tables) (nodes : List NodeRow) (meta : MetaRow) (versions : List VersionRow) (now node : ℕ) (content : List Piece) (needs : List Need)
     (Other : Tables → Type 0) → AreSound t → IsFilledAt t.nodes nodes now node content → IsNeeded needs act.Update node
     → Fits t now needs Other (record t { meta = meta; nodes = nodes; versions = versions })
 filled_fits t nodes meta versions now node content needs Other sound is needed =
@@ -177,7 +177,7 @@ filled_fits t nodes meta versions now node content needs Other sound is needed =
           | inr differs ↦ ap is_some (is.others other (λ e. both_ways (other == node) differs (eq-eqb other node e))) ∙ there
         ]
 
-refilled_fits : (t made : Tables) (now node : ℕ) (content : List Piece) (needs : List Need) (Other : Tables → Type 0) → AreSound t
+pub refilled_fits : (t made : Tables) (now node : ℕ) (content : List Piece) (needs : List Need) (Other : Tables → Type 0) → AreSound t
     → IsRefilled t made now node content → IsNeeded needs act.Update node → Fits t now needs Other made
 refilled_fits t made now node content needs Other sound is needed =
     let meta = record t.meta { next_blob = t.meta.next_blob + length content; last = made.meta.last } in
@@ -393,11 +393,12 @@ within_owner t transfer row sound there above =
 
 -- ---- a Begin
 
--- something is asked about users, groups, the trash or versions
+-- something is asked about users, groups, the trash, versions or uploads
 abbrev pub is_apart : Wanted → Bool
 is_apart (People asked) = true
 is_apart (Trash asked) = true
 is_apart (want.Version asked) = true
+is_apart (want.Upload asked) = true
 is_apart wanted = false
 
 -- that who is there makes
@@ -757,7 +758,7 @@ module _ (call : Call) (sound : AreSound call.state.tables) (later : call.state.
         })
       ]
 
-  -- what isn't asked about users, groups, the trash and versions
+  -- what isn't asked about users, groups, the trash, versions and uploads
   pub begin_fits : (wanted : Wanted) → call.request.wanted ≡ wanted → is_apart wanted ≡ false → WantedPasses call wanted
       → FitsCall (asked_for wanted) (changed t call.now (given (access_of call.state) call (places_at call wanted) wanted))
   begin_fits (Get spot) asked other p = served_fits (way_of call spot).mount (found call spot) (asked_for (Get spot))
@@ -773,6 +774,7 @@ module _ (call : Call) (sound : AreSound call.state.tables) (later : call.state.
   begin_fits (People asks) asked other p = absurd (false≢true (sym other))
   begin_fits (Trash asks) asked other p = absurd (false≢true (sym other))
   begin_fits (want.Version asks) asked other p = absurd (false≢true (sym other))
+  begin_fits (want.Upload asks) asked other p = absurd (false≢true (sym other))
 
   -- what is asked about versions
   pub versions_fit : (ask : VersionAsk) (needs : List Need) → IsNeeded needs (act_asked ask) (node_asked ask)
@@ -789,14 +791,3 @@ module _ (call : Call) (sound : AreSound call.state.tables) (later : call.state.
       here : (o : Option VersionRow) → FitsCall needs (changed t call.now (option_map_or (brought_back t call.now node) o nothing_done))
       here None = same_fits t call.now needs (OneOther call) sound
       here (Some row) = back_fits t call.now node row needs (OneOther call) sound needed
-
--- ---- an End
-
-pub put_fits : (t made : Tables) (now : ℕ) (by : By) (key : LockKey) (content : List Piece) (Other : Tables → Type 0) → AreSound t
-    → IsPut t made now key content → Fits t now (needed_by by key) Other made
-put_fits t made now by (Node node) content Other sound is =
-    let need = need_of act.Update node by.mount in
-    refilled_fits t made now node content (need ∷ []) Other sound is (first_needed need [])
-put_fits t made now by (Slot folder name) content Other sound is =
-    let need = need_of act.Create folder by.mount in
-    added_fits t made now folder name File content (need ∷ []) Other sound is (first_needed need [])

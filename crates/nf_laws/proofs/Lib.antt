@@ -1,14 +1,17 @@
+pub mod Abandoning
 pub mod Acted
 pub mod Acting
 pub mod Added
 pub mod Affording
 pub mod Allowing
 pub mod Asking
+pub mod Assembling
 pub mod Blobs
 pub mod Carried
 pub mod Chained
 pub mod Charging
 pub mod Children
+pub mod Chunking
 pub mod Climbs
 pub mod Contents
 pub mod Copied
@@ -34,6 +37,7 @@ pub mod InTurn
 pub mod Lines
 pub mod Links
 pub mod Leaning
+pub mod Joining
 pub mod Leaving
 pub mod Left
 pub mod Lists
@@ -53,6 +57,7 @@ pub mod Peopled
 pub mod Owned
 pub mod Parts
 pub mod Paths
+pub mod Plain
 pub mod Presence
 pub mod Present
 pub mod Providing

@@ -88,7 +88,7 @@ filled_comes t now node size content blob row sound there weighs =
     (ap (λ (u : Tables). u.nodes) (refilled_made t now content row))
 
 -- and a new file is that of its folder's
-born_comes : (t : Tables) (now folder size : ℕ) (name : List ℕ) (content : List Piece) (blob : Option ℕ) (gone : List Version) → AreSound t
+pub born_comes : (t : Tables) (now folder size : ℕ) (name : List ℕ) (content : List Piece) (blob : Option ℕ) (gone : List Version) → AreSound t
     → sum_by (λ piece. piece.size) content ≡ size
     → Comes t (owner_of t.nodes folder) 0 size
     (altered t now (allowed.Change (Put (rows.Node (new_node t now folder name File content)) ∷ map drop_version gone) blob Made))
@@ -155,7 +155,7 @@ stored_nodes t now (Node node) digest size =
 stored_nodes t now (Slot folder name) digest size = refl
 
 -- what comes is charged, where the trash stays as it is
-comes_charged : (t made : Tables) (owner old new : ℕ) → ((user : ℕ) → bytes_trashed made user ≡ bytes_trashed t user) → Comes t owner old new made
+pub comes_charged : (t made : Tables) (owner old new : ℕ) → ((user : ℕ) → bytes_trashed made user ≡ bytes_trashed t user) → Comes t owner old new made
     → IsCharged t made owner old new
 comes_charged t made owner old new trash comes = record {
   owned = omega (
