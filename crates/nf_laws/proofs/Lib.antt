@@ -89,6 +89,7 @@ pub mod Told
 pub mod Transferred
 pub mod Trashed
 pub mod Trashing
+pub mod Uploaded
 pub mod Upwards
 pub mod Walked
 pub mod Weighing
