@@ -81,17 +81,6 @@ module _ (P : List Piece → Type 0) where
         chunks = All-nil (λ (row : ChunkRow). P row.content);
       }))
 
-  -- ---- tables whose chunks aren't others
-
-  pub others_have : (t made : Tables) → made.chunks ≡ t.chunks → EachHas t → All (λ (row : NodeRow). P row.content) made.nodes
-      → All (λ (row : VersionRow). P row.content) made.versions → All P (contents_of made)
-  others_have t made chunks each nodes versions =
-      all_have made (record {
-        nodes = nodes;
-        versions = versions;
-        chunks = subst (All (λ (row : ChunkRow). P row.content)) (sym chunks) each.chunks;
-      })
-
 -- ---- sound tables
 
 -- all pieces are sound

@@ -1,3 +1,4 @@
+pub mod Abandoned
 pub mod Acted
 pub mod Acting
 pub mod Added
