@@ -1,8 +1,8 @@
 -- What a sweep leaves: without the uploads that are idle and their chunks, and without items that go.
-use Rattle.std.proofs.Common.{◌≡◌, ◌&&◌, ◌||◌, ◌==◌, ℕ, bytes_eq, Bool, true, false, not, List, [], ◌∷◌, ◌++◌, filter, find, get_or, length, inl, inr, Option, None, Some, if◌then◌else◌, refl, sym, ap, subst, ◌∙◌, arith}
+use Rattle.std.proofs.Common.{◌≡◌, ◌&&◌, ◌||◌, ◌==◌, ℕ, bytes_eq, Bool, true, false, not, List, [], ◌∷◌, ◌++◌, filter, find, get_or, length, inl, inr, None, Some, if◌then◌else◌, refl, sym, ap, subst, ◌∙◌}
 use Rattle.std.specs.Prelude.{is_some}
 use Rattle.std.specs.List.{All, Contains, list_any}
-use Rattle.std.proofs.lemmas.Bool.{and_from, and_parts, both_ways, cases_Bool, eq-eqb, eqb-true, false_from_ne_true, not-true}
+use Rattle.std.proofs.lemmas.Bool.{and_parts, both_ways, cases_Bool, eqb-true, false_from_ne_true, not-true}
 use Rattle.std.proofs.lemmas.List.Elements.{All-contains_itself, All-filter, All-head, All-tail, filter_passes}
 use Rattle.std.proofs.lemmas.List.Folds.{list_any_at}
 use Rattle.std.proofs.lemmas.Option.{same_Some}
@@ -20,7 +20,7 @@ use Rattle.nf_laws.proofs.Restoring.{taken_at}
 use Rattle.nf_laws.proofs.Rows.{finds_none, found_is, stamp, stamped_some}
 use Rattle.nf_laws.proofs.Sent.{same_name, upload_stays}
 use Rattle.nf_laws.proofs.Turning.{all_pass}
-use Rattle.nf_laws.specs.Acts.{AreAbandoned, AreSwept, AreTaken}
+use Rattle.nf_laws.specs.Acts.{AreSwept, AreTaken}
 use Rattle.nf_words.proofs.Known.{IsItem, KnownGoes}
 use Rattle.nf_words.proofs.Sweeping.{uploads_there}
 use Rattle.nf_words.specs.Prelude.{abandoned, abandons, AreSound, changed, deeds_done, done, is_chunk_of, is_idle, purges, told, upload_row}

@@ -65,7 +65,7 @@ use Rattle.nf_words.specs.declared.answer.Goal.{Goal}
 use Rattle.nf_words.specs.declared.answer.LockKey.{LockKey}
 use Rattle.nf_words.specs.declared.answer.LockKey.TheVariants.{Node, Slot}
 use Rattle.nf_words.specs.declared.answer.Report.{Report}
-use Rattle.nf_words.specs.declared.answer.Report.TheVariants.{Done, Made, Plain}
+use Rattle.nf_words.specs.declared.answer.Report.TheVariants.{Done, Made}
 use Rattle.nf_words.specs.declared.history.Event.TheVariants.{Begin, End, Sweep}
 use Rattle.nf_words.specs.declared.history.Outcome.TheVariants.{Body}
 use Rattle.nf_words.specs.declared.request.Making.TheVariants as making

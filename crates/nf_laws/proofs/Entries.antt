@@ -1,5 +1,5 @@
 -- What a state is after an entry: as before it but for what an event takes, or as an act made it of which its Known is known.
-use Rattle.std.proofs.Common.{ℕ, ◌==◌, ◌≡◌, ◌≤◌, not, List, Option, None, Some, Result, Ok, Err, refl, sym, ap, subst}
+use Rattle.std.proofs.Common.{ℕ, ◌==◌, ◌≡◌, ◌≤◌, not, List, Option, None, Some, Result, Ok, Err, refl, ap, subst}
 use Rattle.std.specs.List.{All}
 use Rattle.std.specs.Option.{IfSome}
 use Rattle.std.proofs.lemmas.List.Elements.{All-filter, All-push}

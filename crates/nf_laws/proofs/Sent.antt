@@ -1,5 +1,5 @@
 -- The tables with an upload or a chunk that is put, and those without an upload and its chunks, are sound.
-use Rattle.std.proofs.Common.{◌≡◌, ◌≤◌, ◌+◌, ◌-◌, ◌&&◌, ◌==◌, ℕ, bytes_eq, Bool, true, false, not, List, [], ◌∷◌, ◌++◌, filter, find, get_or, length, sum_by, Option, None, Some, if◌then◌else◌, inl, inr, refl, sym, ap, subst, ◌∙◌, arith, le_refl}
+use Rattle.std.proofs.Common.{◌≡◌, ◌≤◌, ◌+◌, ◌-◌, ◌&&◌, ◌==◌, ℕ, bytes_eq, Bool, true, false, not, List, [], ◌∷◌, ◌++◌, filter, find, get_or, length, Option, None, Some, if◌then◌else◌, inl, inr, refl, sym, ap, subst, ◌∙◌, arith, le_refl}
 use Rattle.std.specs.Prelude.{is_some}
 use Rattle.std.specs.List.{All}
 use Rattle.std.specs.Option.{option_map_or}
@@ -16,7 +16,7 @@ use Rattle.nf_defs.specs.Prelude.{chunk_key, dropped, key_cmp, put, Tables, uplo
 use Rattle.nf_laws.proofs.Rows.{found_is}
 use Rattle.nf_laws.proofs.Sums.{number_passing, put_sum, put_sum_over, sum_passing}
 use Rattle.nf_laws.proofs.Turned.{turned, turned_sound}
-use Rattle.nf_laws.proofs.Uploads.{AreUploadsSound, chunk_still, upload_still}
+use Rattle.nf_laws.proofs.Uploads.{chunk_still, upload_still}
 use Rattle.nf_words.proofs.Found.{found_passes, put_is_found, put_leaves}
 use Rattle.nf_words.specs.Prelude.{abandoned, AreSound, chunk_row, content_size, is_chunk_of, IsChunkSound, IsNewChunk, IsNewUpload, IsTouched, IsUploadSound, pending_of, upload_row, uploads_of}
 use Rattle.nf_words.specs.declared.limits.TheConstants.{MAX_PENDING, MAX_UPLOADS}
