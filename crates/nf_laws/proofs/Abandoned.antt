@@ -105,7 +105,8 @@ named_so test uploads rise k d within =
         (λ i e among. (All-filter test Found uploads there i e among, filter_passes test uploads i e among)) row.1 in
         let of = same_name row.0.user upload.user row.0.dir upload.dir ((bytes_eq-Decides (upload_key row.0) (upload_key upload)).0 both.0) in
         let same : row.0 ≡ upload =
-        same_Some row.0 upload (sym both.1.0 ∙ ap (λ (n : ℕ). upload_row uploads n row.0.dir) of.0 ∙ ap (upload_row uploads upload.user) of.1 ∙ there k d within) in
+        same_Some row.0 upload
+        (sym both.1.0 ∙ ap (λ (n : ℕ). upload_row uploads n row.0.dir) of.0 ∙ ap (upload_row uploads upload.user) of.1 ∙ there k d within) in
         both_ways (test upload) fails (subst (λ (row : UploadRow). test row ≡ true) same both.1.1)
 
 -- ---- their chunks

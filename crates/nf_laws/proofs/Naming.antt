@@ -63,7 +63,8 @@ module _ (Q : Piece → Type 0) where
   version_has t node content have (version, at, found, is) =
       subst (All Q) (sym is) (found_is VersionHas (λ (row : VersionRow). row.node == node && row.at == at) t.versions version have.versions found).1
 
-  born_has : (t : Tables) (content : List Piece) → Have t → IsOfBody t.meta None content ⊎ ((◌≡◌ {A = Option ℕ} None None) × IsOfUpload t content) → All Q content
+  born_has : (t : Tables) (content : List Piece) → Have t
+      → IsOfBody t.meta None content ⊎ ((◌≡◌ {A = Option ℕ} None None) × IsOfUpload t content) → All Q content
   born_has t content have (inl none) = no_pieces content none
   born_has t content have (inr (same, of)) = upload_has t content have of
 
