@@ -1,4 +1,5 @@
 pub mod Abandoning
+pub mod Abandoned
 pub mod Acted
 pub mod Acting
 pub mod Added
