@@ -1,5 +1,5 @@
 -- What a decided act stores by a deed is a file, and versions with it: what the chunks of an upload become.
-use Rattle.std.proofs.Common.{◌≡◌, ℕ, ◌==◌, ◌∙◌, Bool, true, false, List, [], ◌∷◌, ◌++◌, map, flat_map, filter, Option, None, Some, Result, Ok, Err, if◌then◌else◌, refl, subst}
+use Rattle.std.proofs.Common.{◌≡◌, ℕ, ◌==◌, ◌∙◌, Bool, true, false, List, [], ◌∷◌, ◌++◌, map, flat_map, filter, Option, None, Some, Result, Ok, Err, if◌then◌else◌, refl, ap, subst}
 use Rattle.std.specs.List.{All}
 use Rattle.std.specs.Option.{option_map_or}
 use Rattle.std.proofs.lemmas.Bool.{cond_both}
@@ -60,17 +60,24 @@ IsFiling (Put (rows.Version row)) = Unit {0}
 IsFiling (Drop (keys.Version node at)) = Unit {0}
 IsFiling change = ⊥
 
--- no chunk is another by them
-pub filing_chunks : (u : Tables) (changes : List Change) → All IsFiling changes → (put_all u changes).chunks ≡ u.chunks
-filing_chunks u [] all = refl
-filing_chunks u (change ∷ changes) all =
-    filing_chunks (made u change) changes (All-tail IsFiling change changes all) ∙ here change (All-head IsFiling change changes all)
+-- nothing but nodes and versions is another by them
+pub filing_rest : (u : Tables) (changes : List Change) → All IsFiling changes
+    → put_all u changes ≡ record u { nodes = (put_all u changes).nodes; versions = (put_all u changes).versions }
+filing_rest u [] all = refl
+filing_rest u (change ∷ changes) all =
+    here change (All-head IsFiling change changes all) (filing_rest (made u change) changes (All-tail IsFiling change changes all))
   where
-    here : (change : Change) → IsFiling change → (made u change).chunks ≡ u.chunks
-    here (Put (rows.Node row)) is = refl
-    here (Put (rows.Version row)) is = refl
-    here (Drop (keys.Version node at)) is = refl
-    here change is = absurd is
+    Rest : Tables → Tables → Type 0
+    Rest v w = w ≡ record v { nodes = w.nodes; versions = w.versions }
+
+    here : (change : Change) → IsFiling change → Rest (made u change) (put_all (made u change) changes) → Rest u (put_all (made u change) changes)
+    here (Put (rows.Node row)) is rest = rest
+    here (Put (rows.Version row)) is rest = rest
+    here (Drop (keys.Version node at)) is rest = rest
+    here change is rest = absurd is
+
+pub filing_chunks : (u : Tables) (changes : List Change) → All IsFiling changes → (put_all u changes).chunks ≡ u.chunks
+filing_chunks u changes all = ap (λ (v : Tables). v.chunks) (filing_rest u changes all)
 
 -- nor is the meta row dropped
 filing_droppable : (change : Change) → IsFiling change → IsDroppable change
