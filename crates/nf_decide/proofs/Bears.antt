@@ -328,7 +328,7 @@ deed_bears t now (deed.Relink node folder name) sound at (row, fits) =
 deed_bears t now (deed.Join copies) sound at joins = copies_bear t now copies sound joins
 deed_bears t now (deed.Requote row) sound at known = record { was = known.old; there = known.there; same = known.same }
 deed_bears t now (deed.Forget node moment) sound at known = tt
-deed_bears t now (deed.Store changes) sound at known = record { changes = changes_bear t now changes None sound known; given = sound_given t sound }
+deed_bears t now (deed.Store changes) sound at known = record { stored = changes_bear t now changes None sound known; given = sound_given t sound }
 deed_bears t now (deed.Abandon user dir) sound at known = tt
 
 deeds_bear : (t : Tables) (now : ℕ) (deeds : List Deed) → AreSound t → t.meta.last ≡ now → InTurn t now deeds → BearsDeeds t deeds
@@ -370,10 +370,10 @@ store_unstamped t now changes bears =
     let same : AreHigher was t.meta =
     record { users = omega arith; groups = omega arith; nodes = omega arith; shares = omega arith; blobs = omega arith } in
     record {
-      changes = record {
-        rows = rows_met t.meta.next_node (stamp t now) t.meta changes bears.changes.rows;
-        numbers = All-weaker (IsCounted was) (IsCounted t.meta) (λ change counts. counted_later was t.meta change same counts) changes bears.changes.numbers;
-        next_blob = bears.changes.next_blob;
+      stored = record {
+        rows = rows_met t.meta.next_node (stamp t now) t.meta changes bears.stored.rows;
+        numbers = All-weaker (IsCounted was) (IsCounted t.meta) (λ change counts. counted_later was t.meta change same counts) changes bears.stored.numbers;
+        next_blob = bears.stored.next_blob;
       };
       given = record { rising = bears.given.rising; given = bears.given.given };
     }

@@ -58,7 +58,7 @@ deed_counts t (deed.Relink node folder name) borne = tt
 deed_counts t (deed.Join rows) borne = omega (arith, borne.numbers.next_node)
 deed_counts t (deed.Requote row) borne = tt
 deed_counts t (deed.Forget node at) borne = tt
-deed_counts t (deed.Store changes) borne = borne.changes.numbers
+deed_counts t (deed.Store changes) borne = borne.stored.numbers
 deed_counts t (deed.Abandon user dir) borne = tt
 
 pub deeds_count : (t : Tables) (deeds : List Deed) → BearsDeeds t deeds → CountsDeeds t.meta deeds
@@ -362,7 +362,7 @@ all_fit t room (deed.Store changes ∷ deeds) borne order fits = (
   fits,
   λ more higher.
       drops_fit (replaced t changes) more deeds order.1
-      (stored_fit t.meta.next_node t (replaced t changes).meta changes room more borne.0.given.rising borne.0.changes.rows higher fits),
+      (stored_fit t.meta.next_node t (replaced t changes).meta changes room more borne.0.given.rising borne.0.stored.rows higher fits),
 )
 all_fit t room (one ∷ deeds) borne order fits = counted_fit t room (one ∷ deeds) borne order fits
 

@@ -279,7 +279,7 @@ IsClosed t node = All (λ (share : ShareRow). is_closing t.nodes node share ≡ 
 
 -- changes can be borne, and the numbers of the nodes that are there were given
 pub record BearsStore (t : Tables) (changes : List Change) : Type 0 where
-  pub changes : BearsChanges t changes None
+  pub stored : BearsChanges t changes None
   pub given : AreGiven t
 
 -- what is put in the trash is there, and so is who has another quota
