@@ -315,7 +315,7 @@ abbrev pub StoresFirst : List Deed → Type 0
 StoresFirst (deed.Store changes ∷ deeds) = (deeds ≢ []) × All OnlyDrops deeds
 StoresFirst deeds = All StoresNone deeds
 
--- and what becomes of the rows is told of the tables before all
+-- so can all of a step, and what becomes of the rows is told of the tables before them
 pub record BearsStep (t : Tables) (deeds : List Deed) : Type 0 where
   pub borne : BearsDeeds t deeds
   pub order : StoresFirst deeds
