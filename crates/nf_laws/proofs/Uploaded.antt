@@ -150,6 +150,10 @@ module _ (n : ℕ) (s : State) (e : Entry) (words : Words) (request : Request) (
   done mark.Store ok same = absurd (cc)
   done mark.Memory ok same = absurd (cc)
 
+  -- but for the meta row, nodes, versions, uploads and chunks all is as it was
+  abbrev KeepsRest : Tables → Type 0
+  KeepsRest u = u ≡ record t { meta = u.meta; nodes = u.nodes; versions = u.versions; uploads = u.uploads; chunks = u.chunks }
+
   whole : IsDone → IsJoined call dir spot (stamp (made t e.moment (last_name spot) asker dir place) e.moment)
   whole is =
       let file = joined_file t e.moment (last_name spot) (whole_of t.chunks asker dir) place sound.rows is.placed in
@@ -167,7 +171,8 @@ module _ (n : ℕ) (s : State) (e : Entry) (words : Words) (request : Request) (
         chunks = λ user of number other.
             leaves.chunks user of number (false_from_ne_true (is_that asker dir user of) (λ same. other (that_is asker dir user of same)))
             ∙ ap (λ (u : Tables). chunk_row u.chunks user of number) rest;
-        rest = ap (λ (u : Tables). stamp (abandoned (record u { meta = (stored t e.moment (last_name spot) asker dir place).meta }) asker dir) e.moment) rest;
+        rest = subst (λ (u : Tables). KeepsRest (stamp (abandoned (record u { meta = (stored t e.moment (last_name spot) asker dir place).meta }) asker dir) e.moment))
+            (sym rest) refl;
       }
 
   later : t.meta.last ≤ e.moment
