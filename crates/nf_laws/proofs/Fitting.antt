@@ -40,7 +40,7 @@ use Rattle.nf_laws.proofs.Reaching.{way_mount}
 use Rattle.nf_laws.proofs.Remaining.{added_present, gone_present, KeepsPresent, filled_present}
 use Rattle.nf_laws.proofs.Rows.{found_is, inside_folder, parent_there, row_id, stamp, stamped_has}
 use Rattle.nf_laws.proofs.Upwards.{climbs_is_under}
-use Rattle.nf_laws.specs.Acts.{IsAdded, IsPut, IsRefilled}
+use Rattle.nf_laws.specs.Acts.{IsAdded, IsRefilled}
 use Rattle.nf_laws.specs.Access.{Follows, IsNeeded, IsOwnPath, ItemsFollow, KeepsShares, Remounts, is_left, is_moved, is_renamed, is_updated}
 use Rattle.nf_laws.specs.Transfers.{replaced_by}
 use Rattle.nf_words.proofs.Begins.{delete_leaves, only_at, places_at, WantedPasses}

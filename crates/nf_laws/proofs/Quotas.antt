@@ -1,5 +1,5 @@
 -- No act takes a charge beyond its quota.
-use Rattle.std.proofs.Common.{ℕ, ◌+◌, ◌==◌, ◌≡◌, ◌≤◌, ◌⊎◌, List, [], ◌∷◌, ◌++◌, filter, Option, None, Some, Result, Ok, if◌then◌else◌, inl, inr, refl, ap, subst, ◌∙◌, arith, le_refl, sym}
+use Rattle.std.proofs.Common.{ℕ, ◌==◌, ◌≡◌, ◌≤◌, ◌⊎◌, List, [], ◌∷◌, ◌++◌, filter, Option, None, Some, Result, Ok, if◌then◌else◌, inl, inr, refl, ap, subst, ◌∙◌, arith, le_refl, sym}
 use Rattle.std.specs.Prelude.{sum_by}
 use Rattle.std.specs.List.{flat_map, All}
 use Rattle.nf_base.specs.declared.rows.ChunkRow.{ChunkRow}
