@@ -28,7 +28,7 @@ use Rattle.nf_words.specs.declared.answer.Allowed.TheVariants as allowed
 use Rattle.nf_words.specs.declared.answer.By.{By}
 use Rattle.nf_words.specs.declared.answer.Denial.{Denial}
 use Rattle.nf_words.specs.declared.answer.Denial.TheVariants as denial
-use Rattle.nf_words.specs.declared.answer.Goal.TheVariants.{Serve, Store}
+use Rattle.nf_words.specs.declared.answer.Goal.TheVariants.{Chunk, Serve, Store}
 use Rattle.nf_words.specs.declared.answer.LockKey.{LockKey}
 use Rattle.nf_words.specs.declared.answer.LockKey.TheVariants.{Node, Slot}
 use Rattle.nf_words.specs.declared.answer.Reply.{Reply}
@@ -74,7 +74,9 @@ put_only other by key size is = absurd (cc)
 
 -- the answers of a PUT's Begin, but for refusals
 abbrev pub IsOfPut : Reply → Type 0
-IsOfPut (Granted goal) = Unit {0}
+IsOfPut (Granted (Serve content)) = Unit {0}
+IsOfPut (Granted (Store by key length)) = Unit {0}
+IsOfPut (Granted (Chunk user dir number length)) = ⊥
 IsOfPut Closed = Unit {0}
 IsOfPut Made = ⊥
 IsOfPut Done = ⊥
