@@ -5,7 +5,6 @@ use Rattle.std.specs.Option.{option_map_or}
 use Rattle.std.proofs.lemmas.Bool.{cond_both}
 use Rattle.std.proofs.lemmas.List.Elements.{All-append, All-cons, All-nil}
 use Rattle.nf_base.specs.declared.rows.ItemRow.{ItemRow}
-use Rattle.nf_base.specs.declared.rows.NodeRow.{NodeRow}
 use Rattle.nf_base.specs.declared.rows.ShareRow.{ShareRow}
 use Rattle.nf_base.specs.declared.rows.UserRow.{UserRow}
 use Rattle.nf_base.specs.declared.rows.VersionRow.{VersionRow}
@@ -18,7 +17,7 @@ use Rattle.nf_words.proofs.Begins.{places_at, wanted_passes, WantedPasses}
 use Rattle.nf_words.proofs.Passing.{call_passes, place_passes}
 use Rattle.nf_words.proofs.Starts.{has_asker, IsAsking}
 use Rattle.nf_words.specs.Changes.{Charged}
-use Rattle.nf_words.specs.Prelude.{access_of, AreSound, asker_of, assembled_at, besides, brought_back, by_of, Call, call_decision, carries, charged_for, charged_to, chunk_number, chunk_sent, copied, copies, copies_settled, copies_to, crosses, crossing, deleted, discards, done, found, given, gone_beside, IsSound, item_dropped, item_restored, items_of, last_name, listing_of, made_folder, made_or_done, MayWant, mount_left, mount_renamed, moved, moves, node_at, nothing_done, offered, own_item, people_done, perms_after, purged_by, purges, requoted, requoting, restoring, row_at, row_named, served, settled_by, share_ended, share_made, share_set, share_shown, share_steered, share_told, shared, stored, transfer_of, trash_done, unsettled, until_after, upload_done, version_done, version_row, way_of, whole_of}
+use Rattle.nf_words.specs.Prelude.{access_of, AreSound, asker_of, assembled_at, besides, brought_back, by_of, Call, call_decision, carries, charged_for, charged_to, chunk_number, chunk_sent, copied, copies, copies_settled, copies_to, crosses, crossing, deleted, discards, done, found, given, gone_beside, IsSound, item_dropped, item_restored, items_of, last_name, listing_of, made_folder, made_or_done, MayWant, mount_left, mount_renamed, moved, moves, node_at, nothing_done, offered, own_item, people_done, perms_after, purged_by, requoted, requoting, restoring, row_at, row_named, served, settled_by, share_ended, share_made, share_set, share_shown, share_steered, share_told, shared, stored, transfer_of, trash_done, unsettled, until_after, upload_done, version_done, version_row, way_of, whole_of}
 use Rattle.nf_words.specs.declared.answer.Allowed.{Allowed}
 use Rattle.nf_words.specs.declared.answer.Allowed.TheVariants as allowed
 use Rattle.nf_words.specs.declared.answer.By.{By}
