@@ -108,7 +108,6 @@ no_store : (end : Option Ended) → status_of end ≡ exit.StoreFault → ⊥
 no_store None is = cc
 no_store (Some ended.Closed) is = cc
 no_store (Some ended.BadMessage) is = cc
-no_store (Some ended.NotBuilt) is = cc
 no_store (Some ended.RunFull) is = cc
 no_store (Some (ended.Cut why)) is = cc
 no_store (Some ended.ReadFault) is = cc
