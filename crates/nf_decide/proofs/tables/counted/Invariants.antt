@@ -1,6 +1,6 @@
 use Rattle.std.proofs.Common.{◌≡◌, take}
 use Rattle.nf_words.specs.Prelude.{counted}
-use Rattle.nf_decide.proofs.tables.raised.Given as goal
+use Rattle.nf_decide.proofs.tables.counted.Given as goal
 
 -- the counters are above the numbers so far
 abbrev pub invariant-loop-change : goal.invariant-loop-change

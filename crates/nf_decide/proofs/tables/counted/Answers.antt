@@ -7,7 +7,7 @@ use Rattle.nf_laws.proofs.Lists.{counted_higher}
 use Rattle.nf_laws.specs.Numbers.{AreHigher}
 use Rattle.nf_decide.proofs.Putting.{counted_later, counted_more}
 use Rattle.nf_decide.specs.Current.{IsCounted}
-use Rattle.nf_decide.proofs.tables.raised.Goals as goal
+use Rattle.nf_decide.proofs.tables.counted.Goals as goal
 
 pub loop-change-preserved : goal.loop-change-preserved
 loop-change-preserved c =
@@ -26,4 +26,4 @@ above-counted-requires c =
     counted_later meta c.loop-change.counted c.change-item.result
     (subst (λ (m : MetaRow). AreHigher meta m) (sym c.loop-change.invariant) so_far)
     (subst (IsCounted meta) (sym c.change-item.is)
-    (c.requires.numbers c.loop-change.change-index c.change-item.result c.loop-change-test.true))
+    (c.requires c.loop-change.change-index c.change-item.result c.loop-change-test.true))
