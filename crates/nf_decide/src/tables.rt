@@ -10,7 +10,7 @@ ghost use Rattle.nf_defs.specs.Prelude.{drop_row, dropped, item_key, item_row, m
 ghost use Rattle.nf_words.specs.Prelude.{above, blob_after, changed, counted, deed_done, deeds_done, discarded, forgotten, goal_of, joined, last_number, purged, purges, replaced, restored, versions_there};
 ghost use Rattle.nf_words.specs.declared.answer.Report.TheVariants.{Done};
 ghost use Rattle.nf_words.specs.declared.answer.Allowed.TheVariants as allowed;
-ghost use Rattle.nf_decide.specs.Current.{AreBorne, AreGiven, BearsAct, BearsChanges, BearsCopies, BearsDeed, BearsDeeds, BearsPlace, IsBorne, IsCounted, IsDroppedKey, IsNew, IsRefilled, LeadUpBehind, added_by, added_deed, added_deeds, added_of};
+ghost use Rattle.nf_decide.specs.Current.{AreBorne, AreGiven, BearsAct, BearsChanges, BearsCopies, BearsDeed, BearsDeeds, BearsPlace, IsBorne, IsCounted, IsDroppedKey, IsNew, IsRefilled, LeadUpBehind, StoresFirst, added_by, added_deed, added_deeds, added_of};
 ghost use Rattle.nf_decide.specs.Gone.{item_gone};
 ghost use Rattle.nf_decide.specs.Rows.{rows_of_others};
 ghost use Rattle.nf_rules.specs.Ruled.{AreRuled};
@@ -261,8 +261,9 @@ impl Tables {
 
     /// Does some deeds, one after the other. Where there is no memory to gather items that go for good, they go one by one.
     fn perform_all(&mut self, moment: Moment, deeds: Deeds)
-        requires room { FitsRows self.old.tables self.old.room (added_deeds deeds) }
+        requires room { FitsRows self.old.tables self.old.room (added_deeds self.old.tables.meta.next_node deeds) }
         requires bears { BearsDeeds self.old.tables deeds }
+        requires order { StoresFirst deeds }
         ensures { self.new.tables ≡ changed self.old.tables moment (allowed.Deeds deeds Done) }
     {
         let deeds = deeds.into_vec();
@@ -275,8 +276,9 @@ impl Tables {
 
     /// Items that go for good one after the other go together, in one pass over the rows.
     fn perform_each(&mut self, deeds: Vec<Deed>)
-        requires room { FitsRows self.old.tables self.old.room (added_deeds deeds.items) }
+        requires room { FitsRows self.old.tables self.old.room (added_deeds self.old.tables.meta.next_node deeds.items) }
         requires bears { BearsDeeds self.old.tables deeds.items }
+        requires order { StoresFirst deeds.items }
         ensures { self.new.tables ≡ deeds_done self.old.tables deeds.items }
     {
         let mut run = Vec::new(*deeds.allocator());
@@ -348,7 +350,7 @@ impl Tables {
     }
 
     fn perform(&mut self, deed: Deed)
-        requires room { FitsRows self.old.tables self.old.room (added_deed deed) }
+        requires room { FitsRows self.old.tables self.old.room (added_deed self.old.tables.meta.next_node deed) }
         requires bears { BearsDeed self.old.tables deed }
         ensures tables { self.new.tables ≡ deed_done self.old.tables deed }
         ensures room { IsNoSmaller self.old.room self.new.room }
