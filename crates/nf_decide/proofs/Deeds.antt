@@ -334,6 +334,21 @@ same_room room = record {
   chunks = omega arith;
 }
 
+pub higher_still : (first room more : RowCounts) → IsNoSmaller first room → IsNoSmaller room more → IsNoSmaller first more
+higher_still first room more one two = record {
+  users = omega (arith, one.users, two.users);
+  tokens = omega (arith, one.tokens, two.tokens);
+  groups = omega (arith, one.groups, two.groups);
+  members = omega (arith, one.members, two.members);
+  nodes = omega (arith, one.nodes, two.nodes);
+  shares = omega (arith, one.shares, two.shares);
+  mounts = omega (arith, one.mounts, two.mounts);
+  versions = omega (arith, one.versions, two.versions);
+  items = omega (arith, one.items, two.items);
+  uploads = omega (arith, one.uploads, two.uploads);
+  chunks = omega (arith, one.chunks, two.chunks);
+}
+
 -- what is stored leaves the rows within the room, or within more
 stored_fit : (next : ℕ) (t : Tables) (meta : MetaRow) (changes : List Change) (room more : RowCounts) → Rising t.nodes → AreBorne next t changes
     → IsNoSmaller room more → FitsRows t room (added_of next changes) → FitsRows (record (put_all t changes) { meta = meta }) more (only_nodes 0)

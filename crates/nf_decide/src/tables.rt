@@ -12,7 +12,7 @@ ghost use Rattle.nf_words.specs.declared.answer.Report.TheVariants.{Done};
 ghost use Rattle.nf_words.specs.declared.answer.Allowed.TheVariants as allowed;
 ghost use Rattle.nf_decide.specs.Current.{AreBorne, AreGiven, BearsAct, BearsChanges, BearsCopies, BearsDeed, BearsDeeds, BearsPlace, IsBorne, IsCounted, IsDroppedKey, IsNew, IsRefilled, LeadUpBehind, StoresFirst, added_by, added_deed, added_deeds, added_of};
 ghost use Rattle.nf_decide.specs.Gone.{item_gone};
-ghost use Rattle.nf_decide.specs.Rows.{rows_of_others};
+ghost use Rattle.nf_decide.specs.Rows.{rows_beside, rows_of_others};
 ghost use Rattle.nf_rules.specs.Ruled.{AreRuled};
 ghost use Rattle.nf_decide.specs.Counts.{FitsNodes, FitsRows, IsNoSmaller, only_nodes};
 
@@ -202,7 +202,8 @@ impl Tables {
         requires room { FitsRows self.old.tables self.old.room (added_of self.old.tables.meta.next_node changes) }
         requires borne { AreBorne self.old.tables.meta.next_node self.old.tables changes }
         requires rising { AllPairs (λ (a b : NodeRow). a.id < b.id) self.old.tables.nodes }
-        ensures { self.new.tables ≡ put_all self.old.tables changes }
+        ensures tables { self.new.tables ≡ put_all self.old.tables changes }
+        ensures room { IsNoSmaller self.old.room self.new.room }
     {
         for change in changes.into_vec() {
             self.make(change);
@@ -474,6 +475,13 @@ impl Tables {
         push_nodes(list, self.tree.nodes())?;
         push_shares(list, self.shares.rows())?;
         push_mounts(list, self.mounts.rows())?;
+        self.push_beside(list)
+    }
+
+    /// Puts those of versions, of the trash and of uploads there.
+    fn push_beside(&self, list: &mut RowList) -> Result<(), AllocError>
+        ensures { OnOk result (list.new ≡ list.old ++ rows_beside self.now.tables) }
+    {
         push_versions(list, self.versions.rows())?;
         push_items(list, self.items.rows())?;
         push_uploads(list, self.uploads.uploads())?;
@@ -606,14 +614,28 @@ fn push_items(list: &mut RowList, items: &[ItemRow]) -> Result<(), AllocError>
     Ok(())
 }
 
+/// An equal upload.
+fn copy_upload(upload: &UploadRow) -> Result<UploadRow, AllocError>
+    ensures { IfOk result (λ copy. copy ≡ upload.now) }
+{
+    upload.clone()
+}
+
 /// Puts uploads at the end of a list of rows.
 fn push_uploads(list: &mut RowList, uploads: &[UploadRow]) -> Result<(), AllocError>
     ensures { OnOk result (list.new ≡ list.old ++ map kinds.Upload uploads.now) }
 {
     for upload in uploads {
-        list.push(Row::Upload(upload.clone()?))?;
+        list.push(Row::Upload(copy_upload(upload)?))?;
     }
     Ok(())
+}
+
+/// An equal chunk.
+fn copy_chunk(chunk: &ChunkRow) -> Result<ChunkRow, AllocError>
+    ensures { IfOk result (λ copy. copy ≡ chunk.now) }
+{
+    chunk.clone()
 }
 
 /// Puts chunks at the end of a list of rows.
@@ -621,7 +643,7 @@ fn push_chunks(list: &mut RowList, chunks: &[ChunkRow]) -> Result<(), AllocError
     ensures { OnOk result (list.new ≡ list.old ++ map kinds.Chunk chunks.now) }
 {
     for chunk in chunks {
-        list.push(Row::Chunk(chunk.clone()?))?;
+        list.push(Row::Chunk(copy_chunk(chunk)?))?;
     }
     Ok(())
 }

@@ -1,12 +1,11 @@
 //! What an act changes, told as a list of the rows that differ.
 
-ghost use Rattle.std.specs.Prelude.{◌≡◌, ◌+◌, ◌≤◌, count_by, max, true, false, [], ◌∷◌, ◌++◌, map, IfOk, OnOk};
+ghost use Rattle.std.specs.Prelude.{◌≡◌, count_by, true, false, [], ◌∷◌, ◌++◌, map, IfOk, OnOk};
 ghost use Rattle.std.specs.List.{flat_map};
 ghost use Rattle.nf_base.specs.declared.changes.Change.TheVariants as change;
 ghost use Rattle.nf_base.specs.declared.changes.RowKey.TheVariants as keys;
 ghost use Rattle.nf_base.specs.declared.rows.Row.TheVariants as kinds;
 ghost use Rattle.nf_defs.specs.Tree.{is_leaf, is_under, node_row, relinked, trashed};
-ghost use Rattle.nf_words.specs.Limits.{last_number};
 ghost use Rattle.nf_words.specs.Changes.{blob_of, changes_of, hold_of, meta_after, told, with_meta};
 ghost use Rattle.nf_words.specs.Versions.{forgotten_of};
 ghost use Rattle.nf_words.specs.Deeds.{closed_under, dropped_under, ended_row, gone_under, is_closing, told_deed, told_deeds, told_node};
@@ -86,9 +85,7 @@ fn told(alloc: Global, view: &View<'_>, act: &Allowed) -> Result<Changes, AllocE
         | Allowed::List(_)
         | Allowed::Put { .. }
         | Allowed::Chunk { .. }
-        | Allowed::Close => {
-            Ok(Changes::new(alloc))
-        }
+        | Allowed::Close => { Ok(Changes::new(alloc)) }
     }
 }
 
@@ -495,9 +492,7 @@ pub fn added_by(view: &View<'_>, act: &Allowed) -> RowCounts
         | Allowed::List(_)
         | Allowed::Put { .. }
         | Allowed::Chunk { .. }
-        | Allowed::Close => {
-            RowCounts::only_nodes(0)
-        }
+        | Allowed::Close => { RowCounts::only_nodes(0) }
         Allowed::Deeds { deeds, .. } => added_deeds(view.meta().next_node, deeds.as_slice()),
     }
 }
