@@ -1,16 +1,15 @@
 -- An upload that is joined is all its chunks, by rising number, or nothing is changed; and who has it then is charged for it.
-use Rattle.std.proofs.Common.{◌≡◌, ◌≢◌, ℕ, ◌+◌, ◌≤◌, ◌==◌, ◌&&◌, not, filter, length, bytes_eq, Bool, true, false, List, [], ◌∷◌, ◌++◌, Option, None, Some, Result, Ok, Err, if◌then◌else◌, refl, sym, ap, subst, ◌∙◌, arith, length-append}
+use Rattle.std.proofs.Common.{◌≡◌, ◌≢◌, ℕ, ◌≤◌, not, filter, Bool, true, false, List, [], ◌∷◌, ◌++◌, Option, Result, Ok, Err, if◌then◌else◌, refl, sym, ap, subst, ◌∙◌, arith, length-append}
 use Rattle.std.specs.Prelude.{IsOk}
-use Rattle.std.specs.Option.{option_and_then, option_map_or}
+use Rattle.std.specs.Option.{option_map_or}
 use Rattle.std.proofs.lemmas.Bool.{false_from_ne_true}
 use Rattle.nf_base.specs.declared.changes.Change.{Change}
 use Rattle.nf_base.specs.declared.changes.Change.TheVariants.{Drop}
 use Rattle.nf_base.specs.declared.changes.RowKey.TheVariants as keys
 use Rattle.nf_base.specs.declared.content.Piece.{Piece}
-use Rattle.nf_base.specs.declared.rows.ChunkRow.{ChunkRow}
 use Rattle.nf_base.specs.declared.rows.NodeKind.TheVariants.{File}
 use Rattle.nf_base.specs.declared.rows.NodeRow.{NodeRow}
-use Rattle.nf_defs.specs.Prelude.{node_key, node_row, owner_of, put, put_all, Tables}
+use Rattle.nf_defs.specs.Prelude.{node_row, owner_of, put_all, Tables}
 use Rattle.nf_defs.specs.declared.Found.{Found}
 use Rattle.nf_defs.specs.declared.Found.TheVariants.{At, Free, Missing}
 use Rattle.nf_laws.proofs.Abandoning.{upload_gone}
@@ -22,19 +21,16 @@ use Rattle.nf_laws.proofs.Plain.{assembled_filing, filing_rest}
 use Rattle.nf_laws.proofs.Puts.{put_other}
 use Rattle.nf_laws.proofs.Refilled.{added_made, filled_at, refilled_made}
 use Rattle.nf_laws.proofs.Rows.{stamp, stamped_some}
-use Rattle.nf_laws.specs.Access.{IsThatUpload}
 use Rattle.nf_laws.specs.Charges.{bytes_there, charged_at, IsCharged, JoinsAreCharged}
 use Rattle.nf_laws.specs.Uploads.{file_at, HasContent, IsJoined, JoinsAreWhole, RefusedJoinsKeep}
 use Rattle.nf_words.proofs.Begins.{wanted_passes, WantedPasses}
 use Rattle.nf_words.proofs.Ends.{known_change}
 use Rattle.nf_words.proofs.Fits.{put_found}
 use Rattle.nf_words.proofs.Known.{Known}
-use Rattle.nf_words.proofs.Passing.{Passes}
 use Rattle.nf_words.proofs.Starts.{has_asker}
 use Rattle.nf_words.proofs.Wholes.{chunks_numbers_rise}
-use Rattle.nf_words.specs.Prelude.{abandoned, access_of, after, after_mark, allowed_of, answer_at, answered_by, AreSound, asker_of, assembled, assembled_at, Call, call_decision, call_of, changed, charged, chunk_row, content_size, decision_of, deeds_done, drop_version, found, IsSound, is_chunk_of, last_name, MayAsk, MayCome, MayWant, new_node, refilled, replaced, State, told, told_chunks, unsettled, upload_row, whole_of}
+use Rattle.nf_words.specs.Prelude.{abandoned, access_of, after, after_mark, allowed_of, answer_at, answered_by, AreSound, asker_of, assembled, assembled_at, Call, call_of, changed, charged, chunk_row, content_size, decision_of, found, IsSound, is_chunk_of, last_name, MayAsk, MayCome, MayWant, new_node, refilled, replaced, State, told, told_chunks, unsettled, upload_row, whole_of}
 use Rattle.nf_words.specs.declared.answer.Allowed.{Allowed}
-use Rattle.nf_words.specs.declared.answer.Deed.TheVariants as deed
 use Rattle.nf_words.specs.declared.answer.Denial.{Denial}
 use Rattle.nf_words.specs.declared.history.Entry.{Entry}
 use Rattle.nf_words.specs.declared.history.Event.{Event}
@@ -60,11 +56,8 @@ none_kept {X = X} test (x ∷ xs) = here (test x) refl (none_kept test xs)
     here false e rest = simp e rest
 
 module _ (t : Tables) (now : ℕ) (name : List ℕ) (user : ℕ) (dir : List ℕ) (place : Found) where
-  abbrev content : List Piece
-  content = whole_of t.chunks user dir
-
   abbrev changes : List Change
-  changes = assembled_at t now name content place
+  changes = assembled_at t now name (whole_of t.chunks user dir) place
 
   abbrev stored : Tables
   stored = replaced t changes
@@ -85,7 +78,7 @@ module _ (t : Tables) (now : ℕ) (name : List ℕ) (user : ℕ) (dir : List ℕ
 
   -- just nodes and versions are stored
   stored_rest : put_all t changes ≡ record t { nodes = (put_all t changes).nodes; versions = (put_all t changes).versions }
-  stored_rest = filing_rest t changes (assembled_filing t now name content place)
+  stored_rest = filing_rest t changes (assembled_filing t now name (whole_of t.chunks user dir) place)
 
 -- the file has the content, and no other node is another
 record HasFile (t : Tables) (now : ℕ) (name : List ℕ) (content : List Piece) (place : Found) (nodes : List NodeRow) : Type 0 where
@@ -150,6 +143,10 @@ module _ (n : ℕ) (s : State) (e : Entry) (words : Words) (request : Request) (
   done mark.Store ok same = absurd (cc)
   done mark.Memory ok same = absurd (cc)
 
+  -- but for the meta row, nodes, versions, uploads and chunks all is as it was
+  abbrev KeepsRest : Tables → Type 0
+  KeepsRest u = u ≡ record t { meta = u.meta; nodes = u.nodes; versions = u.versions; uploads = u.uploads; chunks = u.chunks }
+
   whole : IsDone → IsJoined call dir spot (stamp (made t e.moment (last_name spot) asker dir place) e.moment)
   whole is =
       let file = joined_file t e.moment (last_name spot) (whole_of t.chunks asker dir) place sound.rows is.placed in
@@ -167,7 +164,8 @@ module _ (n : ℕ) (s : State) (e : Entry) (words : Words) (request : Request) (
         chunks = λ user of number other.
             leaves.chunks user of number (false_from_ne_true (is_that asker dir user of) (λ same. other (that_is asker dir user of same)))
             ∙ ap (λ (u : Tables). chunk_row u.chunks user of number) rest;
-        rest = ap (λ (u : Tables). stamp (abandoned (record u { meta = (stored t e.moment (last_name spot) asker dir place).meta }) asker dir) e.moment) rest;
+        rest = subst (λ (u : Tables). KeepsRest (stamp (abandoned (record u { meta = (stored t e.moment (last_name spot) asker dir place).meta }) asker dir) e.moment))
+            (sym rest) refl;
       }
 
   later : t.meta.last ≤ e.moment

@@ -17,6 +17,7 @@ pub mod Stacked
 pub mod Stays
 pub mod Unbroken
 pub mod Settled
+pub mod Storing
 pub mod Held
 pub mod Dropped
 pub mod TurnedOver
