@@ -1,5 +1,6 @@
 pub mod About
 pub mod Askers
+pub mod Assembling
 pub mod Bears
 pub mod Closing
 pub mod Copies

@@ -1,6 +1,6 @@
 //! The rules that refuse a request, and what a request that none of them refuses may do.
 
-ghost use Rattle.std.specs.Prelude.{◌≡◌, ◌≤◌, IfOk, IfSome, OnOk, None, Some, false, length, option_and_then, option_copied, option_map};
+ghost use Rattle.std.specs.Prelude.{◌≡◌, ◌≤◌, IfOk, IfSome, MatchResult, OnOk, None, Some, false, length, option_and_then, option_copied, option_map};
 ghost use Rattle.std.specs.Option.{option_map_or, option_or};
 ghost use Rattle.nf_base.specs.declared.limits.TheConstants.{MAX_DEPTH};
 ghost use Rattle.nf_defs.specs.Prelude.{found_from, is_folder, user_row};
@@ -208,6 +208,7 @@ impl<'a> Call<'a> {
         ensures ways { IfOk result (λ seen. seen.ways ≡ ways_of self.entry.now) }
         ensures places { IfOk result (λ seen. seen.places ≡ places_of self.entry.now) }
         ensures offer { IfOk result (λ seen. seen.offer ≡ offer_in self.entry.now self.entry.now.request.wanted) }
+        ensures exists { IfOk result (λ _. exists_rule (access_of self.entry.now.state) self.entry.now ≡ None) }
         ensures named { IfOk result (λ _. IsNamed self.entry.now) }
         ensures there { IfOk result (λ seen. IsThere self.entry.now.state.tables seen.offer) }
     {
@@ -250,6 +251,7 @@ impl<'a> Call<'a> {
         requires places { places.now ≡ places_of self.now }
         requires offer { offer.now ≡ offer_in self.now self.now.request.wanted }
         ensures rules { Follows (place_refusal (access_of self.entry.now.state)) self.entry.now result }
+        ensures exists { OnOk result (exists_rule (access_of self.entry.now.state) self.entry.now ≡ None) }
         ensures target { OnOk result (target_rule (access_of self.entry.now.state) self.entry.now ≡ None) }
     {
         self.exists(caller, places)?;
@@ -430,6 +432,8 @@ impl<'a> Call<'a> {
         requires ways { seen.now.ways ≡ ways_of self.now }
         requires places { seen.now.places ≡ places_of self.now }
         requires offer { seen.now.offer ≡ offer_in self.now self.now.request.wanted }
+        requires caller { seen.now.caller ≡ asker_of self.now }
+        requires exists { exists_rule (access_of self.now.state) self.now ≡ None }
         requires named { IsNamed self.now }
         requires there { IsThere self.now.state.tables seen.now.offer }
         requires few { limited self.now.state.tables (places_of self.now) (asked_by self.now).makes ≡ None }
@@ -530,8 +534,8 @@ impl<'a> Call<'a> {
 }
 
 /// Passes unless there is a refusal.
-pub(crate) fn unless(refusal: Option<Denial>) -> Result<(), Denial>
-    ensures { result ≡ option_map_or Err refusal (Ok tt) }
+fn unless(refusal: Option<Denial>) -> Result<(), Denial>
+    ensures { MatchResult result (λ _. refusal ≡ None) (λ why. refusal ≡ Some why) }
 {
     match refusal {
         Some(refusal) => Err(refusal),

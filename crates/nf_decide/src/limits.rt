@@ -29,14 +29,14 @@ use std::alloc::{AllocError, Global};
 pub(crate) fn limit_at(view: &View<'_>, place: &Found, pieces: u64) -> Option<Limit>
     ensures { result ≡ limit_at view.now.tables pieces place.now }
 {
-    limit_with(view, place, pieces, pieces)
+    limit_with(view, place, u128::from(pieces), pieces)
 }
 
 /// The same where so many of them are in new blobs.
 pub(crate) fn limit_with(
     view: &View<'_>,
     place: &Found,
-    pieces: u64,
+    pieces: u128,
     blobs: u64,
 ) -> Option<Limit>
     ensures { result ≡ limit_with view.now.tables pieces blobs place.now }
@@ -44,11 +44,11 @@ pub(crate) fn limit_with(
     match place {
         Found::At(node) => {
             let versions = versions_added(view, *node, None);
-            limit_passed(view, 0, 0, versions, u128::from(pieces), blobs)
+            limit_passed(view, 0, 0, versions, pieces, blobs)
         }
         Found::Free { folder } => {
             let deep = view.tree().depth(*folder) + 1;
-            limit_passed(view, 1, deep, 0, u128::from(pieces), blobs)
+            limit_passed(view, 1, deep, 0, pieces, blobs)
         }
         Found::Missing { .. } => None,
     }

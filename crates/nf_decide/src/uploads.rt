@@ -1,9 +1,11 @@
 //! Uploads in chunks: the rules of what is asked about them, and what it does.
 
-ghost use Rattle.std.specs.Prelude.{◌≡◌, ◌≢◌, ◌≤◌, IfOk, None, Some, is_none, option_and_then, option_copied};
-ghost use Rattle.nf_defs.specs.declared.Found.TheVariants.{Free};
-ghost use Rattle.nf_words.specs.Prelude.{access_of, AreSound, asker_of, assembled, assembled_at, assembled_excess, chunk_fault, chunk_limit, chunk_sent, dir_asked, fault_with, IsInBounds, joined_report, last_name, new_limit, opened_by, places_of, strays, unopened, upload_begun, upload_done, upload_limit, upload_row, upload_rule, whole_of};
-ghost use Rattle.nf_words.specs.declared.request.UploadAsk.TheVariants as upload;
+ghost use Rattle.std.specs.Prelude.{◌≡◌, ◌≢◌, ◌≤◌, ℕ, [], IfOk, None, false, option_copied};
+ghost use Rattle.std.specs.Option.{option_map_or};
+ghost use Rattle.nf_defs.specs.Prelude.{is_folder};
+ghost use Rattle.nf_defs.specs.declared.Found.TheVariants.{At, Free};
+ghost use Rattle.nf_words.specs.Prelude.{access_of, AreSound, asker_of, assembled, assembled_at, assembled_excess, chunk_fault, chunk_number, chunk_sent, content_size, dir_asked, exists_rule, fault_with, join_fault, joined_report, last_name, new_limit, nothing_done, opened_by, places_of, unopened, upload_begun, upload_done, upload_limit, upload_row, upload_rule, whole_of};
+ghost use Rattle.nf_words.specs.declared.answer.Deed.TheVariants as deeds;
 ghost use Rattle.nf_words.specs.declared.request.Wanted.TheVariants as wanted;
 ghost use Rattle.nf_decide.specs.Deciding.{Follows};
 
@@ -17,7 +19,7 @@ use crate::limits::{limit_with, passes};
 use crate::quotas::excess_at;
 use crate::refilling::refilled;
 use crate::shared::nothing_done;
-use nf_base::{Change, Changes, ChunkRow, Name, Path, Row, UploadRow, UserId};
+use nf_base::{Change, Changes, Content, Name, Path, Row, UploadRow, UserId};
 use nf_defs::Found;
 use nf_uploads::chunk_number;
 use nf_words::{
@@ -59,6 +61,24 @@ impl<'a> Call<'a> {
         ensures { option_copied result ≡ upload_row self.entry.now.state.tables.uploads caller dir.now }
     {
         self.view.uploads().find(caller, dir)
+    }
+
+    /// The bytes that the chunks of an upload have.
+    #[tactic(auto, using(crate::proofs::Assembling::whole_pending))]
+    fn sum(&self, user: UserId, dir: &Name) -> u64
+        requires { AreSound self.now.state.tables }
+        ensures { result ≡ content_size (whole_of self.entry.now.state.tables.chunks user dir.now) }
+    {
+        self.view.uploads().sum(user, dir) as u64
+    }
+
+    /// What they have, one after the other.
+    #[tactic(auto, using(nf_words::proofs::Wholes::whole_few))]
+    fn whole(&self, alloc: Global, user: UserId, dir: &Name) -> Result<Content, AllocError>
+        requires { AreSound self.now.state.tables }
+        ensures { IfOk result (λ content. content ≡ whole_of self.entry.now.state.tables.chunks user dir.now) }
+    {
+        self.view.uploads().whole(alloc, user, dir)
     }
 
     /// `exists`: the caller has an upload of the name that a new one is to have.
@@ -115,7 +135,7 @@ impl<'a> Call<'a> {
             return Some(UploadFault::Destination);
         }
         let declared = total?;
-        let sum = self.view.uploads().sum(row.user, &row.dir) as u64;
+        let sum = self.sum(row.user, &row.dir);
         if declared == sum {
             None
         } else {
@@ -146,8 +166,7 @@ impl<'a> Call<'a> {
             } => chunk_limit(view, caller, dir, *length, chunk_number(name)?),
             UploadAsk::Drop { .. } => None,
             UploadAsk::Join { dir, .. } => {
-                let pieces = pieces_in(view.uploads().chunks_of(caller, dir));
-                limit_with(view, &places.target?, pieces, 0)
+                limit_with(view, &places.target?, view.uploads().pieces_in(caller, dir), 0)
             }
         }
     }
@@ -173,24 +192,11 @@ impl<'a> Call<'a> {
     {
         match &self.request.wanted {
             Wanted::Upload(UploadAsk::Join { dir, .. }) => {
-                let sum = self.view.uploads().sum(caller, dir) as u64;
-                excess_at(&self.view, &places.target?, sum)
+                excess_at(&self.view, &places.target?, self.sum(caller, dir))
             }
             _ => None,
         }
     }
-}
-
-/// How many pieces some chunks have together.
-fn pieces_in(chunks: &[ChunkRow]) -> u64
-    requires { length (flat_map (λ row. row.content) chunks.now) ≤ MAX_PIECES }
-    ensures { result ≡ length (flat_map (λ row. row.content) chunks.now) }
-{
-    let mut count = 0;
-    for chunk in chunks {
-        count += chunk.content.pieces().len() as u64;
-    }
-    count
 }
 
 /// What doesn't fit an upload of which a chunk is sent.
@@ -211,6 +217,7 @@ fn chunk_fault(row: &UploadRow, name: &Name, to: Option<&Path>) -> Option<Upload
 
 impl<'a> Call<'a> {
     /// What is done of what is asked about uploads.
+    #[tactic(auto, using(crate::proofs::Assembling::name_given, crate::proofs::Assembling::not_over_folder))]
     pub(crate) fn upload_done(
         &self,
         alloc: Global,
@@ -222,6 +229,8 @@ impl<'a> Call<'a> {
         requires late { self.now.state.tables.meta.last ≤ self.now.now }
         requires caller { caller ≡ asker_of self.now }
         requires target { target ≡ (places_of self.now).target }
+        requires asked { self.now.request.wanted ≡ wanted.Upload ask.now }
+        requires exists { exists_rule (access_of self.now.state) self.now ≡ None }
         ensures { IfOk result (λ allowed. allowed ≡ upload_done self.entry.now (places_of self.entry.now) ask.now) }
     {
         match ask {
@@ -278,6 +287,7 @@ impl<'a> Call<'a> {
     ) -> Result<Allowed, AllocError>
         requires sound { AreSound self.now.state.tables }
         requires late { self.now.state.tables.meta.last ≤ self.now.now }
+        requires file { (node : ℕ) → place.now ≡ At node → is_folder self.now.state.tables.nodes node ≡ false }
         requires named { (folder : ℕ) → place.now ≡ Free folder → spot.now.path ≢ [] }
         ensures { IfOk result (λ allowed. allowed ≡ assembled self.entry.now.state.tables self.entry.now.now (last_name spot.now) caller dir.now place.now) }
     {
@@ -298,17 +308,18 @@ impl<'a> Call<'a> {
     ) -> Result<Changes, AllocError>
         requires sound { AreSound self.now.state.tables }
         requires late { self.now.state.tables.meta.last ≤ self.now.now }
+        requires file { (node : ℕ) → place.now ≡ At node → is_folder self.now.state.tables.nodes node ≡ false }
         requires named { (folder : ℕ) → place.now ≡ Free folder → spot.now.path ≢ [] }
         ensures { IfOk result (λ changes. changes ≡ assembled_at self.entry.now.state.tables self.entry.now.now (last_name spot.now) (whole_of self.entry.now.state.tables.chunks caller dir.now) place.now) }
     {
         let (view, moment) = (&self.view, self.now);
         match place {
             Found::At(node) => {
-                let content = view.uploads().whole(alloc, caller, dir)?;
+                let content = self.whole(alloc, caller, dir)?;
                 refilled(alloc, view, moment, *node, content)
             }
             Found::Free { folder } => {
-                let content = view.uploads().whole(alloc, caller, dir)?;
+                let content = self.whole(alloc, caller, dir)?;
                 new_file(alloc, view, moment, *folder, last_name(spot)?, content)
             }
             Found::Missing { .. } => Ok(Changes::new(alloc)),

@@ -1,6 +1,6 @@
 //! What some chunks have together.
 
-ghost use Rattle.std.specs.Prelude.{◌≡◌, ◌≤◌, length, sum_by, IfOk};
+ghost use Rattle.std.specs.Prelude.{◌≡◌, ◌*◌, ◌≤◌, length, sum_by, IfOk};
 ghost use Rattle.std.specs.List.{flat_map};
 ghost use Rattle.nf_base.specs.declared.limits.TheConstants.{MAX_PIECES};
 ghost use Rattle.nf_words.specs.Versions.{content_size};
@@ -21,7 +21,8 @@ pub(crate) fn bytes_of(rows: &[ChunkRow]) -> u128
 
 /// How many pieces some chunks have.
 pub(crate) fn pieces_of(rows: &[ChunkRow]) -> u128
-    ensures { result ≡ sum_by (λ row. length row.content) rows.now }
+    ensures count { result ≡ sum_by (λ row. length row.content) rows.now }
+    ensures few { result ≤ MAX_PIECES * length rows.now }
 {
     let mut sum = 0;
     for row in rows {

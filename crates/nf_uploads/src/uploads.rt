@@ -1,8 +1,9 @@
 //! The uploads as callers see them.
 
-ghost use Rattle.std.specs.Prelude.{◌≡◌, ◌+◌, ◌≤◌, ◌<◌, ◌∷◌, None, not, filter, length, sum_by, IfOk, OnOk, option_copied};
+ghost use Rattle.std.specs.Prelude.{◌≡◌, ◌+◌, ◌*◌, ◌≤◌, ◌<◌, ◌∷◌, None, not, filter, length, sum_by, IfOk, OnOk, option_copied};
 ghost use Rattle.nf_base.specs.declared.limits.TheConstants.{MAX_PIECES};
 ghost use Rattle.nf_defs.specs.Prelude.{dropped, IsRising, chunk_key, put, upload_key};
+ghost use Rattle.nf_words.specs.Limits.{last_number};
 ghost use Rattle.nf_words.specs.Uploads.{chunk_row, chunks_of, is_chunk_of, pending_of, upload_row, uploads_of, whole_of};
 ghost use Rattle.nf_words.specs.Versions.{content_size};
 
@@ -124,9 +125,17 @@ impl Uploads {
 
     /// How many pieces all chunks have.
     pub fn pieces(&self) -> u128
-        ensures { result ≡ sum_by (λ row. length row.content) self.now.chunks }
+        ensures count { result ≡ sum_by (λ row. length row.content) self.now.chunks }
+        ensures few { result ≤ MAX_PIECES * last_number }
     {
         pieces_of(self.chunks.rows())
+    }
+
+    /// How many pieces the chunks of a user's upload have.
+    pub fn pieces_in(&self, user: UserId, dir: &Name) -> u128
+        ensures { result ≡ length (whole_of self.now.chunks user dir.now) }
+    {
+        pieces_of(self.chunks_of(user, dir))
     }
 
     /// The bytes that the chunks of a user's upload have.
