@@ -1,6 +1,6 @@
 -- What the chunks of an upload have together, and where that is stored: over a file, or under a name.
 use Rattle.std.proofs.Common.{◌≡◌, ◌≢◌, ℕ, ◌≤◌, ◌==◌, ◌&&◌, Bool, true, false, List, [], ◌∷◌, bytes_eq, filter, if◌then◌else◌, sum_by, Option, refl, sym, ap, subst, ◌∙◌, arith}
-use Rattle.std.specs.Prelude.{None, Some}
+use Rattle.std.specs.Prelude.{None, Some, option_and_then}
 use Rattle.std.proofs.lemmas.List.Sums.{sum_by-cons}
 use Rattle.nf_base.specs.declared.content.Piece.{Piece}
 use Rattle.nf_base.specs.declared.rows.ChunkRow.{ChunkRow}
@@ -12,11 +12,14 @@ use Rattle.nf_defs.specs.declared.Seeker.TheVariants as seeker
 use Rattle.nf_uploads.proofs.Wholes.{sum_joined}
 use Rattle.nf_words.proofs.Passing.{exists_passes}
 use Rattle.nf_words.specs.Calls.{mount_for}
-use Rattle.nf_words.specs.Prelude.{access_of, AreSound, asked_of, Call, chunks_of, content_size, exists_rule, found, is_there, pending_of, places_by, places_of, root_of, seeker_of, taken, way_by, ways_for, whole_of}
+use Rattle.nf_words.specs.Prelude.{access_of, AreSound, asked_of, asker_of, assembled_excess, Call, chunks_of, content_size, excess_at, exists_rule, found, is_there, pending_of, places_by, places_of, root_of, seeker_of, taken, way_by, ways_for, whole_of}
 use Rattle.nf_words.specs.declared.answer.Denial.{Denial}
 use Rattle.nf_words.specs.declared.answer.Denial.TheVariants as denial
+use Rattle.nf_words.specs.declared.answer.Excess.{Excess}
 use Rattle.nf_words.specs.declared.limits.TheConstants.{MAX_PENDING}
+use Rattle.nf_words.specs.declared.request.Places.{Places}
 use Rattle.nf_words.specs.declared.request.Spot.{Spot}
+use Rattle.nf_words.specs.declared.request.UploadAsk.{UploadAsk}
 use Rattle.nf_words.specs.declared.request.UploadAsk.TheVariants as upload
 use Rattle.nf_words.specs.declared.request.Wanted.{Wanted}
 use Rattle.nf_words.specs.declared.request.Wanted.TheVariants as wanted
@@ -95,3 +98,16 @@ module _ (call : Call) (dir : List ℕ) (spot : Spot) (total : Option ℕ) (aske
       here : (b : Bool) → (if b then Some (denial.Exists Assembly) else None) ≡ None → b ≡ false
       here false none = refl
       here true none = absurd (cc)
+
+-- ---- what is charged for it
+
+-- what the chunks have together is charged at the target
+pub excess_joined : (call : Call) (ask : UploadAsk) (dir : List ℕ) (spot : Spot) (total : Option ℕ) (places : Places) (sum : ℕ) (over : Option Excess)
+    → call.request.wanted ≡ wanted.Upload ask → ask ≡ upload.Join dir spot total → places ≡ places_of call
+    → sum ≡ content_size (whole_of call.state.tables.chunks (asker_of call) dir)
+    → over ≡ option_and_then (excess_at call.state.tables sum) places.target → over ≡ assembled_excess call call.request.wanted
+excess_joined call ask dir spot total places sum over asked joins leads size is =
+    is
+    ∙ ap (λ (n : ℕ). option_and_then (excess_at call.state.tables n) places.target) size
+    ∙ ap (λ (all : Places). option_and_then (excess_at call.state.tables (content_size (whole_of call.state.tables.chunks (asker_of call) dir))) all.target) leads
+    ∙ sym (ap (assembled_excess call) (asked ∙ ap wanted.Upload joins))

@@ -1,4 +1,5 @@
 pub mod About
+pub mod Allowing
 pub mod Askers
 pub mod Assembling
 pub mod Bears

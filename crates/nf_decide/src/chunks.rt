@@ -58,9 +58,11 @@ pub(crate) fn chunk_limit(
     let pieces = pieces_of(length);
     match limit_passed(view, 0, 0, 0, u128::from(pieces), pieces) {
         Some(limit) => Some(limit),
-        None if passes(pending_with(view, user, dir, number, length), Limit::Pending) => {
-            Some(Limit::Pending)
-        }
+        None
+            if passes(
+                pending_with(view, user, dir, number, length),
+                Limit::Pending,
+            ) => { Some(Limit::Pending) }
         None => None,
     }
 }
@@ -120,11 +122,7 @@ fn push_chunk(view: &View<'_>, row: ChunkRow, changes: &mut Changes) -> Result<(
 }
 
 /// An upload is touched, if it was at another moment.
-fn push_touched(
-    moment: Moment,
-    upload: &UploadRow,
-    changes: &mut Changes,
-) -> Result<(), AllocError>
+fn push_touched(moment: Moment, upload: &UploadRow, changes: &mut Changes) -> Result<(), AllocError>
     ensures { OnOk result (changes.new ≡ changes.old ++ upload_touched moment upload.now) }
 {
     if upload.touched == moment {

@@ -245,6 +245,7 @@ impl<'a> Call<'a> {
         places: &Places,
         offer: &Option<Offer>,
     ) -> Result<(), Denial>
+        requires sound { AreSound self.now.state.tables }
         requires asker { asker.now ≡ asking_of self.now }
         requires caller { caller ≡ asker_of self.now }
         requires ways { ways.now ≡ ways_of self.now }
@@ -295,20 +296,15 @@ impl<'a> Call<'a> {
         unless(asker.target_lost(ways))
     }
 
-    #[tactic(auto, using(nf_reach::proofs::Refusals::first_of_both), unfolding(nf_words::specs::Reached::acts_rule))]
+    #[tactic(auto, using(crate::proofs::Allowing::acts_by))]
     fn allows(&self, asker: &Asker<'_>, ways: &Ways) -> Result<(), Denial>
         requires asker { asker.now ≡ asking_of self.now }
         requires ways { ways.now ≡ ways_of self.now }
         ensures { Follows (acts_rule (access_of self.entry.now.state)) self.entry.now result }
     {
         let asked = self.request.wanted.asked();
-        match asker.acts(&asked, ways) {
-            Some(refusal) => Err(refusal),
-            None => match self.version_refused(asker) {
-                Some(refusal) => Err(refusal),
-                None => Ok(()),
-            },
-        }
+        unless(asker.acts(&asked, ways))?;
+        unless(self.version_refused(asker))
     }
 
     #[tactic(auto, unfolding(nf_words::specs::Places::exists_rule))]
@@ -578,7 +574,7 @@ fn limit_there(view: &View<'_>, place: Option<Found>, pieces: u64) -> Option<Lim
     limit_at(view, &place?, pieces)
 }
 
-fn excess_there(view: &View<'_>, place: Option<Found>, length: u64) -> Option<Excess>
+pub(crate) fn excess_there(view: &View<'_>, place: Option<Found>, length: u64) -> Option<Excess>
     requires { AreSound view.now.tables }
     ensures { result ≡ option_and_then (excess_at view.now.tables length) place }
 {

@@ -33,12 +33,7 @@ pub(crate) fn limit_at(view: &View<'_>, place: &Found, pieces: u64) -> Option<Li
 }
 
 /// The same where so many of them are in new blobs.
-pub(crate) fn limit_with(
-    view: &View<'_>,
-    place: &Found,
-    pieces: u128,
-    blobs: u64,
-) -> Option<Limit>
+pub(crate) fn limit_with(view: &View<'_>, place: &Found, pieces: u128, blobs: u64) -> Option<Limit>
     ensures { result ≡ limit_with view.now.tables pieces blobs place.now }
 {
     match place {

@@ -28,11 +28,7 @@ pub fn swept(alloc: Global, view: &View<'_>, moment: Moment) -> Result<Allowed, 
 }
 
 /// Uploads go that nobody sent a chunk of for a day.
-fn push_idle(
-    deeds: &mut Vec<Deed>,
-    moment: Moment,
-    uploads: &[UploadRow],
-) -> Result<(), AllocError>
+fn push_idle(deeds: &mut Vec<Deed>, moment: Moment, uploads: &[UploadRow]) -> Result<(), AllocError>
     ensures { OnOk result (deeds.new.items ≡ deeds.old.items ++ abandons (filter (is_idle moment) uploads.now)) }
 {
     for upload in uploads {

@@ -12,11 +12,10 @@ ghost use Rattle.nf_decide.specs.Deciding.{Follows};
 use crate::acting::last_name;
 use crate::asked::node_found;
 use crate::chunks::chunk_limit;
-use crate::deciding::Call;
+use crate::deciding::{Call, excess_there};
 use crate::discarding::done;
 use crate::ending::new_file;
 use crate::limits::{limit_with, passes};
-use crate::quotas::excess_at;
 use crate::refilling::refilled;
 use crate::shared::nothing_done;
 use nf_base::{Change, Changes, Content, Name, Path, Row, UploadRow, UserId};
@@ -34,9 +33,8 @@ fn dir_asked(ask: &UploadAsk) -> Option<&Name>
 {
     match ask {
         UploadAsk::New { .. } => None,
-        UploadAsk::Chunk { dir, .. } | UploadAsk::Drop { dir, .. } | UploadAsk::Join { dir, .. } => {
-            Some(dir)
-        }
+        UploadAsk::Chunk { dir, .. } | UploadAsk::Drop { dir, .. } | UploadAsk::Join { dir, .. } =>
+            { Some(dir) }
     }
 }
 
@@ -166,7 +164,12 @@ impl<'a> Call<'a> {
             } => chunk_limit(view, caller, dir, *length, chunk_number(name)?),
             UploadAsk::Drop { .. } => None,
             UploadAsk::Join { dir, .. } => {
-                limit_with(view, &places.target?, view.uploads().pieces_in(caller, dir), 0)
+                limit_with(
+                    view,
+                    &places.target?,
+                    view.uploads().pieces_in(caller, dir),
+                    0,
+                )
             }
         }
     }
@@ -192,7 +195,7 @@ impl<'a> Call<'a> {
     {
         match &self.request.wanted {
             Wanted::Upload(UploadAsk::Join { dir, .. }) => {
-                excess_at(&self.view, &places.target?, self.sum(caller, dir))
+                excess_there(&self.view, places.target, self.sum(caller, dir))
             }
             _ => None,
         }
