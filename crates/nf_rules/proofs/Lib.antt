@@ -23,3 +23,4 @@ pub mod Dropped
 pub mod TurnedOver
 pub mod Blobs
 pub mod Uploads
+pub mod Heaped
