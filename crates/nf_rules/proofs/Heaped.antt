@@ -43,7 +43,7 @@ first_or first x xs (suc k, within, is) = inr (k, omega (arith, within), is)
 none_among : {X : Type 0} (x : X) → Contains [] x → ⊥
 none_among x is = omega (arith, is.1)
 
-left_among : {X : Type 0} (xs ys : List X) (x : X) → Contains xs x → Contains (xs ++ ys) x
+pub left_among : {X : Type 0} (xs ys : List X) (x : X) → Contains xs x → Contains (xs ++ ys) x
 left_among [] ys x is = absurd (none_among x is)
 left_among (first ∷ xs) ys x is =
     elim (first_or first x xs is) [
@@ -51,7 +51,7 @@ left_among (first ∷ xs) ys x is =
       | inr more ↦ next first x (xs ++ ys) (left_among xs ys x more)
     ]
 
-right_among : {X : Type 0} (xs ys : List X) (x : X) → Contains ys x → Contains (xs ++ ys) x
+pub right_among : {X : Type 0} (xs ys : List X) (x : X) → Contains ys x → Contains (xs ++ ys) x
 right_among [] ys x is = is
 right_among (first ∷ xs) ys x is = next first x (xs ++ ys) (right_among xs ys x is)
 

@@ -24,3 +24,4 @@ pub mod TurnedOver
 pub mod Blobs
 pub mod Uploads
 pub mod Heaped
+pub mod Reckoned
