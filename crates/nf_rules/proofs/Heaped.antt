@@ -40,7 +40,7 @@ pub first_or : {X : Type 0} (first x : X) (xs : List X) → Contains (first ∷ 
 first_or first x xs (zero, within, is) = inl is
 first_or first x xs (suc k, within, is) = inr (k, omega (arith, within), is)
 
-none_among : {X : Type 0} (x : X) → Contains [] x → ⊥
+pub none_among : {X : Type 0} (x : X) → Contains [] x → ⊥
 none_among x is = omega (arith, is.1)
 
 pub left_among : {X : Type 0} (xs ys : List X) (x : X) → Contains xs x → Contains (xs ++ ys) x

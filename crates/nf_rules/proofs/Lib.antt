@@ -25,3 +25,4 @@ pub mod Blobs
 pub mod Uploads
 pub mod Heaped
 pub mod Reckoned
+pub mod Leavings

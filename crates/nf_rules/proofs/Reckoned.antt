@@ -105,7 +105,7 @@ pub record IsReckoned (t after : Tables) (now : ℕ) (leave : List ℕ) (user : 
 abbrev pub IsSpared : Tables → List ℕ → ℕ → Type 0
 IsSpared t leave user = (node : ℕ) → Contains leave node → owner_of t.nodes node ≢ user
 
-owner_is : (t : Tables) (row : NodeRow) → node_row t.nodes row.id ≡ Some row → owner_of t.nodes row.id ≡ row.owner
+pub owner_is : (t : Tables) (row : NodeRow) → node_row t.nodes row.id ≡ Some row → owner_of t.nodes row.id ≡ row.owner
 owner_is t row there = ap (λ (o : Option NodeRow). option_map_or (λ (row : NodeRow). row.owner) o 0) there
 
 module _ (t u : Tables) (now : ℕ) (leave : List ℕ) (IsPut : ℕ → Type 0) (sound : AreSound t) (acted : Acted t u now leave IsPut) (either : AreEither IsPut)
