@@ -1,5 +1,5 @@
 -- The trash of each user stays within its bound by every step.
-use Rattle.std.proofs.Common.{◌≡◌, ◌≢◌, ◌≤◌, ◌==◌, ◌/◌, ◌⊎◌, ℕ, zero, suc, inl, inr, not, Bool, true, false, List, [], ◌∷◌, ◌++◌, ◌∙◌, drop, filter, get_or, length, map, sum, sum_by, take, bytes_eq, Option, None, Some, refl, sym, ap, subst, arith}
+use Rattle.std.proofs.Common.{◌≡◌, ◌≢◌, ◌≤◌, ◌==◌, ◌/◌, ◌⊎◌, ℕ, zero, suc, inl, inr, not, Bool, false, List, [], ◌∷◌, ◌++◌, ◌∙◌, drop, filter, get_or, map, sum, sum_by, take, bytes_eq, Option, None, Some, refl, sym, ap, subst, arith}
 use Rattle.std.specs.List.{All, AllPairs, Contains}
 use Rattle.std.specs.Option.{option_and_then, option_map_or}
 use Rattle.std.proofs.Math.Nat.{div-mul-le_self}
@@ -11,7 +11,7 @@ use Rattle.std.proofs.lemmas.List.Elements.{All-cons, All-contains, All-contains
 use Rattle.std.proofs.lemmas.List.Filters.{sum_by-filter_both}
 use Rattle.std.proofs.lemmas.List.Kept.{AllPairs-filter}
 use Rattle.std.proofs.lemmas.List.Sums.{sum-map, sum_by-cons}
-use Rattle.std.proofs.lemmas.Option.{none-some, option_and_then_some, same_Some}
+use Rattle.std.proofs.lemmas.Option.{none-some, option_and_then_some}
 use Rattle.nf_base.specs.declared.rows.ItemRow.{ItemRow}
 use Rattle.nf_base.specs.declared.rows.NodeRow.{NodeRow}
 use Rattle.nf_defs.proofs.ByName.{Contains-filter, Contains-map}

@@ -1,5 +1,5 @@
 -- A DELETE, a MOVE and a COPY leave each user's trash within its bound.
-use Rattle.std.proofs.Common.{◌≡◌, ◌≢◌, ◌<◌, ◌≤◌, ◌==◌, ◌⊎◌, ℕ, zero, suc, inl, inr, Bool, true, false, List, [], ◌∷◌, ◌++◌, ◌+◌, ◌∙◌, length, flat_map, get_or, Option, None, Some, refl, sym, ap, subst, arith}
+use Rattle.std.proofs.Common.{◌≡◌, ◌≢◌, ◌<◌, ◌==◌, ◌⊎◌, ℕ, zero, suc, inl, inr, List, [], ◌∷◌, ◌++◌, ◌+◌, ◌∙◌, length, flat_map, get_or, Option, None, Some, refl, sym, ap, subst, arith}
 use Rattle.std.specs.List.{All, Contains, slice_get}
 use Rattle.std.specs.Option.{option_and_then, option_map_or}
 use Rattle.std.proofs.lemmas.Bool.{both_ways, cases_Bool, cases_lt, eq-eqb, eqb-true, not-true}
@@ -8,11 +8,10 @@ use Rattle.std.proofs.lemmas.Option.{option_and_then_some, same_Some, slice_get-
 use Rattle.std.proofs.lemmas.Grind.{flat_map-append}
 use Rattle.nf_base.specs.declared.rows.MetaRow.{MetaRow}
 use Rattle.nf_base.specs.declared.rows.NodeRow.{NodeRow}
-use Rattle.nf_base.specs.declared.rows.Place.{Place}
 use Rattle.nf_base.specs.declared.rows.Place.TheVariants.{Inside, Trash}
 use Rattle.nf_defs.specs.Prelude.{climb, is_under, node_row, owner_of, parent_of, Tables}
 use Rattle.nf_laws.proofs.Acted.{IsNew, NoNode}
-use Rattle.nf_laws.proofs.Carried.{AreJoined, copying_kind, crossing_kind, IsRelinked, Kind, leaving_kind, meta_with, moving_kind, source_apart, under_alone}
+use Rattle.nf_laws.proofs.Carried.{AreJoined, copying_kind, crossing_kind, IsRelinked, Kind, leaving_kind, moving_kind, source_apart}
 use Rattle.nf_laws.proofs.Climbs.{parent_at}
 use Rattle.nf_laws.proofs.Departed.{all_gone, rest_after}
 use Rattle.nf_laws.proofs.Going.{present_off, under_is}
@@ -28,7 +27,7 @@ use Rattle.nf_words.proofs.Found.{child_parent}
 use Rattle.nf_words.proofs.Known.{IsItem, KnownCopies, KnownCross, KnownLeaving, KnownMove, KnownTransfer}
 use Rattle.nf_words.proofs.Transfers.{replaced_leaves}
 use Rattle.nf_words.proofs.Ways.{HasRow, inside_there}
-use Rattle.nf_words.specs.Prelude.{AreSound, beside, besides, copies, copies_to, crosses, crossing, deeds_done, discard, discards, gone_with, LeadsToRoot, moves, purged_by, purges, quota_of, row_at}
+use Rattle.nf_words.specs.Prelude.{AreSound, beside, besides, copies, copies_to, crossing, deeds_done, discard, discards, gone_with, LeadsToRoot, moves, purged_by, purges, quota_of, row_at}
 use Rattle.nf_words.specs.declared.answer.Deed.{Deed}
 use Rattle.nf_words.specs.declared.answer.Deed.TheVariants as deed
 use Rattle.nf_words.specs.declared.request.Transfer.{Transfer}

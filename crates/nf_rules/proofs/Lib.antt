@@ -26,3 +26,4 @@ pub mod Uploads
 pub mod Heaped
 pub mod Reckoned
 pub mod Leavings
+pub mod Trashes

@@ -1,42 +1,30 @@
 -- What leaves its place by a step leaves each user's trash within its bound.
-use Rattle.std.proofs.Common.{◌≡◌, ◌≢◌, ◌<◌, ◌≤◌, ◌==◌, ◌⊎◌, ℕ, zero, suc, inl, inr, not, Bool, true, false, List, [], ◌∷◌, ◌++◌, ◌∙◌, filter, flat_map, get_or, Option, None, Some, refl, sym, ap, subst, arith, unwrap_or, if◌then◌else◌}
+use Rattle.std.proofs.Common.{◌≡◌, ◌≢◌, ◌≤◌, ◌==◌, ◌⊎◌, ℕ, inl, inr, not, Bool, true, List, [], ◌∷◌, ◌∙◌, flat_map, Option, None, Some, refl, sym, ap, subst, arith, unwrap_or, if◌then◌else◌}
 use Rattle.std.specs.Prelude.{is_some, sum_by}
-use Rattle.std.specs.List.{All, Contains, list_any, slice_get}
+use Rattle.std.specs.List.{All, Contains}
 use Rattle.std.specs.Option.{option_and_then, option_map_or}
-use Rattle.std.proofs.lemmas.Bool.{both_ways, cases_Bool, cases_lt, eq-eqb, eqb-true}
+use Rattle.std.proofs.lemmas.Bool.{both_ways, cases_Bool, eq-eqb, eqb-true}
 use Rattle.std.proofs.lemmas.List.Elements.{All-contains, All-contains_itself}
 use Rattle.std.proofs.lemmas.List.Folds.{list_any_at}
-use Rattle.std.proofs.lemmas.Option.{none-some, option_and_then_some, same_Some}
+use Rattle.std.proofs.lemmas.Option.{none-some, same_Some}
 use Rattle.nf_base.specs.declared.rows.ItemRow.{ItemRow}
-use Rattle.nf_base.specs.declared.rows.MetaRow.{MetaRow}
 use Rattle.nf_base.specs.declared.rows.NodeRow.{NodeRow}
 use Rattle.nf_base.specs.declared.rows.Place.{Place}
-use Rattle.nf_base.specs.declared.rows.Place.TheVariants.{Inside, Trash}
 use Rattle.nf_defs.proofs.ByName.{Contains-filter, Contains-map}
 use Rattle.nf_defs.proofs.Climbs.{under_climb}
-use Rattle.nf_defs.specs.Prelude.{climb, folder_of, is_under, item_row, node_row, owner_of, parent_of, Tables}
-use Rattle.nf_laws.proofs.Acted.{Acted, IsAway, IsNew}
-use Rattle.nf_laws.proofs.Carried.{AreJoined, Kind}
-use Rattle.nf_laws.proofs.Climbs.{parent_at}
-use Rattle.nf_laws.proofs.Departed.{all_gone, rest_after}
-use Rattle.nf_laws.proofs.Going.{present_off, under_is}
-use Rattle.nf_laws.proofs.InTurn.{deeds_append}
+use Rattle.nf_defs.specs.Prelude.{folder_of, is_under, node_row, owner_of, Tables}
+use Rattle.nf_laws.proofs.Acted.{Acted, IsAway}
+use Rattle.nf_laws.proofs.Going.{under_is}
 use Rattle.nf_laws.proofs.Parts.{rest_of}
 use Rattle.nf_laws.proofs.Rows.{found_is, row_id}
-use Rattle.nf_laws.proofs.Trashed.{item_top}
-use Rattle.nf_laws.proofs.Upwards.{climbed, derived}
-use Rattle.nf_laws.specs.Acts.{IsGoneWith, IsInTrash, IsUnderOne}
-use Rattle.nf_laws.specs.Transfers.{IsPlacedCopy, Mirrors}
+use Rattle.nf_laws.proofs.Upwards.{derived}
+use Rattle.nf_laws.specs.Acts.{IsInTrash, IsUnderOne}
 use Rattle.nf_laws.specs.Tree.{Under}
 use Rattle.nf_words.proofs.Known.{IsItem}
-use Rattle.nf_words.proofs.Ways.{HasRow, inside_there}
 use Rattle.nf_words.specs.Others.{IsItemSound}
-use Rattle.nf_words.specs.Listing.{bytes_of, size_of}
-use Rattle.nf_words.specs.Prelude.{AreSound, beside, deeds_done, discard, gone_with, goes_itself, item_for, item_size, items_of, LeadsToRoot, purged_by, purges, quota_of}
+use Rattle.nf_words.specs.Prelude.{AreSound, beside, deeds_done, discard, gone_with, goes_itself, item_for, item_size, items_of, purged_by, purges, quota_of}
 use Rattle.nf_words.specs.declared.answer.Deed.{Deed}
 use Rattle.nf_words.specs.declared.answer.Deed.TheVariants as deed
-use Rattle.nf_words.specs.declared.request.Transfer.{Transfer}
-use Rattle.nf_rules.specs.Ruled.{AreTrashesBounded}
 use Rattle.nf_rules.proofs.Heaped.{bounded_fewer, bounded_reckoned, first_or, gone_alike, IsAlike, IsBounded, item_found, left_among, next, purged_alike, purged_fewer, right_among, size_fewer}
 
 -- ---- either way

@@ -1,4 +1,3 @@
-use Rattle.nf_rules.proofs.Leavings as reckoned
 use Rattle.nf_rules.proofs.Firsts as firsts
 use Rattle.nf_rules.proofs.laws.broken_is_there.Goals as goal
 
