@@ -103,10 +103,10 @@ one_keyed key f n most (a ∷ b ∷ xs) apart same few =
     absurd (apart 0 1 a (omega arith) (omega arith) (first ∙ sym second))
 
 -- one of its key is among those, and it comes to no more than what its key does
-abbrev IsKeyed : {X : Type 0} → (X → ℕ) → (X → ℕ) → (ℕ → ℕ) → List X → X → Type 0
+abbrev pub IsKeyed : {X : Type 0} → (X → ℕ) → (X → ℕ) → (ℕ → ℕ) → List X → X → Type 0
 IsKeyed {X} key f g ys x = ((y : X) × Contains ys y × (key y ≡ key x)) × (f x ≤ g (key x))
 
-sum_keyed : {X : Type 0} (key f : X → ℕ) (g : ℕ → ℕ) (ys xs : List X) → AllPairs (λ (a b : X). key a ≢ key b) xs
+pub sum_keyed : {X : Type 0} (key f : X → ℕ) (g : ℕ → ℕ) (ys xs : List X) → AllPairs (λ (a b : X). key a ≢ key b) xs
     → All (IsKeyed key f g ys) xs → sum_by f xs ≤ sum_by (λ (y : X). g (key y)) ys
 sum_keyed key f g [] [] apart all = omega arith
 sum_keyed key f g [] (x ∷ xs) apart all =
