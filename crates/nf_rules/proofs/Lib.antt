@@ -23,3 +23,7 @@ pub mod Dropped
 pub mod TurnedOver
 pub mod Blobs
 pub mod Uploads
+pub mod Heaped
+pub mod Reckoned
+pub mod Leavings
+pub mod Trashes

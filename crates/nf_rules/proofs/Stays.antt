@@ -1,6 +1,6 @@
 -- Tables that keep the rules keep them by each entry that may come.
 use Rattle.std.proofs.Common.{◌≡◌, ℕ, ◌+◌, ◌<◌, ◌≤◌, ◌==◌, ◌||◌, ◌⊎◌, inl, inr, Bool, true, false, if◌then◌else◌, not, List, [], ◌∷◌, map, get_or, refl, sym, ap, ◌∙◌, subst, arith, bytes_eq, ◌++◌}
-use Rattle.std.specs.Prelude.{None, Option}
+use Rattle.std.specs.Prelude.{None}
 use Rattle.std.specs.List.{All, AllPairs}
 use Rattle.std.specs.Option.{option_and_then}
 use Rattle.std.proofs.lemmas.List.{map-id}
@@ -8,7 +8,6 @@ use Rattle.std.proofs.lemmas.List.Elements.{All-filter, All-head, All-map, All-t
 use Rattle.std.proofs.lemmas.Option.{none-some}
 use Rattle.nf_access.specs.Mounts.{is_mount_of}
 use Rattle.nf_base.specs.declared.limits.TheConstants.{MAX_QUOTA}
-use Rattle.nf_base.specs.declared.changes.Change.{Change}
 use Rattle.nf_base.specs.declared.rows.ItemRow.{ItemRow}
 use Rattle.nf_base.specs.declared.rows.MountRow.{MountRow}
 use Rattle.nf_base.specs.declared.rows.ShareRow.{ShareRow}
@@ -20,16 +19,13 @@ use Rattle.nf_laws.proofs.Allowing.{changes_allowed}
 use Rattle.nf_laws.proofs.Counters.{after_up}
 use Rattle.nf_laws.proofs.Entries.{entry_has}
 use Rattle.nf_laws.proofs.Going.{purged_rest}
-use Rattle.nf_laws.proofs.Lists.{aside_only, changes_have}
 use Rattle.nf_laws.proofs.Others.{item_gone}
-use Rattle.nf_laws.proofs.Peopled.{people_alone}
 use Rattle.nf_laws.proofs.Purged.{purged_keeps}
 use Rattle.nf_laws.proofs.Rows.{each_fails, finds_none, found_is, stamped_has}
 use Rattle.nf_laws.proofs.Stays.{sound_after}
 use Rattle.nf_laws.specs.Access.{ChangesAllowed, has_quota, has_token, is_left, is_renamed, IsItemSettled, IsProviding, IsRemounted, IsRestoring, IsSharing, is_asked, is_same, is_sent, is_swept, joins, KeepsShares, leaves, makes_group, makes_user, NodesAllowed, Provides, Remounts, UploadsFollow}
 use Rattle.nf_laws.specs.Numbers.{AreHigher}
 use Rattle.nf_words.proofs.Ends.{known_change}
-use Rattle.nf_words.proofs.Fits.{KnownChange}
 use Rattle.nf_words.proofs.Known.{Known}
 use Rattle.nf_words.specs.Prelude.{after, altered, AreSound, asker_of, Call, call_of, changed, deed_done, deeds_done, ended_row, IsInBounds, IsModest, IsSound, item_if_of, MayAsk, MayCome, new_user, purged, purges, replaced, State, told, forgets}
 use Rattle.nf_words.specs.declared.answer.Allowed.{Allowed}
@@ -55,6 +51,7 @@ use Rattle.nf_laws.proofs.Each.{IsBehind, settled_stores, StoresFirst}
 use Rattle.nf_laws.proofs.InTurn.{deeds_append}
 use Rattle.nf_retention.specs.declared.versions.Version.{Version}
 use Rattle.nf_rules.proofs.Settled.{settled_after}
+use Rattle.nf_rules.proofs.Trashes.{bounded_after, changed_items}
 
 -- ---- mounts
 
@@ -193,15 +190,7 @@ nodes_ruled s e between beside ruled is same changes =
 abbrev HasNoDeeds : Allowed → Type 0
 HasNoDeeds act = (deeds : List Deed) (report : Report) → act ≡ allowed.Deeds deeds report → ⊥
 
--- changes leave the items as they were
-changed_items : (t : Tables) (now : ℕ) (changes : List Change) (blob : Option ℕ) (report : Report) → AreSound t → KnownChange t now changes blob
-    → (altered t now (allowed.Change changes blob report)).items ≡ t.items
-changed_items t now changes blob report sound known =
-    changes_have (λ (u : Tables). u.items ≡ t.items) t now changes blob report sound.rising known (λ u row same it. same) (λ u row same it. same)
-    (λ u row same it. same) (λ u row same it. same) (λ u change same it. ap (λ (v : Tables). v.items) (people_alone u change it) ∙ same)
-    (λ u change same it. ap (λ (v : Tables). v.items) (aside_only t blob u change it) ∙ same) (λ u row root same it. same) refl
-
--- so does an act without deeds
+-- an act without deeds leaves the items as they were
 items_same : (t : Tables) (now : ℕ) (act : Allowed) → AreSound t → Known t now act → HasNoDeeds act → (changed t now act).items ≡ t.items
 items_same t now act sound known other =
     stamped_has (λ (u : Tables). u.items ≡ t.items) t (altered t now act) now (told t act) refl (here act known other)
@@ -384,5 +373,9 @@ pub stays_ruled : StaysRuled
 stays_ruled n s [] ruled sound legal = ruled
 stays_ruled n s (e ∷ es) ruled sound legal =
     stays_ruled (n + 1) (after s e) es
-    (record { ordered = ruled_after n s e ruled.ordered sound legal.0; settled = settled_after n s e ruled.settled sound legal.0 })
+    (record {
+      ordered = ruled_after n s e ruled.ordered sound legal.0;
+      settled = settled_after n s e ruled.settled sound legal.0;
+      bounded = bounded_after n s e ruled.bounded sound legal.0;
+    })
     (sound_after n s e sound legal.0) legal.1

@@ -1,0 +1,156 @@
+-- What leads to a top that is in no folder: all that is under it, and nothing twice.
+use Rattle.std.proofs.Common.{◌≡◌, ◌≢◌, ◌<◌, ◌≤◌, ◌+◌, ◌-◌, ◌==◌, ℕ, zero, suc, Bool, true, false, List, [], ◌∷◌, ◌++◌, Option, None, Some, filter, flat_map, get_or, inl, inr, map, refl, sym, ap, subst, ◌∙◌, arith}
+use Rattle.std.specs.Prelude.{min, sum_by}
+use Rattle.std.specs.List.{All, AllPairs, Contains}
+use Rattle.std.specs.Option.{option_and_then, option_map_or}
+use Rattle.std.proofs.lemmas.Bool.{cases_Bool, cases_order, eq-eqb, eqb-true}
+use Rattle.std.proofs.lemmas.List.Elements.{All-contains, All-contains_itself, All-filter, All-head, All-tail, filter_passes}
+use Rattle.std.proofs.lemmas.List.Kept.{AllPairs-cons, AllPairs-filter}
+use Rattle.std.proofs.lemmas.List.Sums.{sum_by-cons}
+use Rattle.std.proofs.lemmas.Option.{none-some, same_Some}
+use Rattle.nf_base.specs.declared.limits.TheConstants.{MAX_DEPTH}
+use Rattle.nf_base.specs.declared.rows.ItemRow.{ItemRow}
+use Rattle.nf_base.specs.declared.rows.NodeRow.{NodeRow}
+use Rattle.nf_defs.proofs.ByName.{AllPairs-by_name, Contains-filter, Contains-map}
+use Rattle.nf_defs.proofs.Climbs.{under_walk, walk_under}
+use Rattle.nf_defs.proofs.Puts.{below_one}
+use Rattle.nf_defs.proofs.Walks.{Contains-from_flat, children_are, node_row_each, walk_within_climbs}
+use Rattle.nf_defs.specs.Prelude.{AreRising, by_name, children_of, climb, is_in, is_under, is_under_within, node_row, parent_of, Tables, walk_of, walk_within}
+use Rattle.nf_laws.proofs.Charging.{sums_agree}
+use Rattle.nf_laws.proofs.Climbs.{climb_on, climb_rest, parent_at}
+use Rattle.nf_laws.proofs.Walked.{AllPairs-append, AreDistinct, pairs_map}
+use Rattle.nf_words.specs.Listing.{bytes_of, size_of}
+use Rattle.nf_words.specs.Prelude.{item_size, items_of, last_number}
+use Rattle.nf_words.specs.Versions.{content_size}
+use Rattle.nf_rules.specs.Rules.{trash_bytes}
+use Rattle.nf_rules.proofs.Heaped.{sum_keyed}
+use Rattle.nf_opening.specs.Heaps.{AreTops, top_of, topped_bytes, top_within}
+use Rattle.nf_opening.proofs.Chains.{under_none, under_top, under_up, under_zero}
+
+-- ---- tops
+
+abbrev pub Rising : List NodeRow → Type 0
+Rising rows = AllPairs (λ (a b : NodeRow). a.id < b.id) rows
+
+pub rising_ids : (t : Tables) → AreRising t → Rising t.nodes
+rising_ids t rising i j d before less = below_one (get_or t.nodes i d).id (get_or t.nodes j d).id (rising.nodes i j d before less)
+
+pub top_step : (k j : ℕ) (rows : List NodeRow) (node parent : ℕ) → j ≡ k + 1 → parent_of rows node ≡ Some parent
+    → top_within j rows node ≡ top_within k rows parent
+unfolding top_within
+top_step k zero rows node parent more above = absurd (omega arith)
+top_step k (suc j) rows node parent more above = let e : j ≡ k = omega arith in rw (above, e) refl
+
+pub top_none : (k : ℕ) (rows : List NodeRow) (node : ℕ) → parent_of rows node ≡ None → top_within k rows node ≡ node
+unfolding top_within
+top_none zero rows node none = refl
+top_none (suc k) rows node none = rw none refl
+
+pub top_zero : (k : ℕ) (rows : List NodeRow) (node : ℕ) → k ≡ 0 → top_within k rows node ≡ node
+unfolding top_within
+top_zero k rows node none = rw none refl
+
+-- what leads to a top is under it
+top_is : (k : ℕ) (rows : List NodeRow) (top node : ℕ) → parent_of rows top ≡ None → (top_within k rows node == top) ≡ is_under_within k rows node top
+top_is zero rows top node none = ap (λ (n : ℕ). n == top) (top_zero 0 rows node refl) ∙ sym (under_zero 0 rows node top refl)
+top_is (suc k) rows top node none =
+    elim (cases_Bool (node == top)) [
+      | inl same ↦
+          (let is = eqb-true node top same in
+          ap (λ (n : ℕ). n == top) (top_none (suc k) rows node (ap (parent_of rows) is ∙ none)) ∙ same ∙ sym (under_top (suc k) rows node top same))
+      | inr differs ↦ here differs (parent_of rows node) refl
+    ]
+  where
+    here : (node == top) ≡ false → (o : Option ℕ) → parent_of rows node ≡ o → (top_within (suc k) rows node == top) ≡ is_under_within (suc k) rows node top
+    here differs None e = ap (λ (n : ℕ). n == top) (top_none (suc k) rows node e) ∙ differs ∙ sym (under_none (suc k) rows node top differs e)
+    here differs (Some parent) e =
+        ap (λ (n : ℕ). n == top) (top_step k (suc k) rows node parent (omega arith) e) ∙ top_is k rows top parent none
+        ∙ sym (under_up k (suc k) rows node parent top (omega arith) differs e)
+
+-- ---- nothing twice
+
+AreDisjoint : List ℕ → List ℕ → Type 0
+AreDisjoint xs ys = (n : ℕ) → Contains xs n → Contains ys n → ⊥
+
+distinct_flat : (f : ℕ → List ℕ) (xs : List ℕ) → All (λ (x : ℕ). AreDistinct (f x)) xs
+    → AllPairs (λ (x y : ℕ). (n : ℕ) → Contains (f x) n → Contains (f y) n → ⊥) xs → AreDistinct (flat_map f xs)
+distinct_flat f [] each apart = λ i j d before within. absurd (omega arith)
+distinct_flat f (x ∷ xs) each apart =
+    AllPairs-append (λ (a b : ℕ). a ≢ b) (f x) (flat_map f xs) (All-head (λ (x : ℕ). AreDistinct (f x)) x xs each)
+    (distinct_flat f xs (All-tail (λ (x : ℕ). AreDistinct (f x)) x xs each)
+    (λ i j d before within. apart (suc i) (suc j) d (omega arith) (omega arith)))
+    (λ i d within j e also same.
+    let n = get_or (f x) i d in
+    let r = Contains-from_flat f xs n (subst (λ (n : ℕ). Contains (flat_map f xs) n) (sym same) (All-contains_itself (flat_map f xs) j e also)) in
+    All-contains (λ (y : ℕ). (n : ℕ) → Contains (f x) n → Contains (f y) n → ⊥) xs r.0
+    (λ k d within. apart 0 (suc k) d (omega arith) (omega arith)) r.1 n (All-contains_itself (f x) i d within) r.2)
+
+module _ (rows : List NodeRow) (rising : Rising rows) (top : ℕ) (none : parent_of rows top ≡ None) where
+  -- from the top there is no climb
+  no_further : (j : ℕ) → climb rows (suc j) top ≡ Some top → ⊥
+  no_further j is = none-some top (sym (ap (option_and_then (climb rows j)) none) ∙ is)
+
+  -- so a node is as far from it as it is
+  steps_same : (i j node : ℕ) → climb rows i node ≡ Some top → climb rows j node ≡ Some top → i ≡ j
+  steps_same i j node first second =
+      elim (cases_order i j) [
+        | inl same ↦ same
+        | inr (inl less) ↦ absurd (no_further (j - i - 1) (climb_rest i (suc (j - i - 1)) j rows node top top (omega (arith, less)) first second))
+        | inr (inr more) ↦ absurd (no_further (i - j - 1) (climb_rest j (suc (i - j - 1)) i rows node top top (omega (arith, more)) second first))
+      ]
+
+  above : (folder : ℕ) → All (λ (child : ℕ). parent_of rows child ≡ Some folder) (children_of rows folder)
+  above folder k d within =
+      let is = children_are rows folder rising k d within in parent_at rows _ folder is.row is.there is.place
+
+  children_once : (folder : ℕ) → AreDistinct (children_of rows folder)
+  children_once folder =
+      let inside = filter (is_in folder) rows in
+      let up = AllPairs-filter (λ (a b : NodeRow). a.id < b.id) (is_in folder) rows rising in
+      pairs_map (λ (a b : ℕ). a ≢ b) (λ (row : NodeRow). row.id) (by_name inside)
+      (AllPairs-by_name (λ (a b : NodeRow). a.id ≢ b.id) (λ a b differ same. differ (sym same)) inside
+      (λ i j d before within same. let less = up i j d before within in omega arith))
+
+  -- what is so many folders below a child is that more below the top
+  further : (m d folder child node : ℕ) → parent_of rows child ≡ Some folder → climb rows m node ≡ Some child → climb rows d folder ≡ Some top
+      → climb rows (m + suc d) node ≡ Some top
+  further m d folder child node up is rest = climb_on m (suc d) rows node child is ∙ ap (option_and_then (climb rows d)) up ∙ rest
+
+  walk_once : (k d node : ℕ) → climb rows d node ≡ Some top → AreDistinct (walk_within k rows node)
+  unfolding walk_within
+  walk_once zero d node leads = λ i j e before within. absurd (omega arith)
+  walk_once (suc k) d node leads =
+      let walk = walk_within k rows in
+      let children = children_of rows node in
+      AllPairs-cons (λ (a b : ℕ). a ≢ b) node (flat_map walk children)
+      (λ i e within same.
+      let r = Contains-from_flat walk children node
+      (subst (λ (n : ℕ). Contains (flat_map walk children) n) (sym same) (All-contains_itself (flat_map walk children) i e within)) in
+      let c = walk_within_climbs k rows r.0 node rising r.2 in
+      let up = All-contains (λ (child : ℕ). parent_of rows child ≡ Some node) children r.0 (above node) r.1 in
+      omega (arith, steps_same (c.0 + suc d) d node (further c.0 d node r.0 node up c.2 leads) leads))
+      (distinct_flat walk children (λ i e within.
+      walk_once k (suc d) (get_or children i e) (ap (option_and_then (climb rows d)) (above node i e within) ∙ leads))
+      (λ i j e before within n has also.
+      let first = walk_within_climbs k rows (get_or children i e) n rising has in
+      let second = walk_within_climbs k rows (get_or children j e) n rising also in
+      let a = further first.0 d node (get_or children i e) n (above node i e (omega arith)) first.2 leads in
+      let b = further second.0 d node (get_or children j e) n (above node j e within) second.2 leads in
+      let steps : first.0 ≡ second.0 = omega (arith, steps_same (first.0 + suc d) (second.0 + suc d) n a b) in
+      children_once node i j e before within
+      (same_Some (get_or children i e) (get_or children j e) (sym first.2 ∙ ap (λ (m : ℕ). climb rows m n) steps ∙ second.2))))
+
+  -- ---- the bytes
+
+  abbrev those : List NodeRow
+  those = filter (λ (row : NodeRow). top_of rows row.id == top) rows
+
+  abbrev ids : List ℕ
+  ids = map (λ (row : NodeRow). row.id) those
+
+  -- each that leads to the top is of the walk
+  walk_has : All (λ (row : NodeRow). Contains (walk_of rows top) row.id) those
+  unfolding is_under
+  walk_has k d within =
+      let row = get_or those k d in
+      under_walk rows top row.id (sym (top_is MAX_DEPTH rows top row.id none) ∙ filter_passes (λ (row : NodeRow). top_of rows row.id == top) rows k d within)
