@@ -193,11 +193,14 @@ impl<'a> Call<'a> {
         requires places { places.now ≡ places_of self.now }
         ensures { result ≡ assembled_excess self.entry.now self.entry.now.request.wanted }
     {
-        match &self.request.wanted {
-            Wanted::Upload(UploadAsk::Join { dir, .. }) => {
+        let Wanted::Upload(ask) = &self.request.wanted else {
+            return None;
+        };
+        match ask {
+            UploadAsk::New { .. } | UploadAsk::Chunk { .. } | UploadAsk::Drop { .. } => None,
+            UploadAsk::Join { dir, .. } => {
                 excess_there(&self.view, places.target, self.sum(caller, dir))
             }
-            _ => None,
         }
     }
 }
