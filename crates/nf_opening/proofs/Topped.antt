@@ -1,21 +1,25 @@
 -- What leads to a top that is in no folder: all that is under it, and nothing twice.
-use Rattle.std.proofs.Common.{◌≡◌, ◌≢◌, ◌<◌, ◌≤◌, ◌+◌, ◌-◌, ◌==◌, ℕ, zero, suc, Bool, true, false, List, [], ◌∷◌, ◌++◌, Option, None, Some, filter, flat_map, get_or, if◌then◌else◌, inl, inr, map, refl, sym, ap, subst, ◌∙◌, arith}
+use Rattle.std.proofs.Common.{◌≡◌, ◌≢◌, ◌<◌, ◌≤◌, ◌+◌, ◌-◌, ◌==◌, ℕ, zero, suc, Bool, true, false, List, [], ◌∷◌, ◌++◌, Option, None, Some, filter, flat_map, get_or, if◌then◌else◌, inl, inr, map, not, refl, sym, ap, subst, ◌∙◌, arith}
 use Rattle.std.specs.Prelude.{is_some, min, sum_by}
 use Rattle.std.specs.List.{All, AllPairs, Contains}
 use Rattle.std.specs.Option.{option_and_then, option_map_or}
-use Rattle.std.proofs.lemmas.Bool.{cases_Bool, cases_order, eqb-true, false≢true}
-use Rattle.std.proofs.lemmas.List.Elements.{All-contains, All-contains_itself, All-filter, All-head, All-map, All-tail, filter_passes}
+use Rattle.std.proofs.lemmas.Bool.{and_parts, cases_Bool, cases_order, eqb-true, false≢true, not-false}
+use Rattle.std.proofs.lemmas.List.Elements.{All-contains, All-contains_itself, All-filter, All-head, All-map, All-tail, All-weaker, filter_passes}
 use Rattle.std.proofs.lemmas.List.Kept.{AllPairs-cons, AllPairs-filter}
 use Rattle.std.proofs.lemmas.List.Sums.{sum_by-cons}
 use Rattle.std.proofs.lemmas.Option.{none-some, same_Some}
 use Rattle.nf_base.specs.declared.limits.TheConstants.{MAX_DEPTH}
 use Rattle.nf_base.specs.declared.rows.ItemRow.{ItemRow}
 use Rattle.nf_base.specs.declared.rows.NodeRow.{NodeRow}
+use Rattle.nf_base.specs.declared.rows.Place.{Place}
+use Rattle.nf_base.specs.declared.rows.Place.TheVariants.{Root, Inside, Trash}
+use Rattle.nf_base.specs.declared.rows.Row.{Row}
+use Rattle.nf_base.specs.declared.rows.Row.TheVariants as rows
 use Rattle.nf_defs.proofs.ByName.{AllPairs-by_name, Contains-filter, Contains-map}
 use Rattle.nf_defs.proofs.Climbs.{under_walk, walk_under}
 use Rattle.nf_defs.proofs.Puts.{below_one}
 use Rattle.nf_defs.proofs.Walks.{Contains-from_flat, children_are, node_row_each, walk_within_climbs}
-use Rattle.nf_defs.specs.Prelude.{AreRising, by_name, children_of, climb, is_in, is_under, is_under_within, node_row, parent_of, Tables, walk_of, walk_within}
+use Rattle.nf_defs.specs.Prelude.{AreRising, by_name, children_of, climb, folder_of, is_in, is_under, is_under_within, node_row, parent_of, Tables, tables_of, walk_of, walk_within}
 use Rattle.nf_laws.proofs.Charging.{sums_agree}
 use Rattle.nf_laws.proofs.Climbs.{climb_on, climb_rest, parent_at}
 use Rattle.nf_laws.proofs.Rows.{found_is}
@@ -23,7 +27,9 @@ use Rattle.nf_laws.proofs.Walked.{AllPairs-append, AreDistinct, pairs_map}
 use Rattle.nf_words.specs.Listing.{bytes_of, size_of}
 use Rattle.nf_words.specs.Prelude.{item_size, items_of, last_number}
 use Rattle.nf_words.specs.Versions.{content_size}
-use Rattle.nf_rules.specs.Rules.{trash_bytes}
+use Rattle.nf_rules.specs.Rules.{first_index, is_from_kept, is_placed, is_trash_place, is_trashed_as, trash_bytes}
+use Rattle.nf_rules.proofs.Among.{all_have}
+use Rattle.nf_rules.proofs.Firsts.{each_fails}
 use Rattle.nf_rules.proofs.Heaped.{sum_keyed}
 use Rattle.nf_opening.specs.Heaps.{AreTops, top_of, topped_bytes, top_within}
 use Rattle.nf_opening.proofs.Chains.{under_none, under_top, under_up, under_zero}
@@ -257,3 +263,28 @@ items_topped t user rising tops =
     (All-filter (λ (item : ItemRow). item.owner == user) (λ (item : ItemRow). min (topped_bytes t.nodes item.node) last_number ≡ item_size t item) t.items
     (λ k d within.
     let item = get_or t.items k d in sym (size_topped t.nodes (rising_ids t rising) item.node (tops k d within))))
+
+-- where all is placed by the rules, each item is of what is in no folder
+item_tops : (t : Tables) (item : ItemRow) → is_placed t (rows.Item item) ≡ true → parent_of t.nodes item.node ≡ None
+item_tops t item is =
+    here (node_row t.nodes item.node) refl (and_parts (option_map_or (is_trashed_as item) (node_row t.nodes item.node) false) (is_from_kept t item) is).0
+  where
+    no_folder : (place : Place) → is_trash_place place ≡ true → folder_of place ≡ None
+    no_folder Root is = absurd (false≢true is)
+    no_folder (Inside folder) is = absurd (false≢true is)
+    no_folder Trash is = refl
+
+    here : (o : Option NodeRow) → node_row t.nodes item.node ≡ o → option_map_or (is_trashed_as item) o false ≡ true → parent_of t.nodes item.node ≡ None
+    here None e is = absurd (false≢true is)
+    here (Some of) e is =
+        ap (option_and_then (λ (row : NodeRow). folder_of row.place)) e
+        ∙ no_folder of.place (and_parts (is_trash_place of.place) (of.owner == item.owner) is).0
+
+pub tops_from : (t : Tables) (all : List Row) → t ≡ tables_of all → first_index (λ (row : Row). not (is_placed (tables_of all) row)) all ≡ None → AreTops t
+tops_from t all same none =
+    let placed : All (λ (row : Row). is_placed (tables_of all) row ≡ true) all =
+    All-weaker (λ (row : Row). not (is_placed (tables_of all) row) ≡ false) (λ (row : Row). is_placed (tables_of all) row ≡ true)
+    (λ row fails. not-false (is_placed (tables_of all) row) fails) all
+    (each_fails (λ (row : Row). not (is_placed (tables_of all) row)) all none) in
+    let have = all_have (λ (row : Row). is_placed (tables_of all) row ≡ true) all placed in
+    subst AreTops (sym same) (λ k d within. item_tops (tables_of all) (get_or (tables_of all).items k d) (have.items k d within))
