@@ -26,6 +26,7 @@ pub mod Stamps
 pub mod Tells
 pub mod ToldFirst
 pub mod ToldGone
+pub mod ToldUploads
 pub mod TrashSums
 pub mod Walks
 pub mod Runs

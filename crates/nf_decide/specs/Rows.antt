@@ -37,8 +37,10 @@ pub record Rows : Type 0 where
   pub tables : Tables
   pub room : RowCounts
 
--- the rows that aren't of people, as a list
+-- the rows of versions, of the trash and of uploads, as a list
+abbrev pub rows_beside : Tables → List Row
+rows_beside t = map kinds.Version t.versions ++ (map kinds.Item t.items ++ (map kinds.Upload t.uploads ++ map kinds.Chunk t.chunks))
+
+-- and with them all that aren't of people
 abbrev pub rows_of_others : Tables → List Row
-rows_of_others t =
-    map kinds.Node t.nodes ++ (map kinds.Share t.shares ++ (map kinds.Mount t.mounts ++ (map kinds.Version t.versions
-    ++ (map kinds.Item t.items ++ (map kinds.Upload t.uploads ++ map kinds.Chunk t.chunks)))))
+rows_of_others t = map kinds.Node t.nodes ++ (map kinds.Share t.shares ++ (map kinds.Mount t.mounts ++ rows_beside t))

@@ -10,9 +10,9 @@ ghost use Rattle.nf_defs.specs.Prelude.{drop_row, dropped, item_key, item_row, m
 ghost use Rattle.nf_words.specs.Prelude.{above, blob_after, changed, counted, deed_done, deeds_done, discarded, forgotten, goal_of, joined, last_number, purged, purges, replaced, restored, versions_there};
 ghost use Rattle.nf_words.specs.declared.answer.Report.TheVariants.{Done};
 ghost use Rattle.nf_words.specs.declared.answer.Allowed.TheVariants as allowed;
-ghost use Rattle.nf_decide.specs.Current.{AreBorne, AreGiven, BearsAct, BearsChanges, BearsCopies, BearsDeed, BearsDeeds, BearsPlace, IsBorne, IsCounted, IsDroppedKey, IsNew, IsRefilled, LeadUpBehind, added_by, added_deed, added_deeds, added_of};
+ghost use Rattle.nf_decide.specs.Current.{AreBorne, AreGiven, BearsAct, BearsChanges, BearsCopies, BearsDeed, BearsDeeds, BearsPlace, IsBorne, IsCounted, IsDroppedKey, IsNew, IsRefilled, LeadUpBehind, StoresFirst, added_by, added_deed, added_deeds, added_of};
 ghost use Rattle.nf_decide.specs.Gone.{item_gone};
-ghost use Rattle.nf_decide.specs.Rows.{rows_of_others};
+ghost use Rattle.nf_decide.specs.Rows.{rows_beside, rows_of_others};
 ghost use Rattle.nf_rules.specs.Ruled.{AreRuled};
 ghost use Rattle.nf_decide.specs.Counts.{FitsNodes, FitsRows, IsNoSmaller, only_nodes};
 
@@ -202,7 +202,8 @@ impl Tables {
         requires room { FitsRows self.old.tables self.old.room (added_of self.old.tables.meta.next_node changes) }
         requires borne { AreBorne self.old.tables.meta.next_node self.old.tables changes }
         requires rising { AllPairs (λ (a b : NodeRow). a.id < b.id) self.old.tables.nodes }
-        ensures { self.new.tables ≡ put_all self.old.tables changes }
+        ensures tables { self.new.tables ≡ put_all self.old.tables changes }
+        ensures room { IsNoSmaller self.old.room self.new.room }
     {
         for change in changes.into_vec() {
             self.make(change);
@@ -261,8 +262,9 @@ impl Tables {
 
     /// Does some deeds, one after the other. Where there is no memory to gather items that go for good, they go one by one.
     fn perform_all(&mut self, moment: Moment, deeds: Deeds)
-        requires room { FitsRows self.old.tables self.old.room (added_deeds deeds) }
+        requires room { FitsRows self.old.tables self.old.room (added_deeds self.old.tables.meta.next_node deeds) }
         requires bears { BearsDeeds self.old.tables deeds }
+        requires order { StoresFirst deeds }
         ensures { self.new.tables ≡ changed self.old.tables moment (allowed.Deeds deeds Done) }
     {
         let deeds = deeds.into_vec();
@@ -275,8 +277,9 @@ impl Tables {
 
     /// Items that go for good one after the other go together, in one pass over the rows.
     fn perform_each(&mut self, deeds: Vec<Deed>)
-        requires room { FitsRows self.old.tables self.old.room (added_deeds deeds.items) }
+        requires room { FitsRows self.old.tables self.old.room (added_deeds self.old.tables.meta.next_node deeds.items) }
         requires bears { BearsDeeds self.old.tables deeds.items }
+        requires order { StoresFirst deeds.items }
         ensures { self.new.tables ≡ deeds_done self.old.tables deeds.items }
     {
         let mut run = Vec::new(*deeds.allocator());
@@ -348,7 +351,7 @@ impl Tables {
     }
 
     fn perform(&mut self, deed: Deed)
-        requires room { FitsRows self.old.tables self.old.room (added_deed deed) }
+        requires room { FitsRows self.old.tables self.old.room (added_deed self.old.tables.meta.next_node deed) }
         requires bears { BearsDeed self.old.tables deed }
         ensures tables { self.new.tables ≡ deed_done self.old.tables deed }
         ensures room { IsNoSmaller self.old.room self.new.room }
@@ -472,6 +475,13 @@ impl Tables {
         push_nodes(list, self.tree.nodes())?;
         push_shares(list, self.shares.rows())?;
         push_mounts(list, self.mounts.rows())?;
+        self.push_beside(list)
+    }
+
+    /// Puts those of versions, of the trash and of uploads there.
+    fn push_beside(&self, list: &mut RowList) -> Result<(), AllocError>
+        ensures { OnOk result (list.new ≡ list.old ++ rows_beside self.now.tables) }
+    {
         push_versions(list, self.versions.rows())?;
         push_items(list, self.items.rows())?;
         push_uploads(list, self.uploads.uploads())?;
@@ -604,14 +614,28 @@ fn push_items(list: &mut RowList, items: &[ItemRow]) -> Result<(), AllocError>
     Ok(())
 }
 
+/// An equal upload.
+fn copy_upload(upload: &UploadRow) -> Result<UploadRow, AllocError>
+    ensures { IfOk result (λ copy. copy ≡ upload.now) }
+{
+    upload.clone()
+}
+
 /// Puts uploads at the end of a list of rows.
 fn push_uploads(list: &mut RowList, uploads: &[UploadRow]) -> Result<(), AllocError>
     ensures { OnOk result (list.new ≡ list.old ++ map kinds.Upload uploads.now) }
 {
     for upload in uploads {
-        list.push(Row::Upload(upload.clone()?))?;
+        list.push(Row::Upload(copy_upload(upload)?))?;
     }
     Ok(())
+}
+
+/// An equal chunk.
+fn copy_chunk(chunk: &ChunkRow) -> Result<ChunkRow, AllocError>
+    ensures { IfOk result (λ copy. copy ≡ chunk.now) }
+{
+    chunk.clone()
 }
 
 /// Puts chunks at the end of a list of rows.
@@ -619,7 +643,7 @@ fn push_chunks(list: &mut RowList, chunks: &[ChunkRow]) -> Result<(), AllocError
     ensures { OnOk result (list.new ≡ list.old ++ map kinds.Chunk chunks.now) }
 {
     for chunk in chunks {
-        list.push(Row::Chunk(chunk.clone()?))?;
+        list.push(Row::Chunk(copy_chunk(chunk)?))?;
     }
     Ok(())
 }

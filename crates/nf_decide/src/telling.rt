@@ -1,19 +1,19 @@
 //! What an act changes, told as a list of the rows that differ.
 
-ghost use Rattle.std.specs.Prelude.{◌≡◌, ◌+◌, ◌≤◌, count_by, max, true, false, [], ◌∷◌, ◌++◌, map, IfOk, OnOk};
+ghost use Rattle.std.specs.Prelude.{◌≡◌, count_by, true, false, [], ◌∷◌, ◌++◌, map, IfOk, OnOk};
 ghost use Rattle.std.specs.List.{flat_map};
 ghost use Rattle.nf_base.specs.declared.changes.Change.TheVariants as change;
 ghost use Rattle.nf_base.specs.declared.changes.RowKey.TheVariants as keys;
 ghost use Rattle.nf_base.specs.declared.rows.Row.TheVariants as kinds;
 ghost use Rattle.nf_defs.specs.Tree.{is_leaf, is_under, node_row, relinked, trashed};
-ghost use Rattle.nf_words.specs.Limits.{last_number};
 ghost use Rattle.nf_words.specs.Changes.{blob_of, changes_of, hold_of, meta_after, told, with_meta};
 ghost use Rattle.nf_words.specs.Versions.{forgotten_of};
 ghost use Rattle.nf_words.specs.Deeds.{closed_under, dropped_under, ended_row, gone_under, is_closing, told_deed, told_deeds, told_node};
 ghost use Rattle.nf_words.specs.declared.answer.Deed.TheVariants as deeds;
 ghost use Rattle.nf_words.specs.declared.answer.LockKey.TheVariants as lock_keys;
 ghost use Rattle.nf_words.specs.declared.answer.Mode.TheVariants.{Exclusive, Shared};
-ghost use Rattle.nf_decide.specs.Current.{BearsAct, added_by, added_deeds, added_of, discards, is_counted, is_fresh, nodes_joined, puts_group, puts_item, puts_member, puts_mount, puts_share, puts_token, puts_user, puts_version, requotes, rows_joined};
+ghost use Rattle.nf_decide.specs.Counts.{only_nodes};
+ghost use Rattle.nf_decide.specs.Current.{BearsAct, CountsDeed, CountsDeeds, added_by, added_deeds, added_of, counted_by, counted_with, discards, is_counted, is_fresh, nodes_joined, puts_chunk, puts_group, puts_item, puts_member, puts_mount, puts_share, puts_token, puts_upload, puts_user, puts_version, requotes, rows_joined};
 ghost use Rattle.nf_decide.specs.Gone.{TellsDeeds, closed_entry, told_first, told_gone};
 
 use crate::counts::RowCounts;
@@ -41,7 +41,6 @@ enum Counted {
     Item,
     Upload,
     Chunk,
-    Node,
     User,
     Token,
     Group,
@@ -86,9 +85,7 @@ fn told(alloc: Global, view: &View<'_>, act: &Allowed) -> Result<Changes, AllocE
         | Allowed::List(_)
         | Allowed::Put { .. }
         | Allowed::Chunk { .. }
-        | Allowed::Close => {
-            Ok(Changes::new(alloc))
-        }
+        | Allowed::Close => { Ok(Changes::new(alloc)) }
     }
 }
 
@@ -426,6 +423,7 @@ fn meta_after(view: &View<'_>, moment: Moment, act: &Allowed) -> MetaRow
 
 /// The meta row with its counters after some deeds.
 fn counted_by(meta: &MetaRow, deeds: &[Deed]) -> MetaRow
+    requires { CountsDeeds meta.now deeds.now }
     ensures { result ≡ counted_by meta.now deeds.now }
 {
     let mut counted = *meta;
@@ -437,6 +435,7 @@ fn counted_by(meta: &MetaRow, deeds: &[Deed]) -> MetaRow
 
 /// And after one.
 fn counted_with(meta: &MetaRow, deed: &Deed) -> MetaRow
+    requires { CountsDeed meta.now deed.now }
     ensures { result ≡ counted_with meta.now deed.now }
 {
     match deed {
@@ -472,34 +471,14 @@ fn rows_joined(deed: &Deed) -> usize
 {
     match deed {
         Deed::Join(rows) => rows.rows().len(),
-        Deed::Store(changes) => change_count(&Counted::Node, changes.as_slice()),
-        Deed::Discard(_)
+        Deed::Store(_)
+        | Deed::Discard(_)
         | Deed::Purge(_)
         | Deed::Restore { .. }
         | Deed::Relink { .. }
         | Deed::Requote(_)
         | Deed::Forget { .. }
         | Deed::Abandon { .. } => 0,
-    }
-}
-
-/// How many versions are put by some deeds.
-fn versions_put(deeds: &[Deed]) -> usize
-    ensures { result ≡ min (sum_by versions_stored deeds.now) last_number }
-{
-    let mut count: usize = 0;
-    for deed in deeds {
-        count = count.saturating_add(versions_stored(deed));
-    }
-    count
-}
-
-fn versions_stored(deed: &Deed) -> usize
-    ensures { result ≡ versions_stored deed.now }
-{
-    match deed {
-        Deed::Store(changes) => change_count(&Counted::Version, changes.as_slice()),
-        _ => 0,
     }
 }
 
@@ -513,21 +492,28 @@ pub fn added_by(view: &View<'_>, act: &Allowed) -> RowCounts
         | Allowed::List(_)
         | Allowed::Put { .. }
         | Allowed::Chunk { .. }
-        | Allowed::Close => {
-            RowCounts::only_nodes(0)
-        }
-        Allowed::Deeds { deeds, .. } => added_deeds(deeds.as_slice()),
+        | Allowed::Close => { RowCounts::only_nodes(0) }
+        Allowed::Deeds { deeds, .. } => added_deeds(view.meta().next_node, deeds.as_slice()),
     }
 }
 
-/// How many rows some deeds add at most: copies, items of the trash, and a user.
-fn added_deeds(deeds: &[Deed]) -> RowCounts
-    ensures { result ≡ added_deeds deeds.now }
+/// How many rows some deeds add at most. Behind changes that are stored nothing is added.
+fn added_deeds(next: NodeId, deeds: &[Deed]) -> RowCounts
+    ensures { result ≡ added_deeds next deeds.now }
+{
+    match deeds.first() {
+        Some(Deed::Store(changes)) => added_of(next, changes.as_slice()),
+        _ => added_otherwise(deeds),
+    }
+}
+
+/// What deeds add where none stores changes: copies, items of the trash, and a user.
+fn added_otherwise(deeds: &[Deed]) -> RowCounts
+    ensures { result ≡ record (only_nodes (nodes_joined deeds.now)) { users = count_by requotes deeds.now; items = count_by discards deeds.now } }
 {
     RowCounts {
         items: deeds.iter().filter(|deed| discards(deed)).count(),
         users: deeds.iter().filter(|deed| requotes(deed)).count(),
-        versions: versions_put(deeds),
         ..RowCounts::only_nodes(nodes_joined(deeds))
     }
 }
@@ -588,7 +574,6 @@ fn is_counted(counted: &Counted, change: &Change) -> bool
         Counted::Item => puts_item(change),
         Counted::Upload => puts_upload(change),
         Counted::Chunk => puts_chunk(change),
-        Counted::Node => puts_node(change),
         Counted::User => puts_user(change),
         Counted::Token => puts_token(change),
         Counted::Group => puts_group(change),
@@ -640,12 +625,6 @@ fn puts_chunk(change: &Change) -> bool
     ensures { result ≡ puts_chunk change.now }
 {
     matches!(change, Change::Put(Row::Chunk(_)))
-}
-
-fn puts_node(change: &Change) -> bool
-    ensures { result ≡ puts_node change.now }
-{
-    matches!(change, Change::Put(Row::Node(_)))
 }
 
 fn puts_user(change: &Change) -> bool

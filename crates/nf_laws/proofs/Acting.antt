@@ -41,7 +41,7 @@ use Rattle.nf_laws.proofs.Parts.{leaving_stamped}
 use Rattle.nf_laws.proofs.Rows.{finds_none, found_is, row_id, row_is, stamp}
 use Rattle.nf_laws.proofs.Others.{stamp_sound}
 use Rattle.nf_laws.specs.Access.{LeadsBy}
-use Rattle.nf_laws.specs.Acts.{AreTaken, DeletesKeep, DropsKeep, EmptyingKeeps, FoldersAreMade, IsAdded, IsDeleted, IsFolderMade, IsItemOf, IsMountChanged, IsPut, IsRefilled, IsRestored, ItemsComeBack, LeadsToKeyBy, MountsAreLeft, MountsAreRenamed, PutsAreGranted, PutsKeep, SweepsTake, AreVersionsLeft, IsOldVersion}
+use Rattle.nf_laws.specs.Acts.{AreSwept, AreTaken, DeletesKeep, DropsKeep, EmptyingKeeps, FoldersAreMade, IsAdded, IsDeleted, IsFolderMade, IsItemOf, IsMountChanged, IsPut, IsRefilled, IsRestored, ItemsComeBack, LeadsToKeyBy, MountsAreLeft, MountsAreRenamed, PutsAreGranted, PutsKeep, SweepsTake, AreVersionsLeft, IsOldVersion}
 use Rattle.nf_laws.specs.Reads.{LeadsToKey}
 use Rattle.nf_laws.specs.Walks.{LeadsToFree}
 use Rattle.nf_words.proofs.Begins.{delete_leaves, only_at, places_at, wanted_passes, WantedPasses}
@@ -55,16 +55,17 @@ use Rattle.nf_words.proofs.Starts.{has_asker, itself_asker, row_of_caller}
 use Rattle.nf_words.proofs.Sweeping.{gone_owned, swept_goes}
 use Rattle.nf_words.proofs.Trashing.{back_known, dropped_goes, emptied_goes}
 use Rattle.nf_words.proofs.Ways.{way_there}
-use Rattle.nf_words.specs.Prelude.{access_of, allowed_of, answered_by, AreSound, asked_of, asker_of, behind, beside, blob_after, blob_for, by_of, Call, call_decision, call_of, changed, content_in, decision_of, deleted, discard, deeds_done, done, end_refusal, ends_at, found, given, gone_beside, gone_from, IsHeld, IsStorable, item_dropped, item_restored, items_of, last_name, left_row, made_folder, makes, MayAsk, MayEnd, mount_left, mount_of, mount_renamed, moved, named_row, named_rule, new_node, node_at, nothing_done, own_mount, owners_of, purges, refilled, refusal_of, root_of, seeker_of, row_at, source_lost, stored, stored_at, stores, swept, taken, target_lost, transfer_of, unnamed_by, untrashed, user_of, way_by, way_of, with_mount_row, charged, content_size, drop_version, gone_after, is_same, raised, refills, turns_over, unsettled, forgets, item_size, purged_by, restoring}
+use Rattle.nf_words.specs.Prelude.{access_of, allowed_of, answered_by, AreSound, asked_of, asker_of, behind, beside, blob_after, blob_for, by_of, Call, call_decision, call_of, changed, content_in, decision_of, deleted, discard, deeds_done, done, end_refusal, ends_at, found, given, gone_beside, gone_from, home_of, IsHeld, IsStorable, item_dropped, item_restored, items_of, last_name, left_row, made_folder, makes, MayAsk, MayEnd, mount_left, mount_of, mount_renamed, moved, name_back, named_row, named_rule, new_node, node_at, nothing_done, own_mount, owners_of, purges, refilled, refusal_of, root_of, seeker_of, row_at, source_lost, stored, stored_at, stores, swept, taken, target_lost, transfer_of, unnamed_by, untrashed, user_of, way_by, way_of, with_mount_row, charged, content_size, drop_version, gone_after, is_same, raised, refills, turns_over, unsettled, forgets, item_size, purged_by, restoring}
 use Rattle.nf_words.specs.declared.answer.Allowed.{Allowed}
 use Rattle.nf_words.specs.declared.answer.Allowed.TheVariants as allowed
 use Rattle.nf_words.specs.declared.answer.Deed.{Deed}
+use Rattle.nf_words.specs.declared.answer.Deed.TheVariants as deed
 use Rattle.nf_words.specs.declared.answer.Denial.{Denial}
 use Rattle.nf_words.specs.declared.answer.Goal.{Goal}
 use Rattle.nf_words.specs.declared.answer.LockKey.{LockKey}
 use Rattle.nf_words.specs.declared.answer.LockKey.TheVariants.{Node, Slot}
 use Rattle.nf_words.specs.declared.answer.Report.{Report}
-use Rattle.nf_words.specs.declared.answer.Report.TheVariants.{Done, Made, Plain}
+use Rattle.nf_words.specs.declared.answer.Report.TheVariants.{Done, Made}
 use Rattle.nf_words.specs.declared.history.Event.TheVariants.{Begin, End, Sweep}
 use Rattle.nf_words.specs.declared.history.Outcome.TheVariants.{Body}
 use Rattle.nf_words.specs.declared.request.Making.TheVariants as making
@@ -78,6 +79,7 @@ use Rattle.nf_laws.proofs.Turning.{added_fewer, altered_old, discard_keeps, Keep
 use Rattle.nf_laws.proofs.InTurn.{deeds_append}
 use Rattle.nf_retention.specs.declared.versions.Version.{Version}
 use Rattle.nf_base.specs.declared.rows.MetaRow.{MetaRow}
+use Rattle.nf_laws.proofs.Abandoned.{swept_rows}
 use Rattle.nf_laws.proofs.Behind.{behind_changed, restored_behind}
 
 -- ---- a call that isn't refused
@@ -361,8 +363,8 @@ sweeps_take s seat now sound =
             flat_has (gone_from t now) (owners_of t.items) is.0.owner node
             (owner_among t.items is.0 (found_among (λ (item : ItemRow). item.node == node) t.items is.0 is.1)) is.2,
       ),
-      subst (λ (made : Tables). AreTaken t made tops) (sym (step_changed s seat now Sweep (swept t now) refl))
-          (taken_rows t now tops Plain sound.rows (swept_goes t sound.rows now)),
+      subst (λ (made : Tables). AreSwept t made now tops) (sym (step_changed s seat now Sweep (swept t now) refl))
+          (swept_rows t now tops sound.rows (swept_goes t sound.rows now)),
     )
 
 -- ---- a mount itself

@@ -1,7 +1,6 @@
 -- Where a file comes or has another content: by the End of a PUT, and by what the chunks of an upload have together.
-use Rattle.std.proofs.Common.{◌≡◌, ◌≢◌, ◌⊎◌, ℕ, ◌+◌, ◌==◌, ◌<◌, ◌≤◌, Bool, true, false, List, [], ◌∷◌, ◌++◌, ◌∙◌, length, map, Option, None, Some, if◌then◌else◌, refl, sym, ap, subst, arith, inl, inr}
+use Rattle.std.proofs.Common.{◌≡◌, ℕ, ◌+◌, ◌==◌, ◌<◌, ◌≤◌, true, false, List, [], ◌∷◌, ◌∙◌, length, map, Option, None, Some, if◌then◌else◌, refl, sym, ap, subst, arith, inl, inr}
 use Rattle.std.specs.Prelude.{is_some}
-use Rattle.std.specs.List.{All}
 use Rattle.std.specs.Option.{option_map_or}
 use Rattle.std.proofs.lemmas.Bool.{both_ways, cases_Bool, eq-eqb, eqb-true, ne_eqb}
 use Rattle.std.proofs.lemmas.List.Elements.{All-weaker}
@@ -9,15 +8,14 @@ use Rattle.nf_base.specs.declared.changes.Change.{Change}
 use Rattle.nf_base.specs.declared.changes.Change.TheVariants.{Put}
 use Rattle.nf_base.specs.declared.content.Piece.{Piece}
 use Rattle.nf_base.specs.declared.perms.Act.TheVariants as act
-use Rattle.nf_base.specs.declared.rows.MetaRow.{MetaRow}
 use Rattle.nf_base.specs.declared.rows.NodeKind.TheVariants.{File}
 use Rattle.nf_base.specs.declared.rows.NodeRow.{NodeRow}
 use Rattle.nf_base.specs.declared.rows.Row.TheVariants as rows
 use Rattle.nf_defs.specs.Prelude.{child_of, is_folder, node_key, node_row, owner_of, put, put_all, Tables}
 use Rattle.nf_defs.specs.declared.Found.{Found}
 use Rattle.nf_defs.specs.declared.Found.TheVariants.{At, Free, Missing}
-use Rattle.nf_laws.proofs.Fitting.{added_fits, alone_fits, filled_fits, first_needed, Fits, FitsAlone, need_of, OneOther, refilled_fits}
-use Rattle.nf_laws.proofs.Following.{added_follow, AllFollow, kept_shares}
+use Rattle.nf_laws.proofs.Fitting.{added_fits, alone_fits, filled_fits, first_needed, Fits, need_of, OneOther, refilled_fits}
+use Rattle.nf_laws.proofs.Following.{added_follow, kept_shares}
 use Rattle.nf_laws.proofs.InTurn.{fit_sound}
 use Rattle.nf_laws.proofs.Others.{stamp_sound}
 use Rattle.nf_laws.proofs.Parts.{deed_stamped, step_turn}
@@ -33,7 +31,7 @@ use Rattle.nf_words.proofs.Fits.{KnownChange, newest, put_found}
 use Rattle.nf_words.proofs.Known.{KnownSettled}
 use Rattle.nf_words.proofs.Starts.{IsAsking}
 use Rattle.nf_words.proofs.Ways.{free_no_mount, slot_known}
-use Rattle.nf_words.specs.Prelude.{access_of, AreSound, assembled_at, Call, charged, content_size, drop_version, found, is_there, last_name, Need, needed_by, needs_at, needs_in, new_file, new_node, node_found, refilled, replaced, root_of, unreached, unsettled, way_of}
+use Rattle.nf_words.specs.Prelude.{access_of, AreSound, assembled_at, Call, charged, content_size, drop_version, found, last_name, Need, needed_by, needs_at, needs_in, new_file, new_node, node_found, refilled, replaced, root_of, unreached, unsettled, way_of}
 use Rattle.nf_words.specs.declared.answer.By.{By}
 use Rattle.nf_words.specs.declared.answer.Deed.{Deed}
 use Rattle.nf_words.specs.declared.answer.Deed.TheVariants as deed

@@ -3,8 +3,8 @@ use Rattle.std.proofs.Common.{◌≡◌, ℕ, ◌<◌, ◌≤◌, ◌==◌, Bool
 use Rattle.std.specs.Prelude.{None, Option, option_map, Some}
 use Rattle.std.specs.List.{All}
 use Rattle.std.specs.Option.{IfSome, option_map_or}
-use Rattle.std.proofs.lemmas.List.Elements.{All-append, All-cons, All-filter, All-nil, All-contains, All-weaker}
-use Rattle.std.proofs.lemmas.Option.{none-some, slice_get-get_or}
+use Rattle.std.proofs.lemmas.List.Elements.{All-cons, All-nil, All-contains, All-weaker}
+use Rattle.std.proofs.lemmas.Option.{none-some}
 use Rattle.std.proofs.lemmas.Bool.{cases_Bool, cond_both}
 use Rattle.sha2.specs.Sha256.{sha256}
 use Rattle.nf_base.specs.declared.changes.Change.{Change}
@@ -21,7 +21,7 @@ use Rattle.nf_base.specs.Content.{content_eq}
 use Rattle.nf_base.specs.declared.changes.Change.TheVariants.{Drop, Put}
 use Rattle.nf_base.specs.declared.changes.RowKey.TheVariants as keys
 use Rattle.nf_base.specs.declared.rows.Row.TheVariants as rows
-use Rattle.nf_defs.specs.Prelude.{Access, blob_at, Blobs, chunk_key, content_of, filled, is_folder, made, node_key, node_row, put_all, put_blob, relinked, Tables, user_named, with_blob}
+use Rattle.nf_defs.specs.Prelude.{Access, blob_at, Blobs, chunk_key, content_of, filled, is_folder, made, node_key, node_row, put_all, put_blob, Tables, user_named, with_blob}
 use Rattle.nf_defs.proofs.Blobs.{new_at, put_at, put_elsewhere, still_at}
 use Rattle.nf_defs.proofs.Puts.{all_put}
 use Rattle.nf_defs.specs.declared.Found.{Found}

@@ -13,7 +13,7 @@ use Rattle.nf_base.specs.declared.rows.ChunkRow.{ChunkRow}
 use Rattle.nf_base.specs.declared.rows.MetaRow.{MetaRow}
 use Rattle.nf_base.specs.declared.rows.Row.TheVariants as rows
 use Rattle.nf_base.specs.declared.rows.UploadRow.{UploadRow}
-use Rattle.nf_defs.specs.Prelude.{chunk_key, dropped, put, put_all, Tables, upload_key}
+use Rattle.nf_defs.specs.Prelude.{chunk_key, put, put_all, Tables, upload_key}
 use Rattle.nf_laws.specs.Access.{IsThatUpload, OnlyUploads}
 use Rattle.nf_words.proofs.Chunked.{upload_is}
 use Rattle.nf_words.proofs.Found.{put_leaves}

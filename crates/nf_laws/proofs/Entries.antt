@@ -1,5 +1,5 @@
 -- What a state is after an entry: as before it but for what an event takes, or as an act made it of which its Known is known.
-use Rattle.std.proofs.Common.{ℕ, ◌==◌, ◌≡◌, ◌≤◌, not, List, Option, None, Some, Result, Ok, Err, refl, sym, ap, subst}
+use Rattle.std.proofs.Common.{ℕ, ◌==◌, ◌≡◌, ◌≤◌, not, List, Option, None, Some, Result, Ok, Err, refl, ap, subst}
 use Rattle.std.specs.List.{All}
 use Rattle.std.specs.Option.{IfSome}
 use Rattle.std.proofs.lemmas.List.Elements.{All-filter, All-push}
@@ -41,7 +41,7 @@ tickets_with P tickets seat (Some goal) hold all one = All-push P tickets _ all 
 -- ---- a step
 
 -- what an event takes is no row
-same_tables : (s : State) (seat : ℕ) (event : Event) → s.tables ≡ (without s seat event).tables
+pub same_tables : (s : State) (seat : ℕ) (event : Event) → s.tables ≡ (without s seat event).tables
 same_tables s seat (Begin words request) = refl
 same_tables s seat (End outcome) = refl
 same_tables s seat Sweep = refl

@@ -17,7 +17,7 @@ use Rattle.nf_base.specs.declared.perms.Act.TheVariants as act
 use Rattle.nf_base.specs.declared.rows.MetaRow.{MetaRow}
 use Rattle.nf_base.specs.declared.rows.MountRow.{MountRow}
 use Rattle.nf_base.specs.declared.rows.NodeKind.{NodeKind}
-use Rattle.nf_base.specs.declared.rows.NodeKind.TheVariants.{File, Folder}
+use Rattle.nf_base.specs.declared.rows.NodeKind.TheVariants.{Folder}
 use Rattle.nf_base.specs.declared.rows.NodeRow.{NodeRow}
 use Rattle.nf_base.specs.declared.rows.Place.{Place}
 use Rattle.nf_defs.proofs.Puts.{below_rest, key_total, tail_rising, turned}
@@ -40,7 +40,7 @@ use Rattle.nf_laws.proofs.Reaching.{way_mount}
 use Rattle.nf_laws.proofs.Remaining.{added_present, gone_present, KeepsPresent, filled_present}
 use Rattle.nf_laws.proofs.Rows.{found_is, inside_folder, parent_there, row_id, stamp, stamped_has}
 use Rattle.nf_laws.proofs.Upwards.{climbs_is_under}
-use Rattle.nf_laws.specs.Acts.{IsAdded, IsPut, IsRefilled}
+use Rattle.nf_laws.specs.Acts.{IsAdded, IsRefilled}
 use Rattle.nf_laws.specs.Access.{Follows, IsNeeded, IsOwnPath, ItemsFollow, KeepsShares, Remounts, is_left, is_moved, is_renamed, is_updated}
 use Rattle.nf_laws.specs.Transfers.{replaced_by}
 use Rattle.nf_words.proofs.Begins.{delete_leaves, only_at, places_at, WantedPasses}
@@ -51,12 +51,10 @@ use Rattle.nf_words.proofs.Starts.{IsAsking, itself_seeks}
 use Rattle.nf_words.proofs.Transfers.{copies_known, no_mount, no_starts, transfer_known, transfer_parts}
 use Rattle.nf_words.proofs.Ways.{free_no_mount, slot_known}
 use Rattle.nf_words.specs.Needed.{source_act, target_needs, act_asked, node_asked}
-use Rattle.nf_words.specs.Prelude.{access_of, AreSound, asked_of, asker_of, by_of, beside, Call, carry_limit, changed, copied, copies, copies_to, copy_limit, crosses, crossing, deeds_done, deepest_in, deleted, discard, fault_of_ask, folder_at, found, given, is_itself, is_one, is_start, is_within, last_name, LeadsToRoot, left_row, limited, listing_of, made_folder, made_or_done, mount_for, mount_left, mount_of, mount_renamed, mounted, move_limit, moved, moves, named_row, Need, needed, needed_by, needs, needs_at, needs_between, needs_in, node_at, node_found, own_mount, purges, root_of, row_at, seeker_of, served, shared, stored, told, transfer_of, unfit_between, unreached, Way, way_by, way_of, with_mount_row, forgets, brought_back, refills, settled_by, charged_for, copies_settled, unsettled, purged_by, version_done, version_row, nothing_done}
+use Rattle.nf_words.specs.Prelude.{access_of, AreSound, asked_of, asker_of, by_of, beside, Call, carry_limit, changed, copied, copies, copies_to, copy_limit, crosses, crossing, deeds_done, deepest_in, deleted, discard, fault_of_ask, folder_at, found, given, is_itself, is_one, is_start, is_within, last_name, LeadsToRoot, left_row, limited, listing_of, made_folder, made_or_done, mount_for, mount_left, mount_of, mount_renamed, mounted, move_limit, moved, moves, named_row, Need, needed, needs, needs_at, needs_between, needs_in, node_at, node_found, own_mount, purges, root_of, row_at, seeker_of, served, shared, stored, told, transfer_of, unfit_between, unreached, Way, way_by, way_of, with_mount_row, forgets, brought_back, refills, settled_by, charged_for, copies_settled, unsettled, purged_by, version_done, version_row, nothing_done}
 use Rattle.nf_words.specs.declared.answer.Allowed.TheVariants as allowed
 use Rattle.nf_words.specs.declared.answer.By.{By}
 use Rattle.nf_words.specs.declared.answer.Deed.{Deed}
-use Rattle.nf_words.specs.declared.answer.LockKey.{LockKey}
-use Rattle.nf_words.specs.declared.answer.LockKey.TheVariants.{Node, Slot}
 use Rattle.nf_words.specs.declared.answer.Report.{Report}
 use Rattle.nf_words.specs.declared.answer.Report.TheVariants as report
 use Rattle.nf_words.specs.declared.request.Making.TheVariants as making

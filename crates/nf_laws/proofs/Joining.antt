@@ -1,5 +1,5 @@
 -- What the chunks of an upload have together is charged where it is stored, and passes no quota.
-use Rattle.std.proofs.Common.{◌≡◌, ◌≢◌, ◌⊎◌, ℕ, ◌+◌, ◌==◌, ◌≤◌, Bool, true, false, List, [], ◌∷◌, ◌∙◌, map, Option, None, Some, if◌then◌else◌, inl, inr, refl, sym, ap, subst, arith, le_refl}
+use Rattle.std.proofs.Common.{◌≡◌, ◌⊎◌, ℕ, ◌+◌, ◌==◌, ◌≤◌, Bool, true, false, List, [], ◌∷◌, Option, None, Some, if◌then◌else◌, inl, inr, refl, sym, ap, subst, arith, le_refl}
 use Rattle.std.specs.Prelude.{sum_by}
 use Rattle.std.specs.Option.{option_and_then, option_map_or}
 use Rattle.std.proofs.lemmas.Bool.{eqb-true}
@@ -16,9 +16,8 @@ use Rattle.nf_laws.proofs.Charging.{charge_beside}
 use Rattle.nf_laws.proofs.Others.{stamp_sound}
 use Rattle.nf_laws.proofs.Parts.{deed_stamped}
 use Rattle.nf_laws.proofs.Recharged.{fits, KeepsCharge, Lower}
-use Rattle.nf_laws.proofs.Refilled.{added_made, nodes_filled, refilled_made}
+use Rattle.nf_laws.proofs.Refilled.{added_made, refilled_made}
 use Rattle.nf_laws.proofs.Rows.{stamp}
-use Rattle.nf_laws.proofs.Sizes.{weight}
 use Rattle.nf_laws.proofs.Stored.{born_comes, Comes, comes_charged, refills_comes}
 use Rattle.nf_laws.proofs.Trashing.{act_kept, KeepsTrash, trash_same}
 use Rattle.nf_laws.specs.Charges.{bytes_owned, bytes_there, bytes_trashed, charged_at, IsCharged}

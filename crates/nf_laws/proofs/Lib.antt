@@ -1,4 +1,5 @@
 pub mod Abandoning
+pub mod Abandoned
 pub mod Acted
 pub mod Acting
 pub mod Added
@@ -89,6 +90,7 @@ pub mod Told
 pub mod Transferred
 pub mod Trashed
 pub mod Trashing
+pub mod Uploaded
 pub mod Upwards
 pub mod Walked
 pub mod Weighing

@@ -1,5 +1,5 @@
 -- What the pieces of all rows have, where nothing is stored: each content that a row gets is none, or was that of rows before.
-use Rattle.std.proofs.Common.{◌≡◌, ◌≤◌, ◌⊎◌, ◌==◌, ◌&&◌, inl, inr, ℕ, List, [], ◌∷◌, ◌++◌, Option, None, Some, bytes_eq, not, flat_map, get_or, sym, ap, subst, ◌∙◌, arith}
+use Rattle.std.proofs.Common.{◌≡◌, ◌⊎◌, ◌==◌, ◌&&◌, inl, inr, ℕ, List, [], ◌∷◌, Option, None, bytes_eq, not, flat_map, get_or, sym, subst}
 use Rattle.std.specs.Prelude.{is_some}
 use Rattle.std.specs.List.{All}
 use Rattle.std.proofs.lemmas.List.Elements.{All-append, All-filter, All-head, All-nil, All-push, All-tail}
@@ -24,7 +24,7 @@ use Rattle.nf_laws.proofs.Peopled.{people_alone}
 use Rattle.nf_laws.proofs.Rows.{found_is}
 use Rattle.nf_words.proofs.Bodies.{IsOfBody}
 use Rattle.nf_words.proofs.Fits.{IsAgain, IsOfUpload, IsOfVersion, KnownChange}
-use Rattle.nf_words.specs.Prelude.{altered, AreSound, chunks_of, deed_done, is_chunk_of, IsOfPeople, whole_of}
+use Rattle.nf_words.specs.Prelude.{altered, AreSound, chunks_of, deed_done, is_chunk_of, IsOfPeople}
 use Rattle.nf_words.specs.declared.answer.Allowed.TheVariants as allowed
 use Rattle.nf_words.specs.declared.answer.Deed.{Deed}
 use Rattle.nf_words.specs.declared.answer.Deed.TheVariants as deed
@@ -63,7 +63,8 @@ module _ (Q : Piece → Type 0) where
   version_has t node content have (version, at, found, is) =
       subst (All Q) (sym is) (found_is VersionHas (λ (row : VersionRow). row.node == node && row.at == at) t.versions version have.versions found).1
 
-  born_has : (t : Tables) (content : List Piece) → Have t → IsOfBody t.meta None content ⊎ ((◌≡◌ {A = Option ℕ} None None) × IsOfUpload t content) → All Q content
+  born_has : (t : Tables) (content : List Piece) → Have t
+      → IsOfBody t.meta None content ⊎ ((◌≡◌ {A = Option ℕ} None None) × IsOfUpload t content) → All Q content
   born_has t content have (inl none) = no_pieces content none
   born_has t content have (inr (same, of)) = upload_has t content have of
 

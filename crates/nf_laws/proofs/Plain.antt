@@ -1,5 +1,5 @@
 -- What a decided act stores by a deed is a file, and versions with it: what the chunks of an upload become.
-use Rattle.std.proofs.Common.{◌≡◌, ℕ, ◌==◌, ◌∙◌, Bool, true, false, List, [], ◌∷◌, ◌++◌, map, flat_map, filter, Option, None, Some, Result, Ok, Err, if◌then◌else◌, refl, subst}
+use Rattle.std.proofs.Common.{◌≡◌, ℕ, ◌==◌, Bool, true, false, List, [], ◌∷◌, ◌++◌, map, flat_map, filter, Option, None, Some, Result, Ok, Err, if◌then◌else◌, refl, ap, subst}
 use Rattle.std.specs.List.{All}
 use Rattle.std.specs.Option.{option_map_or}
 use Rattle.std.proofs.lemmas.Bool.{cond_both}
@@ -19,9 +19,8 @@ use Rattle.nf_defs.specs.declared.Found.{Found}
 use Rattle.nf_defs.specs.declared.Found.TheVariants.{At, Free, Missing}
 use Rattle.nf_laws.proofs.Each.{abandons_each, besides_each, crossing_each, discards_each, forgets_each, purges_each, put_each}
 use Rattle.nf_laws.proofs.Refilled.{drops_only, IsOfVersions, turned_only}
-use Rattle.nf_words.proofs.Begins.{only_at}
 use Rattle.nf_words.specs.Changes.{Charged}
-use Rattle.nf_words.specs.Prelude.{access_of, allowed_of, assembled, assembled_at, asker_of, besides, brought_back, by_of, Call, call_of, chunk_refusal, chunk_stored, decision_of, end_refusal, ends_at, ends_goal, goal_at, gone_from, is_idle, owners_of, places_of, refusal_of, State, stored_at, unless_refused, carries, charged, charged_for, charged_to, chunk_number, chunk_sent, content_size, copied, copies, copies_settled, copies_to, crosses, crossing, deleted, discards, done, forgets, given, gone_after, gone_beside, is_same, item_dropped, item_restored, items_of, last_name, listing_of, made_folder, made_or_done, mount_left, mount_renamed, moved, moves, new_file, node_at, nothing_done, offered, own_item, people_done, perms_after, purges, refilled, refills, requoted, requoting, restoring, row_at, row_named, served, settled_by, share_ended, share_made, share_set, share_shown, share_steered, share_told, shared, stored, transfer_of, trash_done, turns_over, unsettled, until_after, upload_done, version_done, version_row, way_of, purged_by}
+use Rattle.nf_words.specs.Prelude.{access_of, allowed_of, assembled, assembled_at, asker_of, besides, brought_back, by_of, Call, call_of, chunk_refusal, chunk_stored, decision_of, end_refusal, ends_at, ends_goal, goal_at, gone_from, is_idle, owners_of, places_of, refusal_of, State, stored_at, unless_refused, carries, charged, charged_for, charged_to, chunk_number, chunk_sent, content_size, copies, copies_settled, copies_to, crosses, crossing, deleted, discards, done, forgets, given, gone_after, gone_beside, is_same, item_dropped, item_restored, items_of, last_name, listing_of, made_folder, made_or_done, mount_left, mount_renamed, moved, moves, new_file, node_at, nothing_done, offered, own_item, people_done, perms_after, purges, refilled, refills, requoted, requoting, restoring, row_at, row_named, served, settled_by, share_ended, share_made, share_set, share_shown, share_steered, share_told, shared, stored, transfer_of, trash_done, turns_over, unsettled, until_after, upload_done, version_done, version_row, way_of, purged_by}
 use Rattle.nf_words.specs.declared.answer.Allowed.{Allowed}
 use Rattle.nf_words.specs.declared.answer.Allowed.TheVariants as allowed
 use Rattle.nf_words.specs.declared.answer.By.{By}
@@ -60,17 +59,24 @@ IsFiling (Put (rows.Version row)) = Unit {0}
 IsFiling (Drop (keys.Version node at)) = Unit {0}
 IsFiling change = ⊥
 
--- no chunk is another by them
-pub filing_chunks : (u : Tables) (changes : List Change) → All IsFiling changes → (put_all u changes).chunks ≡ u.chunks
-filing_chunks u [] all = refl
-filing_chunks u (change ∷ changes) all =
-    filing_chunks (made u change) changes (All-tail IsFiling change changes all) ∙ here change (All-head IsFiling change changes all)
+-- nothing but nodes and versions is another by them
+pub filing_rest : (u : Tables) (changes : List Change) → All IsFiling changes
+    → put_all u changes ≡ record u { nodes = (put_all u changes).nodes; versions = (put_all u changes).versions }
+filing_rest u [] all = refl
+filing_rest u (change ∷ changes) all =
+    here change (All-head IsFiling change changes all) (filing_rest (made u change) changes (All-tail IsFiling change changes all))
   where
-    here : (change : Change) → IsFiling change → (made u change).chunks ≡ u.chunks
-    here (Put (rows.Node row)) is = refl
-    here (Put (rows.Version row)) is = refl
-    here (Drop (keys.Version node at)) is = refl
-    here change is = absurd is
+    Rest : Tables → Tables → Type 0
+    Rest v w = w ≡ record v { nodes = w.nodes; versions = w.versions }
+
+    here : (change : Change) → IsFiling change → Rest (made u change) (put_all (made u change) changes) → Rest u (put_all (made u change) changes)
+    here (Put (rows.Node row)) is rest = rest
+    here (Put (rows.Version row)) is rest = rest
+    here (Drop (keys.Version node at)) is rest = rest
+    here change is rest = absurd is
+
+pub filing_chunks : (u : Tables) (changes : List Change) → All IsFiling changes → (put_all u changes).chunks ≡ u.chunks
+filing_chunks u changes all = ap (λ (v : Tables). v.chunks) (filing_rest u changes all)
 
 -- nor is the meta row dropped
 filing_droppable : (change : Change) → IsFiling change → IsDroppable change

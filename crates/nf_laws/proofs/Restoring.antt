@@ -33,38 +33,37 @@ use Rattle.nf_laws.proofs.Turning.{purges_keep, versions_left, deeds_fewer}
 
 -- ---- what of a user's trash goes for good
 
--- those items are taken
+-- those items are taken, at whatever moment
+pub taken_at : (t : Tables) (tops : List ℕ) (moment : ℕ) → AreSound t → KnownGoes t tops → AreTaken t (stamp (deeds_done t (purges tops)) moment) tops
+taken_at t tops moment sound goes =
+    let h = items_purged t tops sound goes.items goes.once in
+    record {
+      gone = h.gone;
+      none = h.none;
+      others = h.others;
+      items = h.items;
+      versions = versions_left t (purges tops) sound (purges_keep tops);
+      rest = ap (λ (u : Tables). stamp u moment) (purged_rest t tops)
+          ∙ (λ i. record t {
+            meta = record t.meta { last = moment };
+            nodes = (deeds_done t (purges tops)).nodes;
+            shares = shares_purged t tops sound goes.items goes.once i;
+            versions = (deeds_done t (purges tops)).versions;
+            items = (deeds_done t (purges tops)).items;
+          });
+    }
+
 pub taken_rows : (t : Tables) (now : ℕ) (tops : List ℕ) (report : Report) → AreSound t → KnownGoes t tops
     → AreTaken t (changed t now (allowed.Deeds (purges tops) report)) tops
 taken_rows t now tops report sound goes = here tops goes
   where
-    -- at whatever moment
-    without : (tops : List ℕ) (moment : ℕ) → KnownGoes t tops → AreTaken t (stamp (deeds_done t (purges tops)) moment) tops
-    without tops moment goes =
-        let h = items_purged t tops sound goes.items goes.once in
-        record {
-          gone = h.gone;
-          none = h.none;
-          others = h.others;
-          items = h.items;
-          versions = versions_left t (purges tops) sound (purges_keep tops);
-          rest = ap (λ (u : Tables). stamp u moment) (purged_rest t tops)
-              ∙ (λ i. record t {
-                meta = record t.meta { last = moment };
-                nodes = (deeds_done t (purges tops)).nodes;
-                shares = shares_purged t tops sound goes.items goes.once i;
-                versions = (deeds_done t (purges tops)).versions;
-                items = (deeds_done t (purges tops)).items;
-              });
-        }
-
     here : (tops : List ℕ) → KnownGoes t tops → AreTaken t (changed t now (allowed.Deeds (purges tops) report)) tops
-    here [] goes = without [] t.meta.last goes
+    here [] goes = taken_at t [] t.meta.last sound goes
     here (top ∷ rest) goes =
         subst (λ (made : Tables). AreTaken t made (top ∷ rest))
         (sym (stamped_some t (deeds_done t (purges (top ∷ rest))) now (told t (allowed.Deeds (purges (top ∷ rest)) report))
         (deeds_told t now (deed.Purge top) (purges rest) tt (inl (All-head (IsItem t) top rest goes.items)))))
-        (without (top ∷ rest) now goes)
+        (taken_at t (top ∷ rest) now sound goes)
 
 -- each item of a user's is among them all
 pub node_among : (user : ℕ) (items : List ItemRow) (item : ItemRow) → Contains items item → item.owner ≡ user

@@ -1,5 +1,5 @@
 -- The tables with an upload or a chunk that is put, and those without an upload and its chunks, are sound.
-use Rattle.std.proofs.Common.{◌≡◌, ◌≤◌, ◌+◌, ◌-◌, ◌&&◌, ◌==◌, ℕ, bytes_eq, Bool, true, false, not, List, [], ◌∷◌, ◌++◌, filter, find, get_or, length, sum_by, Option, None, Some, if◌then◌else◌, inl, inr, refl, sym, ap, subst, ◌∙◌, arith, le_refl}
+use Rattle.std.proofs.Common.{◌≡◌, ◌≤◌, ◌+◌, ◌-◌, ◌&&◌, ◌==◌, ℕ, bytes_eq, Bool, true, false, not, List, [], ◌∷◌, ◌++◌, filter, find, get_or, length, Option, None, Some, if◌then◌else◌, inl, inr, refl, sym, ap, subst, ◌∙◌, arith, le_refl}
 use Rattle.std.specs.Prelude.{is_some}
 use Rattle.std.specs.List.{All}
 use Rattle.std.specs.Option.{option_map_or}
@@ -16,7 +16,7 @@ use Rattle.nf_defs.specs.Prelude.{chunk_key, dropped, key_cmp, put, Tables, uplo
 use Rattle.nf_laws.proofs.Rows.{found_is}
 use Rattle.nf_laws.proofs.Sums.{number_passing, put_sum, put_sum_over, sum_passing}
 use Rattle.nf_laws.proofs.Turned.{turned, turned_sound}
-use Rattle.nf_laws.proofs.Uploads.{AreUploadsSound, chunk_still, upload_still}
+use Rattle.nf_laws.proofs.Uploads.{chunk_still, upload_still}
 use Rattle.nf_words.proofs.Found.{found_passes, put_is_found, put_leaves}
 use Rattle.nf_words.specs.Prelude.{abandoned, AreSound, chunk_row, content_size, is_chunk_of, IsChunkSound, IsNewChunk, IsNewUpload, IsTouched, IsUploadSound, pending_of, upload_row, uploads_of}
 use Rattle.nf_words.specs.declared.limits.TheConstants.{MAX_PENDING, MAX_UPLOADS}
@@ -259,6 +259,19 @@ found_left {X = X} test left (x ∷ xs) stays =
     (λ e. ap (λ (o : Option X). if test x then Some x else o) (found_left test left xs stays))
     (λ e. found_left test left xs stays ∙ simp (false_from_ne_true (test x) (λ is. both_ways (left x) e (stays x is))) refl)
 
+-- the upload of a chunk of another stays
+pub upload_stays : (user : ℕ) (dir : List ℕ) (uploads : List UploadRow) (row : ChunkRow) → is_chunk_of user dir row ≡ false
+    → upload_row (dropped upload_key (user ∷ length dir ∷ dir) uploads) row.user row.dir ≡ upload_row uploads row.user row.dir
+upload_stays user dir uploads row other =
+    let key = user ∷ length dir ∷ dir in
+    found_left (is_upload row.user row.dir) (λ (x : UploadRow). not (bytes_eq key (upload_key x))) uploads (λ x passes.
+    not_from_false (bytes_eq key (upload_key x)) (false_from_ne_true (bytes_eq key (upload_key x)) (λ same.
+    let of = upload_of row.user row.dir x passes in
+    let is = same_name user x.user dir x.dir ((bytes_eq-Decides key (upload_key x)).0 same) in
+    both_ways (is_chunk_of user dir row) other
+    (and_from (row.user == user) (bytes_eq row.dir dir) (eq-eqb row.user user (sym of.0 ∙ sym is.0))
+    ((bytes_eq-Decides row.dir dir).1 (sym of.1 ∙ sym is.1))))))
+
 module _ (t : Tables) (user : ℕ) (dir : List ℕ) (sound : AreSound t) where
   abbrev key : List ℕ
   key = user ∷ length dir ∷ dir
@@ -272,22 +285,12 @@ module _ (t : Tables) (user : ℕ) (dir : List ℕ) (sound : AreSound t) where
   abbrev gone : Tables
   gone = abandoned t user dir
 
-  -- the upload of a chunk that stays does
-  upload_left : (row : ChunkRow) → is_others row ≡ true → IsChunkSound t row → is_some (upload_row gone.uploads row.user row.dir) ≡ true
-  upload_left row other fine =
-      ap is_some (found_left (is_upload row.user row.dir) is_other t.uploads (λ x passes.
-      not_from_false (bytes_eq key (upload_key x)) (false_from_ne_true (bytes_eq key (upload_key x)) (λ same.
-      let of = upload_of row.user row.dir x passes in
-      let is = same_name user x.user dir x.dir ((bytes_eq-Decides key (upload_key x)).0 same) in
-      both_ways (is_chunk_of user dir row) (not-true (is_chunk_of user dir row) other)
-      (and_from (row.user == user) (bytes_eq row.dir dir) (eq-eqb row.user user (sym of.0 ∙ sym is.0))
-      ((bytes_eq-Decides row.dir dir).1 (sym of.1 ∙ sym is.1))))))) ∙ fine.upload
-
   chunks_left : All (IsChunkSound gone) gone.chunks
   chunks_left k d within =
       let row = get_or gone.chunks k d in
       let fine = All-filter is_others (IsChunkSound t) t.chunks sound.others.chunks k d within in
-      chunk_still t gone (le_refl _) row (upload_left row (filter_passes is_others t.chunks k d within) fine) fine
+      let other = not-true (is_chunk_of user dir row) (filter_passes is_others t.chunks k d within) in
+      chunk_still t gone (le_refl _) row (ap is_some (upload_stays user dir t.uploads row other) ∙ fine.upload) fine
 
   few_left : (owner : ℕ) → length (uploads_of gone.uploads owner) ≤ MAX_UPLOADS
   few_left owner =

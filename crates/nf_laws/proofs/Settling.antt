@@ -189,7 +189,7 @@ module _ (s : State) (e : Entry) (sound : IsSound s) where
       let idle = filter (is_idle now) t.uploads in
       let made = deeds_done t (purges gone) in
       let items : All (IsItemSettled s e) gone = λ k d within.
-          let item = some_there (item_row t.items _) ((swept_goes t sound.rows now).items k d within) in (item.0, item.1, by_sweep item.0.owner sweeps) in
+      let item = some_there (item_row t.items _) ((swept_goes t sound.rows now).items k d within) in (item.0, item.1, by_sweep item.0.owner sweeps) in
       stamped_has IsAllowed t (deeds_done t (purges gone ++ abandons idle)) now (told t (swept t now)) same_allowed
       (record {
         between = stamp t now;

@@ -1,5 +1,5 @@
 -- What a step changes, told as a list, and the tables that it makes.
-use Rattle.std.proofs.Common.{inl, inr, ◌⊎◌, ℕ, zero, suc, ◌+◌, ◌==◌, ◌≡◌, ◌≢◌, ◌<◌, true, false, List, [], ◌∷◌, ◌++◌, Option, None, Some, length, get_or, refl, sym, ap, subst, ◌∙◌, arith, length-append, Result, Ok, Err, map, append_assoc, if◌then◌else◌}
+use Rattle.std.proofs.Common.{inl, inr, ◌⊎◌, ℕ, zero, suc, ◌+◌, ◌==◌, ◌≡◌, ◌≢◌, ◌<◌, Bool, true, false, List, [], ◌∷◌, ◌++◌, Option, None, Some, length, get_or, refl, sym, ap, subst, ◌∙◌, arith, length-append, Result, Ok, Err, map, append_assoc, if◌then◌else◌}
 use Rattle.std.specs.List.{All}
 use Rattle.std.specs.Option.{option_and_then, option_map_or, option_or}
 use Rattle.std.specs.Prelude.{is_some}
@@ -413,7 +413,7 @@ record IsJoin (t : Tables) (now : ℕ) (deeds : List Deed) : Type 0 where
   gone : List Version
   are : deeds ≡ deed.Store changes ∷ deed.Abandon user dir ∷ forgets gone
   known : KnownChange t now changes None
-  open : is_some (upload_row t.uploads user dir) ≡ true
+  opened : is_some (upload_row t.uploads user dir) ≡ true
   there : All (IsVersion t) gone
 
 -- none, or some that make other tables, unless they store changes
@@ -430,17 +430,17 @@ known_tells t now deeds sound (by_requoting row gone known goes) = inr (inl (req
 known_tells t now deeds sound (by_moving transfer name known) = inr (inl (moving_tells t now transfer name sound known.known))
 known_tells t now deeds sound (by_copying transfer name known) = inr (inl (copying_tells t now transfer name sound known.known))
 known_tells t now deeds sound (by_crossing transfer name known) = inr (inl (crossing_tells t now transfer name sound known.copies.known))
-known_tells t now deeds sound (by_joining changes user dir known open) = inr (inr (record {
+known_tells t now deeds sound (by_joining changes user dir known opened) = inr (inr (record {
   changes = changes;
   user = user;
   dir = dir;
   gone = [];
   are = refl;
   known = known;
-  open = open;
+  opened = opened;
   there = All-nil (IsVersion t);
 }))
-known_tells t now deeds sound (by_abandoning user dir open) = inr (inl ((open, tt), abandoned_lost t t user dir open))
+known_tells t now deeds sound (by_abandoning user dir opened) = inr (inl ((opened, tt), abandoned_lost t t user dir opened))
 known_tells t now deeds sound (by_sweeping nodes rows goes idle) =
     elim (sweeping_tells t nodes rows sound goes idle) [ inl none ↦ inl none | inr tells ↦ inr (inl tells) ]
 
@@ -464,7 +464,7 @@ settled_tells t now deeds sound k =
               ∙ ap (λ (rest : List Deed). deed.Store join.changes ∷ deed.Abandon join.user join.dir ∷ rest)
               (sym (map-append (λ (version : Version). deed.Forget version.node version.at) join.gone k.gone));
           known = join.known;
-          open = join.open;
+          opened = join.opened;
           there = All-append (IsVersion t) join.gone k.gone join.there k.there;
         }))
       ]
@@ -501,7 +501,7 @@ forgets_differ t u (version ∷ gone) there =
 join_tells : (t : Tables) (now : ℕ) (changes : List Change) (user : ℕ) (dir : List ℕ) (gone : List Version) → KnownChange t now changes None
     → is_some (upload_row t.uploads user dir) ≡ true → All (IsVersion t) gone → All IsFiling changes
     → DeedsTell t now (deed.Store changes ∷ deed.Abandon user dir ∷ forgets gone)
-join_tells t now changes user dir gone known open there filing = record {
+join_tells t now changes user dir gone known opened there filing = record {
   put = λ rest.
       ap (put_all t) (append_assoc changes (told_deeds w more) rest)
       ∙ put_more t changes (told_deeds w more ++ rest)
@@ -512,9 +512,9 @@ join_tells t now changes user dir gone known open there filing = record {
       ∙ forgets_put t.meta left gone rest;
   differ = All-append (Differs t) changes (told_deeds w more) known.lean.differ
       (All-append (Differs t) (told_deed w (deed.Abandon user dir)) (told_deeds left (forgets gone))
-      (abandoned_differs t w user dir (subst (WereChunks t) (sym (filing_chunks t changes filing)) (chunks_there t.chunks)) open)
+      (abandoned_differs t w user dir (subst (WereChunks t) (sym (filing_chunks t changes filing)) (chunks_there t.chunks)) opened)
       (forgets_differ t left gone there));
-  moves = λ some. never_same t (deeds_done left (forgets gone)) now (forgets_other t left gone (abandoned_lost t w user dir open));
+  moves = λ some. never_same t (deeds_done left (forgets gone)) now (forgets_other t left gone (abandoned_lost t w user dir opened));
 }
   where
     w : Tables
@@ -541,7 +541,7 @@ deeds_tell t now deeds sound known plain =
             }
         | inr join ↦
             subst (DeedsTell t now) (sym join.are)
-            (join_tells t now join.changes join.user join.dir join.gone join.known join.open join.there
+            (join_tells t now join.changes join.user join.dir join.gone join.known join.opened join.there
             (All-head IsPlain (deed.Store join.changes) (deed.Abandon join.user join.dir ∷ forgets join.gone) (subst (All IsPlain) join.are plain)))
       ]
     ]

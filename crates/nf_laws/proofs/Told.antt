@@ -22,7 +22,7 @@ use Rattle.nf_base.specs.declared.rows.ShareRow.{ShareRow}
 use Rattle.nf_base.specs.declared.rows.UploadRow.{UploadRow}
 use Rattle.nf_base.specs.declared.rows.UserRow.{UserRow}
 use Rattle.nf_defs.proofs.Climbs.{climb_under, under_climb}
-use Rattle.nf_defs.specs.Prelude.{climb, dropped, folder_of, is_under, IsDroppable, IsRising, item_key, item_row, made, node_row, parent_of, put, put_all, relinked, share_key, Tables, user_row, walk_of, with_node, version_key, without_under}
+use Rattle.nf_defs.specs.Prelude.{climb, dropped, folder_of, is_under, IsDroppable, IsRising, item_key, item_row, node_row, parent_of, put, put_all, relinked, share_key, Tables, user_row, walk_of, with_node, version_key, without_under}
 use Rattle.nf_defs.specs.Tree.{trashed}
 use Rattle.nf_laws.proofs.Abandoning.{abandoned_differs, abandoned_droppable, abandoned_put, Differs, upload_gone, upload_lost, WereChunks}
 use Rattle.nf_laws.proofs.Climbs.{map_some, some_there}
@@ -158,7 +158,6 @@ done_rise t u (deed.Forget node at) told rise = record {
   versions = All-filter (λ (version : VersionRow). not (bytes_eq (node ∷ at ∷ []) (version_key version)))
       (λ (version : VersionRow). is_some (node_row u.nodes version.node) ≡ true) u.versions rise.versions;
 }
-
 done_rise t u (deed.Store changes) told rise = absurd told
 done_rise t u (deed.Abandon user dir) told rise = record { nodes = rise.nodes; shares = rise.shares; versions = rise.versions }
 

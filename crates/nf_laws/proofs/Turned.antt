@@ -1,12 +1,9 @@
 -- The tables with other versions, uploads and chunks are sound.
-use Rattle.std.proofs.Common.{Bool, ℕ, ◌≤◌, ◌+◌, not, List, [], ◌∷◌, length, sum_by, refl, arith, le_refl}
+use Rattle.std.proofs.Common.{Bool, ℕ, ◌≤◌, not, List, [], ◌∷◌, length, refl, arith, le_refl}
 use Rattle.std.specs.Prelude.{bytes_eq}
 use Rattle.std.specs.List.{All}
-use Rattle.std.specs.declared.cmp.Ordering.{Ordering}
-use Rattle.std.specs.declared.cmp.Ordering.TheVariants.{Equal, Greater, Less}
 use Rattle.std.proofs.lemmas.List.Elements.{All-filter, All-weaker}
 use Rattle.std.proofs.lemmas.List.Filters.{sum_by-filter_both}
-use Rattle.std.proofs.lemmas.List.Sums.{sum_by-cons}
 use Rattle.nf_base.specs.declared.limits.TheConstants.{MAX_STORED_PIECES, MAX_VERSIONS}
 use Rattle.nf_base.specs.declared.rows.MountRow.{MountRow}
 use Rattle.nf_base.specs.declared.rows.NodeRow.{NodeRow}
@@ -17,7 +14,7 @@ use Rattle.nf_base.specs.declared.rows.ChunkRow.{ChunkRow}
 use Rattle.nf_base.specs.declared.rows.UploadRow.{UploadRow}
 use Rattle.nf_base.specs.declared.rows.VersionRow.{VersionRow}
 use Rattle.nf_defs.proofs.Puts.{all_put, dropped_length, dropped_rising, put_length, put_rising}
-use Rattle.nf_defs.specs.Prelude.{by_order, dropped, IsRising, key_cmp, put, Tables, version_key}
+use Rattle.nf_defs.specs.Prelude.{dropped, IsRising, put, Tables, version_key}
 use Rattle.nf_laws.proofs.Others.{items_still, kind_still, others_from, trash_kept}
 use Rattle.nf_laws.proofs.Rows.{kept_row, node_still}
 use Rattle.nf_laws.proofs.Sums.{put_sum}

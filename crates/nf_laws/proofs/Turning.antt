@@ -166,7 +166,7 @@ deeds_left t u [] keeps left = left
 deeds_left t u (one ∷ deeds) keeps left =
     deeds_left t (deed_done u one) deeds (All-tail KeepsVersions one deeds keeps) (deed_left t u one (All-head KeepsVersions one deeds keeps) left)
 
-all_pass : {X : Type 0} (p : X → Bool) (xs : List X) → All (λ (x : X). p x ≡ true) xs → xs ≡ filter p xs
+pub all_pass : {X : Type 0} (p : X → Bool) (xs : List X) → All (λ (x : X). p x ≡ true) xs → xs ≡ filter p xs
 all_pass p [] passes = refl
 all_pass {X = X} p (x ∷ xs) passes =
     ap (λ (l : List X). x ∷ l) (all_pass p xs (All-tail (λ (x : X). p x ≡ true) x xs passes))

@@ -7,3 +7,4 @@ pub mod NameKeys
 pub mod Rooted
 pub mod Scans
 pub mod UploadKeys
+pub mod Topped

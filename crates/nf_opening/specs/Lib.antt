@@ -5,3 +5,4 @@ pub mod Judged
 pub mod Names
 pub mod Totals
 pub mod Ways
+pub mod Heaps

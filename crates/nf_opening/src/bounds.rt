@@ -1,4 +1,4 @@
-//! The rule that the versions of a user's files are within half of what the charge leaves of the quota.
+//! The rule that the versions of a user's files are within half of what the charge leaves of the quota, and the trash within half of it.
 
 ghost use Rattle.std.specs.Prelude.{◌≡◌, ◌==◌, ◌<◌, ℕ, IfOk};
 ghost use Rattle.std.specs.List.{list_any};
@@ -6,34 +6,44 @@ ghost use Rattle.std.specs.BTreeSet.{contains};
 ghost use Rattle.std.specs.Ordering.{nat_cmp};
 ghost use Rattle.nf_defs.specs.Prelude.{AreRising, is_present, owner_of};
 ghost use Rattle.nf_words.specs.Charges.{charge_of, quota_of};
-ghost use Rattle.nf_rules.specs.Rules.{held_bytes, is_unsettled};
+ghost use Rattle.nf_rules.specs.Rules.{held_bytes, is_heaped, is_unsettled};
 ghost use Rattle.nf_opening.specs.Bounds.{AreBounds};
+ghost use Rattle.nf_opening.specs.Heaps.{AreTops};
 ghost use Rattle.nf_opening.specs.Totals.{total_of};
 
 use crate::Loaded;
+use crate::heaps::heaps;
 use crate::sharing::parent_of;
 use crate::totals::{add, total};
-use nf_base::{MAX_DEPTH, NodeId, UserId, UserRow, VersionRow};
+use nf_base::{ItemRow, MAX_DEPTH, NodeId, UserId, UserRow, VersionRow};
 use std::alloc::{AllocError, Global};
 use std::collections::{BTreeMap, BTreeSet};
 
-/// What the bounds of versions are told by, in bytes.
+/// What the bounds of versions and of trashes are told by, in bytes.
 #[derive(Drop)]
 pub(crate) struct Bounds {
     /// What the versions of each owner have.
     held: BTreeMap<u32, u128>,
     /// What each owner who has versions is charged for.
     charges: BTreeMap<u32, u128>,
+    /// What the items of each owner have, each with all under it.
+    trashes: BTreeMap<u32, u128>,
 }
 
 impl Bounds {
     pub(crate) fn of(alloc: Global, loaded: &Loaded) -> Result<Self, AllocError>
-        requires { AreRising loaded.now }
+        requires rising { AreRising loaded.now }
+        requires tops { AreTops loaded.now }
         ensures { IfOk result (AreBounds loaded.now) }
     {
         let held = held_bytes(alloc, loaded)?;
         let charges = charges(alloc, loaded, &held)?;
-        Ok(Bounds { held, charges })
+        let trashes = heaps(alloc, loaded)?;
+        Ok(Bounds {
+            held,
+            charges,
+            trashes,
+        })
     }
 
     /// Whether the version is one of more bytes than its owner's may have.
@@ -45,6 +55,15 @@ impl Bounds {
         let owner = owner_of(loaded, row.node);
         let quota = u128::from(quota_of(loaded, owner));
         total(&self.held, owner) > quota.saturating_sub(total(&self.charges, owner)) / 2
+    }
+
+    /// Whether the item is one of more bytes than its owner's trash may have.
+    pub(crate) fn are_heaped(&self, loaded: &Loaded, row: &ItemRow) -> bool
+        requires rising { AreRising loaded.now }
+        requires bounds { AreBounds loaded.now self.now }
+        ensures { result ≡ is_heaped loaded.now row.now.owner }
+    {
+        total(&self.trashes, row.owner) > u128::from(quota_of(loaded, row.owner) / 2)
     }
 }
 

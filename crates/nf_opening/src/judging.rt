@@ -5,6 +5,7 @@ ghost use Rattle.std.specs.Option.{option_map_or};
 ghost use Rattle.nf_defs.specs.Prelude.{AreRising, tables_of};
 ghost use Rattle.nf_rules.specs.Rules.{first_index, is_over};
 ghost use Rattle.nf_opening.specs.Bounds.{AreBounds};
+ghost use Rattle.nf_opening.specs.Heaps.{AreTops};
 ghost use Rattle.nf_opening.specs.Judged.{AreJudged, IsFaultAt};
 
 use crate::alone::{first_ungiven, is_lavish};
@@ -46,10 +47,11 @@ fn judge_rows(alloc: Global, loaded: &Loaded, rows: &[Row]) -> Result<(), SiteFa
     Ok(())
 }
 
-/// The first user whose quota is too large, or version that is one of too many bytes.
+/// The first user whose quota is too large, or version or item that is one of too many bytes.
 fn first_over(alloc: Global, loaded: &Loaded, rows: &[Row]) -> Result<Option<usize>, AllocError>
     requires tables { loaded.now ≡ tables_of rows.now }
     requires rising { AreRising loaded.now }
+    requires tops { AreTops loaded.now }
     ensures { IfOk result (λ at. at ≡ first_index (is_over (tables_of rows.now)) rows.now) }
 {
     let bounds = Bounds::of(alloc, loaded)?;
@@ -63,6 +65,7 @@ fn is_over(loaded: &Loaded, bounds: &Bounds, row: &Row) -> bool
 {
     match row {
         Row::Version(row) => bounds.are_passed(loaded, row),
+        Row::Item(row) => bounds.are_heaped(loaded, row),
         _ => is_lavish(row),
     }
 }

@@ -7,6 +7,7 @@ mod bounds;
 mod counts;
 mod fault;
 mod first;
+mod heaps;
 mod judging;
 mod keys;
 mod limits;

@@ -78,6 +78,11 @@ still_mounted t made h up =
       node = still_given t.meta.next_node made.meta.next_node row.node up.nodes own.node;
     }) t.mounts h.mounts
 
+-- ---- the tables with other versions, uploads and chunks
+
+abbrev pub filed : Tables → Tables → Tables
+filed t other = record t { versions = other.versions; uploads = other.uploads; chunks = other.chunks }
+
 -- ---- the tables with other nodes, shares, mounts, versions, items, uploads and chunks
 
 abbrev pub with_others : Tables → Tables → Tables

@@ -17,8 +17,13 @@ pub mod Stacked
 pub mod Stays
 pub mod Unbroken
 pub mod Settled
+pub mod Storing
 pub mod Held
 pub mod Dropped
 pub mod TurnedOver
 pub mod Blobs
 pub mod Uploads
+pub mod Heaped
+pub mod Reckoned
+pub mod Leavings
+pub mod Trashes

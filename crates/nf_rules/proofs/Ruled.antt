@@ -24,8 +24,8 @@ use Rattle.nf_words.specs.Prelude.{AreCounters, count_of, HasRoot, IsNodeSound, 
 use Rattle.nf_words.specs.declared.answer.Limit.TheVariants as limit
 use Rattle.nf_rules.specs.Keys.{name_key}
 use Rattle.nf_rules.specs.Laws.{RuledAreUnbroken}
-use Rattle.nf_rules.specs.Ruled.{AreOrdered, IsGiven, IsGroupRuled, IsItemRuled, IsMemberRuled, IsMountRuled, IsShareRuled, IsTokenRuled, IsUserRuled, AreSettled}
-use Rattle.nf_rules.specs.Rules.{are_counters, are_numbers, is_beyond, is_place_given, is_place_there, is_placed, is_root_of, is_shared_well, is_user, names_are_there, rules, is_over, held_bytes}
+use Rattle.nf_rules.specs.Ruled.{AreOrdered, IsGiven, IsGroupRuled, IsItemRuled, IsMemberRuled, IsMountRuled, IsShareRuled, IsTokenRuled, IsUserRuled, AreSettled, AreTrashesBounded}
+use Rattle.nf_rules.specs.Rules.{are_counters, are_numbers, is_beyond, is_place_given, is_place_there, is_placed, is_root_of, is_shared_well, is_user, names_are_there, rules, is_over, held_bytes, trash_bytes}
 use Rattle.nf_rules.proofs.Apart.{keys_unshared, names_unshared}
 use Rattle.nf_rules.proofs.Firsts.{Keep, none_broken}
 use Rattle.nf_rules.proofs.Items.{item_names, item_numbers, item_placed}
@@ -36,7 +36,7 @@ use Rattle.nf_rules.proofs.Stacked.{IsOf, rows_have}
 use Rattle.nf_rules.proofs.Blobs.{blobs_given}
 use Rattle.nf_rules.proofs.Uploads.{chunk_fits, chunk_numbers, chunk_user, upload_fits, upload_numbers}
 use Rattle.nf_base.specs.declared.rows.VersionRow.{VersionRow}
-use Rattle.nf_retention.specs.Budget.{versions_bound}
+use Rattle.nf_retention.specs.Budget.{trash_bound, versions_bound}
 use Rattle.nf_laws.proofs.Files.{file_row}
 
 -- ---- numbers
@@ -203,11 +203,13 @@ all_within t (rows.Chunk row) h among =
     chunk_fits t row (of_among (IsChunkSound t) t.chunks row h.sound.others.chunks among) h.sound.few_pieces h.sound.others.few_pending
 all_within t other h among = refl
 
-none_over : (t : Tables) (row : Row) → AreOrdered t → AreSettled t → IsOf t row → is_over t row ≡ false
-none_over t (rows.User row) h settled among = le-ltb MAX_QUOTA row.quota (of_among (IsUserRuled t) t.users row h.users among).quota
-none_over t (rows.Version row) h settled among =
+none_over : (t : Tables) (row : Row) → AreOrdered t → AreSettled t → AreTrashesBounded t → IsOf t row → is_over t row ≡ false
+none_over t (rows.User row) h settled bounded among = le-ltb MAX_QUOTA row.quota (of_among (IsUserRuled t) t.users row h.users among).quota
+none_over t (rows.Version row) h settled bounded among =
     let user = owner_of t.nodes row.node in le-ltb (versions_bound (quota_of t user) (charge_of t user)) (held_bytes t user) (settled user)
-none_over t other h settled among = refl
+none_over t (rows.Item row) h settled bounded among =
+    le-ltb (trash_bound (quota_of t row.owner)) (trash_bytes t row.owner) (bounded row.owner)
+none_over t other h settled bounded among = refl
 
 -- ---- all rules
 
@@ -218,15 +220,15 @@ none_fails test t again each =
     subst (λ (u : Tables). All (λ row. not (test u row) ≡ false) (rows_of t)) (sym again)
     (rows_have (λ row. not (test t row) ≡ false) t (λ row among. not_from_true (test t row) (each row among)))
 
-each_kept : (t : Tables) → All Fits (rows_of t) → AreOrdered t → AreSettled t → AllByRecursion (Keep (rows_of t)) rules
-each_kept t fits h settled =
+each_kept : (t : Tables) → All Fits (rows_of t) → AreOrdered t → AreSettled t → AreTrashesBounded t → AllByRecursion (Keep (rows_of t)) rules
+each_kept t fits h settled bounded =
     let all : List Row = rows_of t in
     let again : tables_of all ≡ t = tables_again t h.rising in
     let names = subst (λ (u : Tables). AreUnshared (name_key u) all) (sym again) (names_unshared t h) in
     let within = subst (λ (u : Tables). All (λ row. is_beyond u row ≡ false) all) (sym again)
     (rows_have (λ row. is_beyond t row ≡ false) t (λ row among. all_within t row h among)) in
     let over = subst (λ (u : Tables). All (λ row. is_over u row ≡ false) all) (sym again)
-    (rows_have (λ row. is_over t row ≡ false) t (λ row among. none_over t row h settled among)) in
+    (rows_have (λ row. is_over t row ≡ false) t (λ row among. none_over t row h settled bounded among)) in
     keep_more (keys_unshared t fits h.rising, refl)
     (keep_more (none_fails (λ t row. are_numbers t.meta row) t again (λ row among. numbers_are t row h among), refl)
     (keep_more (none_fails names_are_there t again (λ row among. names_there t row h among), refl)
@@ -240,4 +242,4 @@ each_kept t fits h settled =
     keep_more one rest = (one, rest)
 
 pub ruled_are_unbroken : RuledAreUnbroken
-ruled_are_unbroken t fits h = none_broken rules (rows_of t) (each_kept t fits h.ordered h.settled)
+ruled_are_unbroken t fits h = none_broken rules (rows_of t) (each_kept t fits h.ordered h.settled h.bounded)

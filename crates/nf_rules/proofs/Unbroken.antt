@@ -26,13 +26,13 @@ use Rattle.nf_defs.proofs.Tables.{tables_rise}
 use Rattle.nf_defs.proofs.Puts.{below_one}
 use Rattle.nf_defs.proofs.Walks.{node_row_each}
 use Rattle.nf_defs.specs.Prelude.{group_key, is_folder_kind, is_root_place, IsRising, key_cmp, mount_key, node_key, node_row, numbers_of, share_key, Tables, tables_of, user_key, owner_of}
-use Rattle.nf_words.specs.Prelude.{AreCounters, AreSound, count_of, HasRoot, IsNodeSound, stored_pieces, charge_of, quota_of, content_size}
+use Rattle.nf_words.specs.Prelude.{AreCounters, AreSound, count_of, HasRoot, IsNodeSound, stored_pieces, charge_of, quota_of, content_size, item_size}
 use Rattle.nf_words.specs.Others.{AreOthersSound, IsShareSound, IsVersionSound}
 use Rattle.nf_words.specs.declared.answer.Limit.TheVariants as limit
 use Rattle.nf_rules.specs.Keys.{child_key, link_key, name_key}
 use Rattle.nf_rules.specs.Laws.{UnbrokenAreRuled}
-use Rattle.nf_rules.specs.Ruled.{IsMountRuled, IsShareRuled, AreSettled}
-use Rattle.nf_rules.specs.Rules.{AreUnbroken, are_counters, are_numbers, has_ungiven_blob, is_beyond, is_placed, is_root_of, is_shared_well, lacks_meta, leads, names_are_there, rules, is_over, held_bytes, are_unsettled}
+use Rattle.nf_rules.specs.Ruled.{IsMountRuled, IsShareRuled, AreSettled, AreTrashesBounded}
+use Rattle.nf_rules.specs.Rules.{AreUnbroken, are_counters, are_numbers, has_ungiven_blob, is_beyond, is_placed, is_root_of, is_shared_well, lacks_meta, leads, names_are_there, rules, is_over, held_bytes, are_unsettled, is_heaped, trash_bytes}
 use Rattle.nf_rules.proofs.Among.{all_have, meta_has}
 use Rattle.nf_rules.proofs.Firsts.{keep_each}
 use Rattle.nf_rules.proofs.Items.{item_ruled, item_sound}
@@ -44,7 +44,8 @@ use Rattle.nf_rules.proofs.Uploads.{chunk_sound, chunk_without, few_pending, few
 use Rattle.nf_rules.proofs.Blobs.{none_ungiven}
 use Rattle.nf_base.specs.declared.rows.VersionRow.{VersionRow}
 use Rattle.nf_base.specs.declared.rows.ChunkRow.{ChunkRow}
-use Rattle.nf_retention.specs.Budget.{versions_bound}
+use Rattle.nf_base.specs.declared.rows.ItemRow.{ItemRow}
+use Rattle.nf_retention.specs.Budget.{trash_bound, versions_bound}
 
 -- ---- numbers
 
@@ -251,6 +252,31 @@ settled_from t none user =
           | inr not ↦ not
         ]
 
+-- where no item is one of too many bytes, each user's are within their bound
+bounded_from : (t : Tables) → All (λ (row : ItemRow). is_over t (rows.Item row) ≡ false) t.items → AreTrashesBounded t
+bounded_from t none user =
+    ⊎_elim
+    (λ more. absurd (omega (
+      arith,
+      more,
+      ap (λ (some : List ItemRow). sum_by (item_size t) some)
+          (none_kept (λ (row : ItemRow). row.owner == user) t.items
+          (All-weaker (λ (row : ItemRow). is_over t (rows.Item row) ≡ false) (λ (row : ItemRow). (row.owner == user) ≡ false)
+          (other more) t.items none)),
+    )))
+    (λ le. le)
+    (cases_lt (trash_bound (quota_of t user)) (trash_bytes t user))
+  where
+    other : trash_bound (quota_of t user) < trash_bytes t user → (row : ItemRow) → is_over t (rows.Item row) ≡ false → (row.owner == user) ≡ false
+    other more row within =
+        elim (cases_Bool (row.owner == user)) [
+          | inl own ↦
+              (let le = ltb-false (trash_bound (quota_of t user)) (trash_bytes t user)
+              (subst (λ (u : ℕ). is_heaped t u ≡ false) (eqb-true row.owner user own) within) in
+              absurd (omega (arith, more, le)))
+          | inr not ↦ not
+        ]
+
 -- ---- shares and mounts
 
 shares_ruled : (all : List Row) → Known all → All (IsShareRuled (tables_of all)) (tables_of all).shares
@@ -370,6 +396,7 @@ unbroken_are_ruled all kept none =
     let shares = names_differ share_key rows.Share (λ row. refl) t all t.shares h.names rising.shares among.shares in
     record {
       settled = settled_from t modest.versions;
+      bounded = bounded_from t modest.items;
       ordered = record {
         sound = sound all kept h;
         rising = rising;

@@ -19,7 +19,7 @@ use Rattle.nf_words.specs.declared.limits.TheConstants.{MAX_PENDING, MAX_UPLOADS
 use Rattle.nf_rules.specs.Ruled.{IsGiven}
 use Rattle.nf_rules.specs.Rules.{are_chunk_numbers, are_upload_numbers, has_ungiven_blob, is_beyond, is_chunk_beyond, is_chunk_number, is_upload, is_user}
 use Rattle.nf_rules.proofs.Blobs.{blobs_given, none_ungiven}
-use Rattle.nf_rules.proofs.Shares.{given, is_given_from}
+use Rattle.nf_rules.proofs.Shares.{is_given_from}
 
 -- ---- lists
 

@@ -22,9 +22,9 @@ use Rattle.nf_base.specs.declared.rows.ShareRow.{ShareRow}
 use Rattle.nf_base.specs.declared.rows.Place.{Place}
 use Rattle.nf_base.specs.declared.rows.Place.TheVariants.{Root, Inside, Trash}
 use Rattle.nf_defs.specs.Prelude.{is_file, is_folder_kind, is_root_place, is_under, item_row, node_row, owner_of, Tables, tables_of, user_row}
-use Rattle.nf_retention.specs.Budget.{versions_bound}
+use Rattle.nf_retention.specs.Budget.{trash_bound, versions_bound}
 use Rattle.nf_words.specs.Charges.{charge_of}
-use Rattle.nf_words.specs.Prelude.{count_of, is_end_moment, pending_of, quota_of, root_of_user, stored_pieces, upload_row, uploads_of}
+use Rattle.nf_words.specs.Prelude.{count_of, is_end_moment, item_size, items_of, pending_of, quota_of, root_of_user, stored_pieces, upload_row, uploads_of}
 use Rattle.nf_words.specs.Versions.{content_size}
 use Rattle.nf_words.specs.declared.answer.Limit.TheVariants as limit
 use Rattle.nf_words.specs.declared.limits.TheConstants.{MAX_PENDING, MAX_UPLOADS}
@@ -266,7 +266,7 @@ is_beyond t (rows.Upload row) = nat_lt MAX_UPLOADS (length (uploads_of t.uploads
 is_beyond t (rows.Chunk row) = is_chunk_beyond t row
 is_beyond t other = false
 
--- ---- 8: the quotas, and the bounds of versions
+-- ---- 8: the quotas, and the bounds of versions and of trashes
 
 abbrev pub is_lavish : Row → Bool
 is_lavish (rows.User row) = nat_lt MAX_QUOTA row.quota
@@ -284,8 +284,17 @@ are_unsettled t user = nat_lt (versions_bound (quota_of t user) (charge_of t use
 abbrev pub is_unsettled : Tables → VersionRow → Bool
 is_unsettled t row = are_unsettled t (owner_of t.nodes row.node)
 
+-- the bytes of a user's items
+abbrev pub trash_bytes : Tables → ℕ → ℕ
+trash_bytes t user = sum_by (item_size t) (items_of t user)
+
+-- they are beyond half of the quota
+abbrev pub is_heaped : Tables → ℕ → Bool
+is_heaped t user = nat_lt (trash_bound (quota_of t user)) (trash_bytes t user)
+
 abbrev pub is_over : Tables → Row → Bool
 is_over t (rows.Version row) = is_unsettled t row
+is_over t (rows.Item row) = is_heaped t row.owner
 is_over t other = is_lavish other
 
 -- ---- all of them
