@@ -16,7 +16,7 @@ loop-row-preserved c =
     let less : i < length items = search rules in
     let is : row ≡ get_or items i row = search rules in
     let sized : c.capped.result ≡ min (topped_bytes c.args.loaded.now.nodes row.node) last_number =
-    c.capped.ensures ∙ ap (λ n. min n last_number) (c.sum_at.ensures ∙ c.in_ok-topped.ensures row.node) in
+    c.capped.ensures ∙ ap (λ n. min n last_number) (c.sum_at.ensures ∙ c.in_ok-tops.ensures row.node) in
     record {
       heaped = owned_more (λ row. min (topped_bytes c.args.loaded.now.nodes row.node) last_number) (λ row. row.owner) items i row row.owner c.capped.result
           (total_of c.loop-row.totals) (total_of c.add.new.totals) less is refl sized c.in_ok-add.ensures c.loop-row.invariant.heaped;

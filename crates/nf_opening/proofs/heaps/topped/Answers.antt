@@ -12,9 +12,11 @@ loop-row-preserved c =
     let row = c.row-item.result in
     let less : i < length nodes = search rules in
     let is : row ≡ get_or nodes i row = search rules in
+    let its : c.top_of.result ≡ top_of c.args.loaded.now.nodes row.id = search rules in
+    let sized : c.size.result ≡ content_size row.content = search rules in
     record {
       topped = owned_more (λ row. content_size row.content) (λ row. top_of c.args.loaded.now.nodes row.id) nodes i row c.top_of.result c.size.result
-          (total_of c.loop-row.totals) (total_of c.add_at.new.totals) less is c.top_of.ensures c.size.ensures c.in_ok-add_at.ensures c.loop-row.invariant.topped;
+          (total_of c.loop-row.totals) (total_of c.add_at.new.totals) less is its sized c.in_ok-add_at.ensures c.loop-row.invariant.topped;
       few = few_more (2 ^ 64) c.top_of.result c.size.result i (total_of c.loop-row.totals) (total_of c.add_at.new.totals) c.in_ok-add_at.ensures (omega arith)
           c.loop-row.invariant.few;
     }

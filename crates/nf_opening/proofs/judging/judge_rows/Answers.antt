@@ -1,7 +1,12 @@
 use Rattle.std.proofs.Common.{rules, ◌≡◌, ℕ, Some, sym, ap, ◌∙◌}
 use Rattle.nf_rules.specs.Rules.{first_broken}
 use Rattle.nf_rules.specs.Rules as judged
+use Rattle.nf_opening.proofs.Topped.{tops_from}
 use Rattle.nf_opening.proofs.judging.judge_rows.Goals as goal
+
+pub first_over-requires-clause-tops : goal.first_over-requires-clause-tops
+first_over-requires-clause-tops c =
+    tops_from c.args.loaded.now c.args.rows.now c.requires.tables (sym c.first_astray.ensures ∙ c.in_ok-keeps-5.ensures)
 
 pub returns-in_err-keeps-8 : goal.returns-in_err-keeps-8
 returns-in_err-keeps-8 c =
