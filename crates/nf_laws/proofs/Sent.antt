@@ -95,8 +95,15 @@ module _ (t : Tables) (row : UploadRow) (sound : AreSound t) where
           let sum = put_sum upload_key (owned_by user) row t.uploads in
           elim (cases_Bool (row.user == user)) [
             | inl own ↦
-                omega (arith, counts, were, sum, owned_so user row true own, is.few,
-                ap (λ (n : ℕ). length (uploads_of t.uploads n)) (eqb-true row.user user own))
+                omega (
+                  arith,
+                  counts,
+                  were,
+                  sum,
+                  owned_so user row true own,
+                  is.few,
+                  ap (λ (n : ℕ). length (uploads_of t.uploads n)) (eqb-true row.user user own),
+                )
             | inr other ↦ omega (arith, counts, were, sum, owned_so user row false other, sound.others.few_uploads user)
           ]
 
@@ -205,9 +212,14 @@ module _ (t : Tables) (row : ChunkRow) (sound : AreSound t) (is : IsNewChunk t r
       elim (cases_Bool (row.user == user)) [
         | inl own ↦ subst (λ (n : ℕ). pending_of chunks n ≤ MAX_PENDING) (eqb-true row.user user own) (here (chunk_row t.chunks row.user row.dir row.number) refl)
         | inr other ↦
-            omega (arith, sum_passing (λ (one : ChunkRow). one.user == user) (λ one. content_size one.content) chunks,
-            sum_passing (λ (one : ChunkRow). one.user == user) (λ one. content_size one.content) t.chunks,
-            put_sum chunk_key (bytes_by user) row t.chunks, bytes_so user row false other, sound.others.few_pending user)
+            omega (
+              arith,
+              sum_passing (λ (one : ChunkRow). one.user == user) (λ one. content_size one.content) chunks,
+              sum_passing (λ (one : ChunkRow). one.user == user) (λ one. content_size one.content) t.chunks,
+              put_sum chunk_key (bytes_by user) row t.chunks,
+              bytes_so user row false other,
+              sound.others.few_pending user,
+            )
       ]
     where
       passing : ChunkRow → Bool
@@ -224,14 +236,26 @@ module _ (t : Tables) (row : ChunkRow) (sound : AreSound t) (is : IsNewChunk t r
 
       here : (o : Option ChunkRow) → chunk_row t.chunks row.user row.dir row.number ≡ o → pending_of chunks row.user ≤ MAX_PENDING
       here None e =
-          omega (arith, sum_passing passing (λ one. content_size one.content) chunks, sum_passing passing (λ one. content_size one.content) t.chunks,
-          put_sum chunk_key (bytes_by row.user) row t.chunks, own_bytes, pending None e)
+          omega (
+            arith,
+            sum_passing passing (λ one. content_size one.content) chunks,
+            sum_passing passing (λ one. content_size one.content) t.chunks,
+            put_sum chunk_key (bytes_by row.user) row t.chunks,
+            own_bytes,
+            pending None e,
+          )
       here (Some old) e =
           let both = and_parts (is_chunk_of row.user row.dir old) (old.number == row.number) (found_passes sought t.chunks old e) in
           let own = and_parts (old.user == row.user) (bytes_eq old.dir row.dir) both.0 in
-          omega (arith, sum_passing passing (λ one. content_size one.content) chunks, sum_passing passing (λ one. content_size one.content) t.chunks,
-          put_sum_over chunk_key sought (bytes_by row.user) row old t.chunks (chunk_keyed row) sound.others.chunks_rise e, own_bytes,
-          bytes_so row.user old true own.0, pending (Some old) e)
+          omega (
+            arith,
+            sum_passing passing (λ one. content_size one.content) chunks,
+            sum_passing passing (λ one. content_size one.content) t.chunks,
+            put_sum_over chunk_key sought (bytes_by row.user) row old t.chunks (chunk_keyed row) sound.others.chunks_rise e,
+            own_bytes,
+            bytes_so row.user old true own.0,
+            pending (Some old) e,
+          )
 
   pub chunk_sound : AreSound (record t { chunks = chunks })
   chunk_sound =
@@ -294,15 +318,25 @@ module _ (t : Tables) (user : ℕ) (dir : List ℕ) (sound : AreSound t) where
 
   few_left : (owner : ℕ) → length (uploads_of gone.uploads owner) ≤ MAX_UPLOADS
   few_left owner =
-      omega (arith, number_passing (λ (one : UploadRow). one.user == owner) gone.uploads, number_passing (λ (one : UploadRow). one.user == owner) t.uploads,
-      sum_by-filter_both is_other (λ row. not (is_other row)) (λ row. refl) (owned_by owner) t.uploads, sound.others.few_uploads owner)
+      omega (
+        arith,
+        number_passing (λ (one : UploadRow). one.user == owner) gone.uploads,
+        number_passing (λ (one : UploadRow). one.user == owner) t.uploads,
+        sum_by-filter_both is_other (λ row. not (is_other row)) (λ row. refl) (owned_by owner) t.uploads,
+        sound.others.few_uploads owner,
+      )
 
   pending_left : (owner : ℕ) → pending_of gone.chunks owner ≤ MAX_PENDING
   pending_left owner =
       let passing : ChunkRow → Bool = λ one. one.user == owner in
       let size : ChunkRow → ℕ = λ one. content_size one.content in
-      omega (arith, sum_passing passing size gone.chunks, sum_passing passing size t.chunks,
-      sum_by-filter_both is_others (λ row. not (is_others row)) (λ row. refl) (bytes_by owner) t.chunks, sound.others.few_pending owner)
+      omega (
+        arith,
+        sum_passing passing size gone.chunks,
+        sum_passing passing size t.chunks,
+        sum_by-filter_both is_others (λ row. not (is_others row)) (λ row. refl) (bytes_by owner) t.chunks,
+        sound.others.few_pending owner,
+      )
 
   pub abandoned_sound : AreSound (abandoned t user dir)
   abandoned_sound =

@@ -297,7 +297,7 @@ impl Site {
     {
         let view = self.current.view();
         let mut blobs = Vec::new(alloc);
-        // Rows of the other kinds name none, since there are no chunks yet.
+        // Rows of the other kinds name none.
         name_nodes(&mut blobs, view.tree.nodes())?;
         name_versions(&mut blobs, view.versions.rows())?;
         name_chunks(&mut blobs, view.uploads.chunks())?;
