@@ -12,7 +12,6 @@ use Rattle.nf_words.specs.Endings.{chunk_refusal, chunk_stored, stored_at as sto
 use Rattle.nf_words.proofs.Steps.{reports_nothing}
 use Rattle.nf_words.specs.declared.answer.Allowed.{Allowed}
 use Rattle.nf_words.specs.declared.answer.Allowed.TheVariants as allowed
-use Rattle.nf_words.specs.declared.answer.By.{By}
 use Rattle.nf_words.specs.declared.answer.LockKey.{LockKey}
 use Rattle.nf_words.specs.declared.answer.LockKey.TheVariants.{Node, Slot}
 use Rattle.nf_words.specs.declared.answer.Denial.{Denial}
