@@ -1,0 +1,5 @@
+pub mod Acts
+pub mod Fewer
+pub mod Sending
+pub mod Going
+pub mod Reading

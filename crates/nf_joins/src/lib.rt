@@ -1,0 +1,10 @@
+//! What chunks that were sent become, over a whole run. The functions do nothing: each stands for the fact that it ensures.
+#![tactic(auto)]
+
+mod bytes;
+mod joined;
+mod sent;
+
+pub use bytes::{own_tell_on, sent_is_read};
+pub use joined::joined_is_read;
+pub use sent::chunks_were_sent;
