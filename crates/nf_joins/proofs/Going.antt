@@ -1,5 +1,5 @@
 -- A chunk that is there after a history was there, or was sent.
-use Rattle.std.proofs.Common.{◌≡◌, ◌⊎◌, ℕ, ◌+◌, zero, suc, take, List, [], ◌∷◌, ◌++◌, Some, inl, inr, refl, sym, ap, subst, ◌∙◌}
+use Rattle.std.proofs.Common.{◌⊎◌, ℕ, ◌+◌, zero, suc, take, List, [], ◌∷◌, inl, inr, refl, ap}
 use Rattle.nf_base.specs.declared.rows.ChunkRow.{ChunkRow}
 use Rattle.nf_joins.proofs.Fewer.{Fewer, begin_fewer, behind_fewer, fewer_same, fewer_then, sweep_fewer}
 use Rattle.nf_joins.proofs.Sending.{sent_step}
@@ -8,7 +8,7 @@ use Rattle.nf_laws.proofs.Allowing.{changes_allowed}
 use Rattle.nf_laws.proofs.Stays.{sound_after}
 use Rattle.nf_laws.specs.Access.{ChangesAllowed, UploadsFollow, is_asked, is_same, is_sent, is_swept}
 use Rattle.nf_defs.specs.Prelude.{Tables}
-use Rattle.nf_words.specs.Prelude.{after, IsLegalFrom, IsSound, MayCome, replay, State}
+use Rattle.nf_words.specs.Prelude.{after, IsSound, MayCome, replay, State}
 use Rattle.nf_words.specs.declared.history.Entry.{Entry}
 
 -- one entry

@@ -1,11 +1,11 @@
 -- What a file that chunks were joined to is read as.
-use Rattle.std.proofs.Common.{◌≡◌, ℕ, ◌+◌, List, Option, None, Some, option_map, inl, inr, refl, sym, ap, subst, ◌∙◌}
+use Rattle.std.proofs.Common.{◌≡◌, ℕ, ◌+◌, List, Option, None, Some, option_map, inl, inr, sym, ap, subst, ◌∙◌}
 use Rattle.nf_base.specs.declared.content.Piece.{Piece}
 use Rattle.nf_base.specs.declared.rows.NodeRow.{NodeRow}
 use Rattle.nf_defs.specs.Prelude.{node_row, Tables}
 use Rattle.nf_defs.specs.declared.Found.{Found}
 use Rattle.nf_defs.specs.declared.Found.TheVariants.{At, Free, Missing}
-use Rattle.nf_joins.specs.Joined.{content_at, IsReadAs, JoinedIsRead, Joins}
+use Rattle.nf_joins.specs.Joined.{content_at, IsReadAs, JoinedIsRead}
 use Rattle.nf_laws.proofs.Paths.{leads_found}
 use Rattle.nf_laws.proofs.Reaching.{readable_served, serves_readable}
 use Rattle.nf_laws.proofs.Stays.{sound_after, stays}
@@ -15,7 +15,6 @@ use Rattle.nf_laws.specs.Uploads.{file_at, HasContent, IsJoined}
 use Rattle.nf_words.specs.Prelude.{after, AreSound, asker_of, Call, call_of, found, IsSound, last_name, mount_of, replay, root_of, State, whole_of}
 use Rattle.nf_words.specs.declared.request.Spot.{Spot}
 use Rattle.nf_words.specs.declared.request.VersionAsk.{VersionAsk}
-use Rattle.nf_words.specs.declared.request.Wanted.{Wanted}
 use Rattle.nf_words.specs.declared.request.Wanted.TheVariants as want
 
 -- ---- a path leads to one node

@@ -1,11 +1,10 @@
 -- What the End of a chunk makes of the chunks.
-use Rattle.std.proofs.Common.{◌≡◌, ◌⊎◌, ℕ, ◌==◌, ◌&&◌, Bool, true, false, List, [], ◌∷◌, ◌++◌, Option, None, Some, Result, Ok, Err, if◌then◌else◌, inl, inr, refl, sym, ap, subst, ◌∙◌}
+use Rattle.std.proofs.Common.{◌≡◌, ◌⊎◌, ℕ, ◌==◌, ◌&&◌, Bool, true, false, List, [], ◌∷◌, ◌++◌, Option, None, Some, Result, Ok, if◌then◌else◌, inl, inr, refl, sym, ap, subst, ◌∙◌}
 use Rattle.std.specs.Option.{option_map_or}
 use Rattle.std.proofs.lemmas.Bool.{and_parts, eqb-true}
 use Rattle.nf_base.specs.Content.{content_eq}
 use Rattle.nf_base.specs.declared.changes.Change.{Change}
 use Rattle.nf_base.specs.declared.changes.Change.TheVariants.{Put}
-use Rattle.nf_base.specs.declared.content.Piece.{Piece}
 use Rattle.nf_base.specs.declared.rows.ChunkRow.{ChunkRow}
 use Rattle.nf_base.specs.declared.rows.Row.TheVariants as rows
 use Rattle.nf_base.specs.declared.rows.UploadRow.{UploadRow}
@@ -20,15 +19,12 @@ use Rattle.nf_words.proofs.Bodies.{content_decides}
 use Rattle.nf_words.proofs.Chunked.{chunk_found}
 use Rattle.nf_words.proofs.Found.{found_passes}
 use Rattle.nf_words.proofs.Passing.{not_refused}
-use Rattle.nf_words.specs.Prelude.{access_of, after, after_mark, altered, answer_at, answered_by, blob_by, blob_for, changed, chunk_refusal, chunk_row, chunk_stored, content_in, decision_of, ends_at, ends_goal, goal_at, is_chunk_of, MayAsk, MayCome, State, step, told, unless_refused, upload_row, upload_touched}
+use Rattle.nf_words.specs.Prelude.{access_of, after, after_mark, altered, answer_at, answered_by, blob_by, blob_for, changed, chunk_refusal, chunk_row, chunk_stored, content_in, decision_of, ends_at, ends_goal, goal_at, is_chunk_of, MayAsk, MayCome, State, told, upload_row, upload_touched}
 use Rattle.nf_words.specs.History.{MayEnd}
 use Rattle.nf_words.specs.declared.answer.Allowed.{Allowed}
-use Rattle.nf_words.specs.declared.answer.Allowed.TheVariants as allowed
 use Rattle.nf_words.specs.declared.answer.Denial.{Denial}
 use Rattle.nf_words.specs.declared.answer.Goal.{Goal}
 use Rattle.nf_words.specs.declared.answer.Goal.TheVariants.{Chunk}
-use Rattle.nf_words.specs.declared.answer.Reply.{Reply}
-use Rattle.nf_words.specs.declared.answer.Reply.TheVariants as reply
 use Rattle.nf_words.specs.declared.history.Entry.{Entry}
 use Rattle.nf_words.specs.declared.history.Event.{Event}
 use Rattle.nf_words.specs.declared.history.Event.TheVariants.{End}

@@ -99,9 +99,10 @@ pub record Run {C : Type 0} (reads : C → Taken → C → Type 0) : Type 0 wher
   pub dir : List ℕ
   pub node : ℕ
   pub joins : Joins (length front) (replay (opened a.opening) front) join user dir node
-  -- no chunk of it was there at the opening, and each body that was sent as one was brought by some seat's turn
+  -- no chunk of it was there at the opening, and each that was sent since was brought by some seat's turn
   pub fresh : (row : ChunkRow) → row.user ≡ user → row.dir ≡ dir → IsThere (opened a.opening) row → ⊥
-  pub brought : (row : ChunkRow) (was : WasSent (opened a.opening) front row) → (body : List ℕ) × Brought reads b was.front was.entry body
+  pub brought : (row : ChunkRow) → row.user ≡ user → row.dir ≡ dir → (was : WasSent (opened a.opening) front row)
+      → (body : List ℕ) × Brought reads b was.front was.entry body
   -- since then the content of the file stayed, and the path of the GET leads to it
   pub stays : content_at (state_after a enters.others) node ≡ content_at (after (replay (opened a.opening) front) join) node
   pub spot : Spot

@@ -1,11 +1,10 @@
 -- What a file that chunks were joined to is read as.
 use Rattle.std.specs.Prelude.{◌≡◌, ℕ, ◌+◌, List, Option, option_map, Ok, IsOk}
 use Rattle.nf_base.specs.declared.content.Piece.{Piece}
-use Rattle.nf_base.specs.declared.rows.NodeRow.{NodeRow}
 use Rattle.nf_defs.specs.Prelude.{node_row}
 use Rattle.nf_laws.specs.Access.{IsReadableFile, LeadsBy}
 use Rattle.nf_laws.specs.Uploads.{file_at}
-use Rattle.nf_words.specs.Prelude.{after, answer_at, answer_to, asker_of, Call, call_of, found, IsLegalFrom, IsSound, MayCome, MayWant, mount_of, replay, State, whole_of}
+use Rattle.nf_words.specs.Prelude.{after, answer_at, answer_to, asker_of, call_of, found, IsLegalFrom, IsSound, MayCome, MayWant, mount_of, replay, State, whole_of}
 use Rattle.nf_words.specs.declared.answer.Goal.TheVariants.{Serve}
 use Rattle.nf_words.specs.declared.answer.Reply.TheVariants.{Granted}
 use Rattle.nf_words.specs.declared.history.Entry.{Entry}

@@ -1,5 +1,5 @@
 -- Where a chunk that is there comes from.
-use Rattle.std.specs.Prelude.{◌≡◌, ◌⊎◌, ℕ, List, ◌∷◌, ◌++◌, take, Option, Some, Ok}
+use Rattle.std.specs.Prelude.{◌≡◌, ◌⊎◌, ℕ, List, ◌∷◌, ◌++◌, take, Some, Ok}
 use Rattle.nf_base.specs.declared.rows.ChunkRow.{ChunkRow}
 use Rattle.nf_words.specs.Prelude.{after, answer_at, blob_for, blob_to, chunk_row, content_in, goal_at, IsLegalFrom, IsSound, replay, State}
 use Rattle.nf_words.specs.declared.answer.Goal.TheVariants.{Chunk}
