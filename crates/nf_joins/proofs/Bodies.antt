@@ -27,12 +27,12 @@ both_told None so first second = tt
 both_told (Some shelf) so first second = so first second
 
 -- whether it tells stays
-still_told : {P : Type 0} (cause : Type 0) (next : ℕ) (old new : Option Blobs) → TellsStill cause next old new → IfSome old (λ shelf. P)
+still_told : (P : Type 0) (cause : Type 0) (next : ℕ) (old new : Option Blobs) → TellsStill cause next old new → IfSome old (λ shelf. P)
     → IfSome new (λ shelf. P)
-still_told cause next None None still is = tt
-still_told cause next None (Some new) still is = absurd (cc)
-still_told cause next (Some old) None still is = absurd still
-still_told cause next (Some old) (Some new) still is = is
+still_told P cause next None None still is = tt
+still_told P cause next None (Some new) still is = absurd (cc)
+still_told P cause next (Some old) None still is = absurd still
+still_told P cause next (Some old) (Some new) still is = is
 
 same_bytes : (body bytes : List ℕ) (old new : Option (List ℕ)) → IsStill (Unit {0}) old new → old ≡ Some body → new ≡ Some bytes → bytes ≡ body
 same_bytes body bytes old new (inl same) was is = let both : ◌≡◌ {A = Option (List ℕ)} (Some bytes) (Some body) = sym is ∙ same ∙ was in cc
@@ -68,17 +68,14 @@ module _ {C : Type 0} (reads : C → Taken → C → Type 0) (opening : List Row
   abbrev behind : Book
   behind = one.brought.behind.book
 
-  abbrev before : State
+  abbrev pub before : State
   before = replay (opened opening) one.sent.front
 
-  abbrev next : ℕ
+  abbrev pub next : ℕ
   next = before.tables.meta.next_blob
 
   abbrev sent : IsSent before one.sent.entry row
   sent = one.sent.sent
-
-  ends : EndsBody taken behind one.brought.stores.0 body one.brought.stores.1
-  ends = one.brought.stores.3
 
   abbrev entry : Entry
   entry = one.brought.stores.3.enters.entry
@@ -128,6 +125,6 @@ module _ {C : Type 0} (reads : C → Taken → C → Type 0) (opening : List Row
       tells_then (Unit {0}) (Unit {0}) (Unit {0}) (next_blob_of behind) (next_blob_of reader) behind.told reader.told x.told (λ u. u) (λ u. u)
       one.brought.tells.next_blob one.brought.tells.told
       (tells_for (OthersCame reader x) (Unit {0}) (next_blob_of reader) reader.told x.told (λ came. tt) on.told) in
-      let was = stored_at id is behind.told (on_ok one.brought.stores.1 (response_ok one.brought.stores.1 one.brought.stores.4) ends.stored) in
-      still_told (OthersCame x d) (next_blob_of x) x.told d.told last.told
+      let was = stored_at id is behind.told (on_ok one.brought.stores.1 (response_ok one.brought.stores.1 one.brought.stores.4) one.brought.stores.3.stored) in
+      still_told (bytes ≡ body) (OthersCame x d) (next_blob_of x) x.told d.told last.told
       (told_bytes x (next_blob_of behind) id piece body bytes behind.told x.told at still was of.told)

@@ -3,6 +3,7 @@ use Rattle.std.proofs.Common.{◌≡◌, ℕ, ◌+◌, ◌==◌, Bool, true, fal
 use Rattle.std.specs.Prelude.{IfSome}
 use Rattle.std.specs.List.{concat, flat_map}
 use Rattle.std.proofs.lemmas.Bool.{eqb-true}
+use Rattle.std.proofs.lemmas.List.Sums.{sum_by-cons}
 use Rattle.sha2.specs.Sha256.{sha256}
 use Rattle.nf_base.specs.Content.{size_of}
 use Rattle.nf_base.specs.declared.content.Piece.{Piece}
@@ -94,4 +95,5 @@ module _ {C : Type 0} (reads : C → Taken → C → Type 0) (opening : List Row
   sizes [] (bytes ∷ given) have all = absurd have
   sizes (piece ∷ content) [] have all = absurd (omega (arith, all))
   sizes (piece ∷ content) (bytes ∷ given) have all =
-      omega (arith, have.0.3.size, sizes content given have.1 (omega (arith, all)), length-append bytes (concat given))
+      sum_by-cons (λ (p : Piece). p.size) piece content ∙ ap (λ (n : ℕ). n + size_of content) (sym have.0.3.size) ∙ ap (λ (n : ℕ). length bytes + n) (sizes content given have.1 (omega (arith, all)))
+      ∙ sym (length-append bytes (concat given))

@@ -9,3 +9,4 @@ pub mod Coming
 pub mod Bodies
 pub mod Giving
 pub mod Whole
+pub mod Turned

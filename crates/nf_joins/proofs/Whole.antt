@@ -53,7 +53,7 @@ module _ {C : Type 0} (reads : C → Taken → C → Type 0) (run : Run reads) w
   s = replay s0 run.front
 
   abbrev last : State
-  last = replay s0 (run.a.known ++ run.enters.others)
+  last = replay s0 (run.a.known ++ run.get.enters.others)
 
   abbrev rows : List ChunkRow
   rows = chunks_of s.tables.chunks run.user run.dir
@@ -80,36 +80,36 @@ module _ {C : Type 0} (reads : C → Taken → C → Type 0) (run : Run reads) w
 
   content : run.content ≡ whole
   content =
-      let e = run.enters.entry in
-      let granted : answer_to last e.seat e.moment (Begin run.words run.request) ≡ Ok (Granted (Serve run.content)) =
-      stepped last e (Begin run.words run.request) (Granted (Serve run.content)) e.mark run.enters.event_is (sym run.enters.answer_is) in
-      let may : MayWant run.request = (subst (λ (ev : Event). MayAsk last e.seat ev) run.enters.event_is run.enters.may_come.asked).1 in
-      read.is_all e.seat e.moment run.words run.request run.spot run.content may run.wanted run.led granted
+      let e = run.get.enters.entry in
+      let granted : answer_to last e.seat e.moment (Begin run.get.words run.get.request) ≡ Ok (Granted (Serve run.content)) =
+      stepped last e (Begin run.get.words run.get.request) (Granted (Serve run.content)) e.mark run.get.enters.event_is (sym run.get.enters.answer_is) in
+      let may : MayWant run.get.request = (subst (λ (ev : Event). MayAsk last e.seat ev) run.get.enters.event_is run.get.enters.may_come.asked).1 in
+      read.is_all e.seat e.moment run.get.words run.get.request run.spot run.content may run.wanted run.led granted
 
   came : (bodies : List (List ℕ)) × Came reads run.a.opening run.b run.front rows bodies
   came =
       all_came reads run.a.opening run.b run.front run.user run.dir run.sound (legal_front 0 s0 run.front (run.join ∷ run.behind) legal) run.fresh run.brought
       rows (upload_found s run.user run.dir run.joins.sound) (filter_passes (is_chunk_of run.user run.dir) s.tables.chunks)
 
-  have : HaveBytes (IsGiven run.c.book run.d.book) whole run.given
-  have = subst (λ (pieces : List Piece). HaveBytes (IsGiven run.c.book run.d.book) pieces run.given) content run.writes.pieces.are_given
+  have : HaveBytes (IsGiven run.c.book run.d.book) whole run.get.given
+  have = subst (λ (pieces : List Piece). HaveBytes (IsGiven run.c.book run.d.book) pieces run.get.given) content run.get.writes.pieces.are_given
 
-  all : length run.given ≡ length whole
-  all = run.all ∙ ap length content
+  all : length run.get.given ≡ length whole
+  all = run.get.all ∙ ap length content
 
-  pieces : AreOfBodies run.d.book.told came.0 run.given
+  pieces : AreOfBodies run.d.book.told came.0 run.get.given
   pieces =
-      all_given reads run.a.opening run.b run.c.book run.d.book run.front run.enters.lasts.opening run.lasts rows came.0 run.given came.1 have all
+      all_given reads run.a.opening run.b run.c.book run.d.book run.front run.get.enters.lasts.opening run.get.lasts rows came.0 run.get.given came.1 have all
 
   -- so what was written is a file of the bodies
-  wrote : (bytes : List ℕ) → concat run.given ≡ bytes
-      → Appends run.c.output run.d.output (file_head run.close (length bytes) ++ bytes)
+  wrote : (bytes : List ℕ) → concat run.get.given ≡ bytes
+      → Appends run.c.output run.d.output (file_head run.get.close (length bytes) ++ bytes)
   wrote bytes same =
-      let size : size_of run.content ≡ length (concat run.given) =
-      sizes reads run.a.opening run.b run.c.book run.d.book run.front run.enters.lasts.opening run.lasts run.content run.given
-      run.writes.pieces.are_given run.all in
-      subst (λ (b : List ℕ). Appends run.c.output run.d.output (file_head run.close (length b) ++ b)) same
-      (subst (λ (n : ℕ). Appends run.c.output run.d.output (file_head run.close n ++ concat run.given)) size run.writes.bytes_are)
+      let size : size_of run.content ≡ length (concat run.get.given) =
+      sizes reads run.a.opening run.b run.c.book run.d.book run.front run.get.enters.lasts.opening run.get.lasts run.content run.get.given
+      run.get.writes.pieces.are_given run.get.all in
+      subst (λ (b : List ℕ). Appends run.c.output run.d.output (file_head run.get.close (length b) ++ b)) same
+      (subst (λ (n : ℕ). Appends run.c.output run.d.output (file_head run.get.close n ++ concat run.get.given)) size run.get.writes.bytes_are)
 
   pub sent_read : IsOfBodies reads run
   sent_read = record {

@@ -1,5 +1,5 @@
 -- From the bytes of the PUTs of chunks to the bytes of a later GET.
-use Rattle.std.specs.Prelude.{◌≡◌, ℕ, ◌≤◌, ◌==◌, not, filter, List, [], ◌∷◌, ◌++◌, length, Option, Ok, IfSome, Vec}
+use Rattle.std.specs.Prelude.{◌≡◌, ℕ, ◌≤◌, ◌==◌, Bool, not, filter, List, [], ◌∷◌, ◌++◌, length, Option, Ok, IfSome, Vec}
 use Rattle.std.specs.List.{concat}
 use Rattle.std.specs.Io.KnownBytes.{Appends}
 use Rattle.std.specs.declared.alloc.Global.{Global}
@@ -9,13 +9,12 @@ use Rattle.nf_base.specs.declared.rows.ChunkRow.{ChunkRow}
 use Rattle.nf_base.specs.declared.rows.Row.{Row}
 use Rattle.nf_dav.specs.Reply.{file_head}
 use Rattle.nf_defs.specs.Blobs.{Blobs}
-use Rattle.nf_joins.specs.Joined.{content_at, Joins}
+use Rattle.nf_joins.specs.Joined.{content_at, Joins, LeadsTo}
 use Rattle.nf_joins.specs.Sent.{IsThere, WasSent}
-use Rattle.nf_laws.specs.Access.{LeadsBy}
 use Rattle.nf_outside.specs.Lent.{Taken}
 use Rattle.nf_session.specs.Prelude.{Bodies, Book, Enters, Lasts, next_blob_of, Scene, state_after, StoresBody, TellsStill, WritesPieces}
 use Rattle.nf_session.specs.declared.response.Response.TheVariants as response
-use Rattle.nf_words.specs.Prelude.{after, call_of, chunks_of, IsLegal, IsSound, mount_of, opened, replay, State}
+use Rattle.nf_words.specs.Prelude.{after, call_of, chunks_of, IsLegal, IsSound, opened, replay}
 use Rattle.nf_words.specs.declared.answer.Goal.TheVariants.{Serve}
 use Rattle.nf_words.specs.declared.answer.Reply.TheVariants.{Granted}
 use Rattle.nf_words.specs.declared.history.Entry.{Entry}
@@ -63,7 +62,7 @@ Came reads opening reader es [] [] = Unit {0}
 Came reads opening reader es (row ∷ rows) (body ∷ bodies) = CameWith reads opening reader es row body × Came reads opening reader es rows bodies
 Came reads opening reader es rows bodies = ⊥
 
--- ---- the GET
+-- ---- the bytes
 
 -- the bytes have the length and SHA-256 digest (FIPS 180-4) of bodies, one by one
 abbrev pub AreAlike : List (List ℕ) → List (List ℕ) → Type 0
@@ -77,24 +76,38 @@ pub record AreOfBodies (told : Option Blobs) (bodies given : List (List ℕ)) : 
   pub bytes : IfSome told (λ shelf. concat given ≡ concat bodies)
   pub alike : AreAlike (filter (λ body. not (length body == 0)) bodies) given
 
--- a run in which an upload is joined to a file, and the file is read
-pub record Run {C : Type 0} (reads : C → Taken → C → Type 0) : Type 0 where
-  -- the reader's book before its GET and behind its Begin, which was granted a content
-  pub a : Book
-  pub b : Book
+-- a seat was granted to read a content by its Begin, between two books, and then all pieces of it were given, and written behind their head
+pub record ReadsOut {C : Type 0} (a b : Book) (c d : Scene C) (content : List Piece) : Type 0 where
   pub now : ℕ
   pub words : Words
   pub request : Request
-  pub content : List Piece
   pub enters : Enters a b now (Begin words request) (Ok (Granted (Serve content)))
+  pub lasts : Lasts b c.book
+  pub close : Bool
+  pub first : Option (Vec ℕ Global)
+  pub given : List (List ℕ)
+  pub writes : WritesPieces close content first c d given
+  pub all : length given ≡ length content
+
+-- ---- the run
+
+-- a run in which an upload is joined to a file, and then the file is read
+pub record Run {C : Type 0} (reads : C → Taken → C → Type 0) : Type 0 where
+  -- the read
+  pub a : Book
+  pub b : Book
+  pub c : Scene C
+  pub d : Scene C
+  pub content : List Piece
+  pub get : ReadsOut a b c d content
   -- the history that the seat knows then is legal, and its opening sound
   pub sound : IsSound (opened a.opening)
-  pub legal : IsLegal (opened a.opening) (a.known ++ enters.others)
+  pub legal : IsLegal (opened a.opening) (a.known ++ get.enters.others)
   -- an entry of it joined an upload to a file
   pub front : List Entry
   pub join : Entry
   pub behind : List Entry
-  pub parts : a.known ++ enters.others ≡ front ++ join ∷ behind
+  pub parts : a.known ++ get.enters.others ≡ front ++ join ∷ behind
   pub user : ℕ
   pub dir : List ℕ
   pub node : ℕ
@@ -103,30 +116,20 @@ pub record Run {C : Type 0} (reads : C → Taken → C → Type 0) : Type 0 wher
   pub fresh : (row : ChunkRow) → row.user ≡ user → row.dir ≡ dir → IsThere (opened a.opening) row → ⊥
   pub brought : (row : ChunkRow) → row.user ≡ user → row.dir ≡ dir → (was : WasSent (opened a.opening) front row)
       → (body : List ℕ) × Brought reads b was.front was.entry body
-  -- since then the content of the file stayed, and the path of the GET leads to it
-  pub stays : content_at (state_after a enters.others) node ≡ content_at (after (replay (opened a.opening) front) join) node
+  -- since the join the content of the file stayed, and the path of the GET leads to it
+  pub stays : content_at (state_after a get.enters.others) node ≡ content_at (after (replay (opened a.opening) front) join) node
   pub spot : Spot
-  pub wanted : request.wanted ≡ want.Get spot
-  pub led : LeadsBy (call_of (state_after a enters.others) enters.entry.seat enters.entry.moment words request) spot
-      (mount_of (call_of (state_after a enters.others) enters.entry.seat enters.entry.moment words request) spot) node
-  -- and all pieces of what was granted were given, and written behind their head
-  pub c : Scene C
-  pub d : Scene C
-  pub close : Bool
-  pub first : Option (Vec ℕ Global)
-  pub lasts : Lasts b c.book
-  pub given : List (List ℕ)
-  pub writes : WritesPieces close content first c d given
-  pub all : length given ≡ length content
+  pub wanted : get.request.wanted ≡ want.Get spot
+  pub led : LeadsTo (call_of (state_after a get.enters.others) get.enters.entry.seat get.enters.entry.moment get.words get.request) spot node
 
 -- the pieces are the bodies with which the chunks came, by rising number; and where the store tells its bytes, a file of just these was written
 pub record IsOfBodies {C : Type 0} (reads : C → Taken → C → Type 0) (run : Run reads) : Type 0 where
   pub bodies : List (List ℕ)
   pub came : Came reads run.a.opening run.b run.front
       (chunks_of (replay (opened run.a.opening) run.front).tables.chunks run.user run.dir) bodies
-  pub pieces : AreOfBodies run.d.book.told bodies run.given
+  pub pieces : AreOfBodies run.d.book.told bodies run.get.given
   pub written : IfSome run.d.book.told
-      (λ shelf. Appends run.c.output run.d.output (file_head run.close (length (concat bodies)) ++ concat bodies))
+      (λ shelf. Appends run.c.output run.d.output (file_head run.get.close (length (concat bodies)) ++ concat bodies))
 
 abbrev pub SentIsRead : {C : Type 0} → (C → Taken → C → Type 0) → Type 0
 SentIsRead reads = (run : Run reads) → IsOfBodies reads run

@@ -4,7 +4,7 @@ use Rattle.nf_base.specs.declared.content.Piece.{Piece}
 use Rattle.nf_defs.specs.Prelude.{node_row}
 use Rattle.nf_laws.specs.Access.{IsReadableFile, LeadsBy}
 use Rattle.nf_laws.specs.Uploads.{file_at}
-use Rattle.nf_words.specs.Prelude.{after, answer_at, answer_to, asker_of, call_of, found, IsLegalFrom, IsSound, MayCome, MayWant, mount_of, replay, State, whole_of}
+use Rattle.nf_words.specs.Prelude.{after, answer_at, answer_to, asker_of, Call, call_of, found, IsLegalFrom, IsSound, MayCome, MayWant, mount_of, replay, State, whole_of}
 use Rattle.nf_words.specs.declared.answer.Goal.TheVariants.{Serve}
 use Rattle.nf_words.specs.declared.answer.Reply.TheVariants.{Granted}
 use Rattle.nf_words.specs.declared.history.Entry.{Entry}
@@ -37,6 +37,10 @@ pub record Joins (n : ℕ) (s : State) (e : Entry) (user : ℕ) (dir : List ℕ)
 abbrev pub content_at : State → ℕ → Option (List Piece)
 content_at s node = option_map (λ row. row.content) (node_row s.tables.nodes node)
 
+-- the path leads there, by the mount that it goes by, if it goes by one
+abbrev pub LeadsTo : Call → Spot → ℕ → Type 0
+LeadsTo call spot node = LeadsBy call spot (mount_of call spot) node
+
 -- each GET of the file is granted that content: of whoever may read it, by whatever path; and no GET whose path leads there is granted another
 pub record IsReadAs (s : State) (node : ℕ) (content : List Piece) : Type 0 where
   pub is_granted : (seat now : ℕ) (words : Words) (request : Request) (other : List Piece)
@@ -44,7 +48,7 @@ pub record IsReadAs (s : State) (node : ℕ) (content : List Piece) : Type 0 whe
       → answer_to s seat now (Begin words request) ≡ Ok (Granted (Serve content))
   pub is_all : (seat now : ℕ) (words : Words) (request : Request) (spot : Spot) (other : List Piece) → MayWant request
       → request.wanted ≡ want.Get spot
-      → LeadsBy (call_of s seat now words request) spot (mount_of (call_of s seat now words request) spot) node
+      → LeadsTo (call_of s seat now words request) spot node
       → answer_to s seat now (Begin words request) ≡ Ok (Granted (Serve other)) → other ≡ content
 
 -- what the chunks had, one after the other by rising number, is what the file is read as after whatever entries that leave its content
