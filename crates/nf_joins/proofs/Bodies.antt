@@ -1,5 +1,5 @@
 -- What is given of a chunk's piece is the body that it came with.
-use Rattle.std.proofs.Common.{◌≡◌, ℕ, ◌<◌, List, [], ◌∷◌, ◌++◌, length, Option, None, Some, Result, Ok, Err, inl, inr, refl, sym, ap, subst, ◌∙◌}
+use Rattle.std.proofs.Common.{◌≡◌, ℕ, ◌<◌, List, ◌++◌, length, Option, None, Some, Ok, Err, inl, inr, refl, sym, ap, subst, ◌∙◌}
 use Rattle.std.specs.Prelude.{IfSome, IsOk, OnOk}
 use Rattle.sha2.specs.Sha256.{sha256}
 use Rattle.nf_base.specs.declared.content.Piece.{Piece}
@@ -10,13 +10,12 @@ use Rattle.nf_joins.specs.Bytes.{CameWith}
 use Rattle.nf_joins.specs.Sent.{IsSent}
 use Rattle.nf_outside.specs.Lent.{Taken}
 use Rattle.nf_session.proofs.Lasting.{lasts_then, tells_for, tells_then}
-use Rattle.nf_session.specs.Prelude.{Answer, Book, EndsBody, event_of_body, IsGiven, IsResponse, Lasts, next_blob_of, OthersCame, state_after, state_of, Stores, TellsStill}
+use Rattle.nf_session.specs.Prelude.{Answer, Book, IsGiven, IsResponse, Lasts, next_blob_of, OthersCame, state_after, state_of, Stores, TellsStill}
 use Rattle.nf_session.specs.Book.{IsStill, TellsPiece}
 use Rattle.nf_session.specs.declared.response.Response.TheVariants as response
 use Rattle.nf_words.proofs.Histories.{replay_more}
 use Rattle.nf_words.specs.Prelude.{after, blob_for, blob_to, content_in, opened, replay, State}
 use Rattle.nf_words.specs.declared.history.Entry.{Entry}
-use Rattle.nf_words.specs.declared.history.Event.{Event}
 use Rattle.nf_words.specs.declared.history.Event.TheVariants.{End}
 use Rattle.nf_words.specs.declared.history.Outcome.TheVariants.{Body}
 

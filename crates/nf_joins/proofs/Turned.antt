@@ -1,10 +1,8 @@
 -- A turn that takes a chunk's body brings it, and one that serves a file reads it out.
-use Rattle.std.proofs.Common.{◌≡◌, ℕ, Bool, List, [], ◌∷◌, length, Option, None, Some, Result, Ok, refl, sym, ap, subst, ◌∙◌}
+use Rattle.std.proofs.Common.{◌≡◌, ℕ, Bool, List, [], ◌∷◌, Option, None, Some, Result, Ok, ap, subst, ◌∙◌}
 use Rattle.std.specs.Prelude.{Vec}
 use Rattle.std.specs.declared.alloc.Global.{Global}
 use Rattle.nf_base.specs.declared.content.Piece.{Piece}
-use Rattle.nf_http.specs.Head.{Head}
-use Rattle.nf_joins.specs.Bytes.{ReadsOut}
 use Rattle.nf_joins.specs.Turns.{TurnsBring, TurnsRead}
 use Rattle.nf_outside.specs.Lent.{Taken}
 use Rattle.nf_session.proofs.Lasting.{lasts_same, lasts_then}

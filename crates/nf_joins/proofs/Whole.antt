@@ -1,7 +1,6 @@
 -- What was sent in chunks is what is read, over a whole run.
-use Rattle.std.proofs.Common.{◌≡◌, ℕ, ◌+◌, ◌==◌, List, [], ◌∷◌, ◌++◌, length, Option, Result, Ok, refl, sym, ap, subst, ◌∙◌, arith}
-use Rattle.std.specs.Prelude.{IfSome, IsOk}
-use Rattle.std.specs.List.{All, concat}
+use Rattle.std.proofs.Common.{◌≡◌, ℕ, ◌+◌, List, ◌∷◌, ◌++◌, length, Ok, sym, ap, subst, ◌∙◌, arith}
+use Rattle.std.specs.List.{concat}
 use Rattle.std.specs.Io.KnownBytes.{Appends}
 use Rattle.std.proofs.lemmas.List.Elements.{filter_passes}
 use Rattle.nf_base.specs.Content.{size_of}
@@ -14,13 +13,13 @@ use Rattle.nf_joins.proofs.Fronts.{legal_behind, legal_front, replay_on}
 use Rattle.nf_joins.proofs.Giving.{all_given, sizes}
 use Rattle.nf_joins.proofs.Reading.{joined_read}
 use Rattle.nf_joins.proofs.Rows.{upload_found}
-use Rattle.nf_joins.specs.Bytes.{AreOfBodies, Came, IsOfBodies, OwnTellOn, Run, SentIsRead, TellsOn}
+use Rattle.nf_joins.specs.Bytes.{AreOfBodies, Came, IsOfBodies, OwnTellOn, Run}
 use Rattle.nf_joins.specs.Joined.{content_at, IsReadAs}
 use Rattle.nf_outside.specs.Lent.{Taken}
 use Rattle.nf_session.proofs.Lasting.{tells_for}
-use Rattle.nf_session.specs.Prelude.{Book, HaveBytes, IsGiven, Lasts, next_blob_of, OthersCame}
+use Rattle.nf_session.specs.Prelude.{HaveBytes, IsGiven, next_blob_of, OthersCame}
+use Rattle.nf_words.proofs.Wholes.{chunks_numbers_rise}
 use Rattle.nf_words.specs.Prelude.{after, answer_at, answer_to, chunks_of, IsLegalFrom, is_chunk_of, MayAsk, MayWant, opened, replay, State, whole_of}
-use Rattle.nf_words.specs.declared.answer.Denial.{Denial}
 use Rattle.nf_words.specs.declared.answer.Goal.TheVariants.{Serve}
 use Rattle.nf_words.specs.declared.answer.Reply.{Reply}
 use Rattle.nf_words.specs.declared.answer.Reply.TheVariants.{Granted}
@@ -113,6 +112,7 @@ module _ {C : Type 0} (reads : C → Taken → C → Type 0) (run : Run reads) w
 
   pub sent_read : IsOfBodies reads run
   sent_read = record {
+    rise = chunks_numbers_rise s.tables run.joins.sound.rows run.user run.dir;
     bodies = came.0;
     came = came.1;
     pieces = pieces;

@@ -1,6 +1,6 @@
 -- From the bytes of the PUTs of chunks to the bytes of a later GET.
-use Rattle.std.specs.Prelude.{◌≡◌, ℕ, ◌≤◌, ◌==◌, Bool, not, filter, List, [], ◌∷◌, ◌++◌, length, Option, Ok, IfSome, Vec}
-use Rattle.std.specs.List.{concat}
+use Rattle.std.specs.Prelude.{◌≡◌, ℕ, ◌<◌, ◌≤◌, ◌==◌, Bool, not, filter, List, [], ◌∷◌, ◌++◌, length, Option, Ok, IfSome, Vec}
+use Rattle.std.specs.List.{AllPairs, concat}
 use Rattle.std.specs.Io.KnownBytes.{Appends}
 use Rattle.std.specs.declared.alloc.Global.{Global}
 use Rattle.sha2.specs.Sha256.{sha256}
@@ -122,11 +122,15 @@ pub record Run {C : Type 0} (reads : C → Taken → C → Type 0) : Type 0 wher
   pub wanted : get.request.wanted ≡ want.Get spot
   pub led : LeadsTo (call_of (state_after a get.enters.others) get.enters.entry.seat get.enters.entry.moment get.words get.request) spot node
 
+-- the chunks that the upload had before the join
+abbrev pub chunks_joined : {C : Type 0} {reads : C → Taken → C → Type 0} → Run reads → List ChunkRow
+chunks_joined run = chunks_of (replay (opened run.a.opening) run.front).tables.chunks run.user run.dir
+
 -- the pieces are the bodies with which the chunks came, by rising number; and where the store tells its bytes, a file of just these was written
 pub record IsOfBodies {C : Type 0} (reads : C → Taken → C → Type 0) (run : Run reads) : Type 0 where
+  pub rise : AllPairs (λ (a b : ChunkRow). a.number < b.number) (chunks_joined run)
   pub bodies : List (List ℕ)
-  pub came : Came reads run.a.opening run.b run.front
-      (chunks_of (replay (opened run.a.opening) run.front).tables.chunks run.user run.dir) bodies
+  pub came : Came reads run.a.opening run.b run.front (chunks_joined run) bodies
   pub pieces : AreOfBodies run.d.book.told bodies run.get.given
   pub written : IfSome run.d.book.told
       (λ shelf. Appends run.c.output run.d.output (file_head run.get.close (length (concat bodies)) ++ concat bodies))
