@@ -1,12 +1,11 @@
 //! A case of several seats: each serves its messages in a thread of its own, by the workers of the server, and makes its steps when they
-//! come. One more seat makes the sweeps.
+//! come.
 
 ghost use Rattle.std.specs.Prelude.{◌≡◌, None};
 ghost use Rattle.nf_hub.specs.Seats.{IsSeat, book};
 ghost use Rattle.nf_session.specs.Book.{held};
 
 use crate::connection::{Answered, Message, SeatClock, SeatDice, Sent};
-use crate::jobs::{Cast, act, sweeps_of};
 use crate::keeping::{TestKeeper, left_in};
 use crate::stage::Stage;
 use crate::transcript::output_of;
@@ -17,7 +16,7 @@ use nf_desk::{Opening, Unopened};
 use nf_hub::Hub;
 use nf_keeper::Keeper;
 use nf_outside::{MemSink, MemSource};
-use nf_server::{Link, MemDoor, Worker};
+use nf_server::{Link, MemDoor, Worker, serve};
 use std::alloc::{AllocError, Global};
 use std::sync::Wait;
 use std::thread::Threads;
@@ -49,14 +48,11 @@ pub fn serve_events<R: Threads + Wait + Sync, K: TestKeeper>(
     pieces: &[usize],
 ) -> Result<(Outcome, K), AllocError> {
     let stage = Stage::new(alloc, case)?;
-    let cast = Cast {
-        workers: workers_of(alloc, case, &stage, pieces)?,
-        sweeps: sweeps_of(alloc, &case.steps)?,
-    };
-    let (status, mut keeper, cast) = serve_cast(rt, alloc, keeper, &stage, cast)?;
+    let mut workers = workers_of(alloc, case, &stage, pieces)?;
+    let (status, mut keeper) = serve_seats(rt, alloc, keeper, &mut workers)?;
     let outcome = Outcome {
         written: Written {
-            output: output_of(alloc, case, &stage, &cast)?,
+            output: output_of(alloc, case, &stage, &workers)?,
             left: left_in(alloc, case, &mut keeper)?,
         },
         status,
@@ -65,28 +61,27 @@ pub fn serve_events<R: Threads + Wait + Sync, K: TestKeeper>(
     Ok((outcome, keeper))
 }
 
-// Serves the seats' messages over one hub, and sweeps it beside: the status, and the keeper that is left.
-fn serve_cast<'s, R: Threads + Wait + Sync, K: Keeper + Drop + Send>(
+// Serves the seats' messages over one hub: the status, and the keeper that is left.
+fn serve_seats<R: Threads + Wait + Sync, K: Keeper + Drop + Send>(
     rt: &R,
     alloc: Global,
     keeper: K,
-    stage: &'s Stage,
-    cast: Cast<'s>,
-) -> Result<(u8, K, Cast<'s>), AllocError> {
+    workers: &mut [SeatWorker<'_>],
+) -> Result<(u8, K), AllocError> {
     let first = demonstration(alloc)?;
-    let (hub, mut seat) = match Hub::start(alloc, keeper, Opening::Either(first), MAX_SEATS) {
+    let (hub, seat) = match Hub::start(alloc, keeper, Opening::Either(first), MAX_SEATS) {
         Ok(made) => made,
-        Err(Unopened { fault: _, keeper }) => return Ok((NOT_OPENED, keeper, cast)),
+        Err(Unopened { fault: _, keeper }) => return Ok((NOT_OPENED, keeper)),
     };
-    let Some(other) = hub.split(&mut seat) else {
+    if workers.len() > seat.left() {
         return Err(AllocError);
-    };
-    let (seat, cast) = act(rt, alloc, &hub, (seat, other), stage, cast);
+    }
+    let (_, seat) = serve(rt, alloc, &hub, seat, workers, u64::MAX);
     if !seat.whole() {
         return Err(AllocError);
     }
     let (_, keeper) = hub.close(seat);
-    Ok((DONE, keeper, cast))
+    Ok((DONE, keeper))
 }
 
 // A worker for each number of a seat, up to the greatest one.
