@@ -88,7 +88,6 @@ end_well : (end : Option Ended) → session.IsWell end → status_of end ≢ exi
 end_well None is room = tt
 end_well (Some ended.Closed) is room = tt
 end_well (Some ended.BadMessage) is room = tt
-end_well (Some ended.NotBuilt) is room = tt
 end_well (Some ended.RunFull) is room = absurd (room refl)
 end_well (Some ended.Memory) is room = tt
 end_well (Some other) is room = absurd is

@@ -252,7 +252,6 @@ done_is : (end : Option Ended) → exit.Done ≡ status_of end → end ≡ Some 
 done_is None e = cc
 done_is (Some ended.Closed) e = refl
 done_is (Some ended.BadMessage) e = cc
-done_is (Some ended.NotBuilt) e = cc
 done_is (Some ended.RunFull) e = cc
 done_is (Some (ended.Cut why)) e = cc
 done_is (Some ended.ReadFault) e = cc

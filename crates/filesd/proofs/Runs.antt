@@ -21,7 +21,6 @@ abbrev end_named : Status → Option (Option Ended)
 end_named exit.Budget = Some None
 end_named exit.Done = Some (Some ended.Closed)
 end_named exit.BadMessage = Some (Some ended.BadMessage)
-end_named exit.NotBuilt = Some (Some ended.NotBuilt)
 end_named exit.RunFull = Some (Some ended.RunFull)
 end_named exit.ReadFault = Some (Some ended.ReadFault)
 end_named exit.WriteFault = Some (Some ended.WriteFault)
@@ -36,7 +35,6 @@ named_is : (end named : Option Ended) → end_named (status_of end) ≡ Some nam
 named_is None named e = same_Some None named e
 named_is (Some ended.Closed) named e = same_Some (Some ended.Closed) named e
 named_is (Some ended.BadMessage) named e = same_Some (Some ended.BadMessage) named e
-named_is (Some ended.NotBuilt) named e = same_Some (Some ended.NotBuilt) named e
 named_is (Some ended.RunFull) named e = same_Some (Some ended.RunFull) named e
 named_is (Some (ended.Cut why)) named e = absurd (none-some named e)
 named_is (Some ended.ReadFault) named e = same_Some (Some ended.ReadFault) named e

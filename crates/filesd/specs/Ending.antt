@@ -36,7 +36,6 @@ pub record NothingFails {C : Type 0} (a b : Outside C) : Type 0 where
 abbrev pub IsWell : Status → Type 0
 IsWell exit.Done = Unit {0}
 IsWell exit.BadMessage = Unit {0}
-IsWell exit.NotBuilt = Unit {0}
 IsWell exit.Budget = Unit {0}
 IsWell exit.Memory = Unit {0}
 IsWell other = ⊥

@@ -44,7 +44,6 @@ abbrev pub status_of : Option Ended → Status
 status_of None = exit.Budget
 status_of (Some ended.Closed) = exit.Done
 status_of (Some ended.BadMessage) = exit.BadMessage
-status_of (Some ended.NotBuilt) = exit.NotBuilt
 status_of (Some ended.RunFull) = exit.RunFull
 status_of (Some (ended.Cut why)) = exit.Cut
 status_of (Some ended.ReadFault) = exit.ReadFault

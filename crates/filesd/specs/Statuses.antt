@@ -17,7 +17,6 @@ code_of exit.DoorFault = 8
 code_of exit.Memory = 9
 code_of exit.RunFull = 10
 code_of exit.Budget = 11
-code_of exit.NotBuilt = 12
 
 -- its word
 abbrev pub word_of : Status → List ℕ
@@ -33,4 +32,3 @@ word_of exit.DoorFault = codes "doorfault"
 word_of exit.Memory = codes "memory"
 word_of exit.RunFull = codes "runfull"
 word_of exit.Budget = codes "budget"
-word_of exit.NotBuilt = codes "notbuilt"

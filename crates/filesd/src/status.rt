@@ -49,8 +49,6 @@ pub enum Status {
     RunFull,
     /// `MAX_MESSAGES` messages were answered, and none ended the session.
     Budget,
-    /// What a message asked for isn't built yet.
-    NotBuilt,
 }
 
 impl Status {
@@ -71,7 +69,6 @@ impl Status {
             Status::Memory => 9,
             Status::RunFull => 10,
             Status::Budget => 11,
-            Status::NotBuilt => 12,
         }
     }
 
@@ -92,7 +89,6 @@ impl Status {
             Status::Memory => "memory",
             Status::RunFull => "runfull",
             Status::Budget => "budget",
-            Status::NotBuilt => "notbuilt",
         }
     }
 }
@@ -105,7 +101,6 @@ pub(crate) fn status_of(end: Option<Ended>) -> Status
         None => Status::Budget,
         Some(Ended::Closed) => Status::Done,
         Some(Ended::BadMessage) => Status::BadMessage,
-        Some(Ended::NotBuilt) => Status::NotBuilt,
         Some(Ended::RunFull) => Status::RunFull,
         Some(Ended::Cut(_)) => Status::Cut,
         Some(Ended::ReadFault) => Status::ReadFault,

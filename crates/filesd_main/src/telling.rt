@@ -58,14 +58,13 @@ fn why_unread(fault: RowFault) -> &'static str {
 // The rules stand in docs/STORE.md.
 fn why_broken(rule: u8) -> &'static str {
     match rule {
-        0 => "it is of a kind that isn't built yet",
         1 => "its key comes twice, or the row of counters is missing",
         2 => "a number in it was never given, or a moment in it is yet to come",
-        3 => "a user, group or node that it names isn't there",
+        3 => "a user, group, node or upload that it names isn't there",
         4 => "its name comes twice",
         5 => "it leads to no root of its owner, or is a version that no file can have",
         6 => "it is no share or mount that may be made",
-        7 => "there are too many of its kind",
+        7 => "there are too many of its kind, or it is a chunk of no number that one has",
         8 => "its quota is too large, or the versions of its owner take up more than they may",
         _ => "there is no such rule",
     }

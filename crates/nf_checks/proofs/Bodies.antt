@@ -88,6 +88,8 @@ passes_same reads body a b c d (begun.Asked (Ok (reply.Granted (goal.Serve conte
     starts_same a b c d content v w same p q calm still alone also
 passes_same reads body a b c d (begun.Asked (Ok (reply.Granted (goal.Store by key size)))) v w steady same p q calm still alone also =
     stores_same reads body a b c d v w steady same p q calm still alone also
+passes_same reads body a b c d (begun.Asked (Ok (reply.Granted (goal.Chunk user dir number size)))) v w steady same p q calm still alone also =
+    stores_same reads body a b c d v w steady same p q calm still alone also
 passes_same reads body a b c d (begun.Asked answer) v w steady same p q calm still alone also =
     (similar answer v w p.0 q.0, same_self a b c d same p.1 q.1)
 
@@ -139,6 +141,8 @@ cut_by : (x : Begun) (a b : Option (List ℕ)) (n : ℕ) (fault : WireFault) →
     → (fault ≡ wire.Truncated) × CutsRead a b n wire.Truncated
 cut_by (begun.Asked (Ok (reply.Granted (goal.Store by key size)))) a b n wire.Memory cut calm = absurd calm
 cut_by (begun.Asked (Ok (reply.Granted (goal.Store by key size)))) a b n fault cut calm = cut_read a b n fault cut calm
+cut_by (begun.Asked (Ok (reply.Granted (goal.Chunk user dir number size)))) a b n wire.Memory cut calm = absurd calm
+cut_by (begun.Asked (Ok (reply.Granted (goal.Chunk user dir number size)))) a b n fault cut calm = cut_read a b n fault cut calm
 cut_by other a b n fault cut calm = cut_read a b n fault cut calm
 
 pub cut_of : {C : Type 0} (a b : Scene C) (x : Begun) (n : ℕ) (fault : WireFault)

@@ -75,7 +75,6 @@ IsCalmResponse response.Plain = Unit {0}
 abbrev pub IsCalmEnded : Ended → Type 0
 IsCalmEnded ended.Closed = Unit {0}
 IsCalmEnded ended.BadMessage = Unit {0}
-IsCalmEnded ended.NotBuilt = Unit {0}
 IsCalmEnded ended.RunFull = Unit {0}
 IsCalmEnded (ended.Cut fault) = ⊥
 IsCalmEnded ended.ReadFault = ⊥

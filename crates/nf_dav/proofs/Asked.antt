@@ -39,12 +39,13 @@ use Rattle.nf_words.specs.declared.route.Route.TheVariants as route
 use Rattle.nf_ocs.specs.Asked.{is_ocs_route, ocs_request_of}
 use Rattle.nf_ocs.specs.Read.{and_then}
 use Rattle.nf_ocs.proofs.Asks.{AsksOwn, AsksWell, IsFine, NamesNobody, fine_request}
-use Rattle.nf_dav.specs.Asked.{caller_by, caller_of, caller_of_value, destination_of, field, files_refusal, files_request, first_of, front_on, Gives, is_destination, is_stray, is_trash_route, is_version_route, leads_alike, ocs_request, on_route, other_request, request_of, routed, second_segments, second_spot, segments_fault, spot_at, target_spot, transfer_refusal, trash_asked, trash_refusal, trash_request, unless_refused, version_asked, version_refusal, version_request, wanted_of}
+use Rattle.nf_dav.specs.Asked.{caller_by, caller_of, caller_of_value, destination_of, field, files_refusal, files_request, first_of, front_on, Gives, is_destination, is_stray, is_trash_route, is_version_route, leads_alike, ocs_request, on_route, other_request, request_of, routed, second_segments, second_spot, segments_fault, spot_at, target_spot, transfer_refusal, trash_asked, trash_refusal, trash_request, unless_refused, upload_asked, upload_refusal, upload_request, version_asked, version_refusal, version_request, wanted_of}
 use Rattle.nf_dav.specs.declared.fronts.Front.{Front}
 use Rattle.nf_dav.specs.declared.fronts.Front.TheVariants as fronts
 use Rattle.nf_dav.specs.declared.requests.Unasked.{Unasked}
 use Rattle.nf_words.specs.declared.request.TrashAsk.{TrashAsk}
 use Rattle.nf_words.specs.declared.request.TrashAsk.TheVariants as trash
+use Rattle.nf_words.specs.declared.request.UploadAsk.{UploadAsk}
 use Rattle.nf_words.specs.declared.request.VersionAsk.{VersionAsk}
 use Rattle.nf_words.specs.declared.request.VersionAsk.TheVariants as version
 
@@ -94,9 +95,19 @@ pub record IsAskedOfVersions (head : Head) (request : Request) : Type 0 where
   pub named : method_of head.method ≡ Some method
   pub asked : version_request route method head ≡ Ok request
 
+-- what is asked about an upload by a method
+pub record IsAskedOfUploads (head : Head) (request : Request) : Type 0 where
+  pub method : Method
+  pub named : method_of head.method ≡ Some method
+  pub asked : upload_request method head ≡ Ok request
+
+-- what is asked of the trash bin, about versions or about an upload
+abbrev pub IsAskedBeside : Head → Request → Type 0
+IsAskedBeside head request = IsAskedOfTrash head request ⊎ (IsAskedOfVersions head request ⊎ IsAskedOfUploads head request)
+
 -- what is asked of no route to files
 abbrev pub IsAskedElsewhere : Head → List ℕ → Request → Type 0
-IsAskedElsewhere head body request = IsAskedOfOcs head body request ⊎ (IsAskedOfTrash head request ⊎ IsAskedOfVersions head request)
+IsAskedElsewhere head body request = IsAskedOfOcs head body request ⊎ IsAskedBeside head request
 
 pub asked_there : (head : Head) (body : List ℕ) (request : Request) → request_of head body ≡ Ok request
     → IsAskedThere head request ⊎ IsAskedElsewhere head body request
@@ -104,18 +115,16 @@ unfolding request_of
 asked_there head body request is = on (route_of head.target) refl is
   where
     beside : (r : Route) (m : Method) → method_of head.method ≡ Some m
-        → (if is_trash_route r then trash_request r m head else if is_version_route r then version_request r m head else Err denial.NotBuilt) ≡ Ok request
-        → IsAskedOfTrash head request ⊎ IsAskedOfVersions head request
+        → (if is_trash_route r then trash_request r m head else if is_version_route r then version_request r m head else upload_request m head) ≡ Ok request
+        → IsAskedBeside head request
     beside r m named is =
         elim (either_of (is_trash_route r) (trash_request r m head) _ request is) [
           | inl asked ↦ inl (record { route = r; method = m; named = named; asked = asked })
           | inr other ↦
-              inr (record {
-                route = r;
-                method = m;
-                named = named;
-                asked = (granted (is_version_route r) denial.NotBuilt (version_request r m head) request other).1;
-              })
+              elim (either_of (is_version_route r) (version_request r m head) (upload_request m head) request other) [
+                | inl asked ↦ inr (inl (record { route = r; method = m; named = named; asked = asked }))
+                | inr asked ↦ inr (inr (record { method = m; named = named; asked = asked }))
+              ]
         ]
 
     which : (r : Route) (m : Method) → route_of head.target ≡ Some r → method_of head.method ≡ Some m
@@ -288,7 +297,7 @@ ocs_only (Ok asked) caller request well is =
     ap (λ (request : Request). is_about_files request.wanted) (sym same) ∙ well_of_ocs asked well
 ocs_only (Err refusal) caller request well is = absurd (cc)
 
--- nor is what is asked of the trash bin, or about versions
+-- nor is what is asked of the trash bin, about versions or about an upload
 beside_only : (refusal : Option Denial) (caller : Caller) (asked : Wanted) (request : Request) → is_about_files asked ≡ false
     → unless_refused refusal (record { caller = caller; wanted = asked }) ≡ Ok request → is_about_files request.wanted ≡ false
 beside_only None caller asked request other is =
@@ -309,9 +318,12 @@ asked_no_ocs head body request is other = here (asked_there head body request is
     here (inr (inr (inl there))) =
         absurd (false≢true (sym (beside_only (trash_refusal there.route there.method head) (caller_of head)
         (wanted.Trash (trash_asked there.route there.method head)) request refl there.asked) ∙ other))
-    here (inr (inr (inr there))) =
+    here (inr (inr (inr (inl there)))) =
         absurd (false≢true (sym (beside_only (version_refusal there.route there.method head) (caller_of head)
         (wanted.Version (version_asked there.route there.method head)) request refl there.asked) ∙ other))
+    here (inr (inr (inr (inr there)))) =
+        absurd (false≢true (sym (beside_only (upload_refusal there.method head) (caller_of head)
+        (wanted.Upload (upload_asked there.method head)) request refl there.asked) ∙ other))
 
 pub asked_no_head : (head : Head) (body : List ℕ) (request : Request) → request_of head body ≡ Ok request → bytes_eq head.method (codes "HEAD") ≡ false
 asked_no_head head body request is = by (asked_there head body request is)
@@ -324,7 +336,8 @@ asked_no_head head body request is = by (asked_there head body request is)
     by (inl there) = here there.method there.named (bytes_eq head.method (codes "HEAD")) refl
     by (inr (inl there)) = here there.method there.named (bytes_eq head.method (codes "HEAD")) refl
     by (inr (inr (inl there))) = here there.method there.named (bytes_eq head.method (codes "HEAD")) refl
-    by (inr (inr (inr there))) = here there.method there.named (bytes_eq head.method (codes "HEAD")) refl
+    by (inr (inr (inr (inl there)))) = here there.method there.named (bytes_eq head.method (codes "HEAD")) refl
+    by (inr (inr (inr (inr there)))) = here there.method there.named (bytes_eq head.method (codes "HEAD")) refl
 
 -- ---- what may be asked
 
@@ -354,20 +367,21 @@ fine_first head front place = here (segments_of head.target) (names_user head.ta
     here [] is fine = absurd (false≢true is)
     here (first ∷ names) is fine = first_none (name_fault first) (path_fault names) fine
 
+-- nobody asks by a link with an Authorization
+pub no_link : (value : Option (List ℕ)) → is_by_link (caller_of_value value) ≡ false
+no_link None = refl
+no_link (Some value) = there _ (sha256 (drop 7 value))
+  where
+    there : (test : Bool) (digest : List ℕ) → is_by_link (if test then Token digest else Absent) ≡ false
+    there true digest = refl
+    there false digest = refl
+
 -- nobody asks by a link in some user's files, and whoever does names no user
 names_well : (front : Front) (head : Head) (wanted : Wanted) (segments : List (List ℕ)) → is_about_shares wanted ≡ false
     → (front ≡ fronts.User → IsSome (spot_at fronts.User segments).user)
     → NamesUser (record { caller = caller_by front head; wanted = wanted }) (spot_at front segments)
 names_well fronts.User head wanted segments other user = here (caller_of head) (no_link (field (codes "Authorization") head))
   where
-    no_link : (value : Option (List ℕ)) → is_by_link (caller_of_value value) ≡ false
-    no_link None = refl
-    no_link (Some value) = there _ (sha256 (drop 7 value))
-      where
-        there : (test : Bool) (digest : List ℕ) → is_by_link (if test then Token digest else Absent) ≡ false
-        there true digest = refl
-        there false digest = refl
-
     here : (caller : Caller) → is_by_link caller ≡ false → NamesUser (record { caller = caller; wanted = wanted }) (spot_at fronts.User segments)
     here caller none = user refl ∙ sym (ap (λ by_link. not by_link && not (is_about_shares wanted)) none ∙ ap not other)
 names_well fronts.Link head wanted [] other user = refl
@@ -493,6 +507,21 @@ may_ask_version caller (version.Restore user node at) = record { bounds = tt; sh
 pub version_may_want : (r : Route) (m : Method) (head : Head) (request : Request) → version_request r m head ≡ Ok request → MayWant request
 version_may_want r m head request is =
     subst MayWant (unrefused_request (version_refusal r m head) _ request is).1 (may_ask_version (caller_of head) (version_asked r m head))
+
+-- what is asked about an upload names the user in the target, by no link, and its chunks aren't too long
+pub upload_may_want : (m : Method) (head : Head) (caller : Caller) (asked : UploadAsk) → length_of head ≤ MAX_BODY → is_by_link caller ≡ false
+    → asked ≡ upload_asked m head → MayWant (record { caller = caller; wanted = wanted.Upload asked })
+upload_may_want m head caller asked short by is =
+    subst (λ (ask : UploadAsk). MayWant (record { caller = caller; wanted = wanted.Upload ask })) (sym is) (here m)
+  where
+    here : (m : Method) → MayWant (record { caller = caller; wanted = wanted.Upload (upload_asked m head) })
+    here method.Get = record { bounds = tt; short = tt; source = tt; target = tt }
+    here method.Put = record { bounds = short; short = tt; source = tt; target = tt }
+    here method.Mkcol = record { bounds = tt; short = tt; source = tt; target = tt }
+    here method.Delete = record { bounds = tt; short = tt; source = tt; target = tt }
+    here method.Move = record { bounds = tt; short = tt; source = tt; target = sym (ap (λ by_link. not by_link && true) by) }
+    here method.Copy = record { bounds = tt; short = tt; source = tt; target = tt }
+    here method.Post = record { bounds = tt; short = tt; source = tt; target = tt }
 
 pub may_ask_so : (r : Route) (m : Method) (head : Head) (body : List ℕ) (caller : Caller) (asked : Wanted)
     → ocs_request_of r m head body ≡ Ok asked → MayWant (record { caller = caller; wanted = asked })

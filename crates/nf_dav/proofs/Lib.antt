@@ -1,3 +1,4 @@
 pub mod Asked
 pub mod Floats
+pub mod Named
 pub mod NotAsked

@@ -1,6 +1,6 @@
 -- The refusals of a request that isn't asked.
 use Rattle.std.proofs.Common.{◌≡◌, ◌==◌, List, ℕ, Bool, true, false, not, if◌then◌else◌, Option, None, Some, Result, Ok, Err, codes, option_map, refl, subst}
-use Rattle.std.specs.Prelude.{IfSome, is_some}
+use Rattle.std.specs.Prelude.{IfSome, is_some, option_and_then}
 use Rattle.std.specs.Option.{option_map_or, option_or}
 use Rattle.nf_base.specs.declared.name.NameFault.{NameFault}
 use Rattle.nf_http.specs.Head.{Head, length_of}
@@ -17,6 +17,7 @@ use Rattle.nf_words.specs.declared.request.Wanted.{Wanted}
 use Rattle.nf_words.specs.declared.route.Route.{Route}
 use Rattle.nf_words.specs.declared.route.Route.TheVariants as route
 use Rattle.nf_ocs.specs.Asked.{is_ocs_route, ocs_request_of}
+use Rattle.nf_ocs.specs.Parameters.{number_in}
 use Rattle.nf_ocs.specs.Read.{and_then}
 use Rattle.nf_ocs.proofs.Asks.{AsksWell, IsFine, fine_request, is_of_ocs}
 use Rattle.nf_dav.specs.Asked as dav
@@ -27,7 +28,6 @@ use Rattle.nf_dav.specs.declared.fronts.Front.{Front}
 abbrev pub is_of_request : Denial → Bool
 is_of_request denial.NotFound = true
 is_of_request (denial.Method r) = true
-is_of_request denial.NotBuilt = true
 is_of_request denial.OcsHeader = true
 is_of_request denial.Body = true
 is_of_request (denial.BadParameter p) = true
@@ -157,13 +157,35 @@ on_versions r m head =
     unless_any (dav.version_refusal r m head) _
     (or_else _ _ (version_parameters m head _ (numbers r (dav.version_node head) (dav.version_moment head))) (names _))
 
+intended : (head : Head) → AreOfRequest (dav.intended_refusal head)
+intended head = unless (is_some (dav.intended_of head)) (denial.BadParameter parameter.Destination) refl
+
+where_told : (value : Option (List ℕ)) (refusal : Option Denial) → AreOfRequest refusal → AreOfRequest (option_and_then (λ (_ : List ℕ). refusal) value)
+where_told None refusal are = tt
+where_told (Some value) refusal are = are
+
+upload_parameters : (m : Method) (head : Head) → AreOfRequest (dav.upload_parameter_refusal m head)
+upload_parameters method.Get head = depth head
+upload_parameters method.Put head = where_told (dav.field (codes "Destination") head) _ (intended head)
+upload_parameters method.Mkcol head = intended head
+upload_parameters method.Delete head = depth head
+upload_parameters method.Move head =
+    or_else _ _ (intended head)
+    (or_else _ _ (depth head) (unread_field parameter.Total (λ value. is_some (number_in value)) (dav.field (codes "OC-Total-Length") head)))
+upload_parameters method.Copy head = depth head
+upload_parameters method.Post head = depth head
+
+on_uploads : (m : Method) (head : Head) → IsOfRequest (dav.upload_request m head)
+on_uploads m head =
+    unless_any (dav.upload_refusal m head) _ (or_else _ _ (body m (length_of head)) (or_else _ _ (upload_parameters m head) (names _)))
+
 by : (r : Route) (m : Option Method) (head : Head) (body : List ℕ)
     → IsOfRequest (option_map_or (λ m. dav.routed r m head body) m (Err (denial.Method r)))
 by r None head body = refl
 by r (Some m) head body =
     checked (not (takes r m)) _ _ refl
     (there (dav.front_on r) (checked (is_ocs_route r) _ _ (on_ocs r m head body) (checked (dav.is_trash_route r) _ _ (on_trash r m head)
-    (checked (dav.is_version_route r) _ _ (on_versions r m head) refl))))
+    (checked (dav.is_version_route r) _ _ (on_versions r m head) (on_uploads m head)))))
   where
     there : (front : Option Front) → IsOfRequest (dav.other_request r m head body)
         → IsOfRequest (option_map_or (λ front. dav.files_request front m head) front (dav.other_request r m head body))

@@ -1,6 +1,7 @@
 -- The request of a message: GET, PUT and DELETE (RFC 9110, section 9.3), MKCOL, COPY and MOVE (RFC 4918, sections 9.3, 9.8 and 9.9) in
--- a user's files and in what a link shares, what is asked about the trash bin and about versions (Nextcloud developer manual, Trashbin and Versions), and what is asked about
--- shares, users and groups (the same, OCS Share API and User provisioning API), by the holder of a token (RFC 6750, section 2.1) or by whoever knows a link.
+-- a user's files and in what a link shares, what is asked about the trash bin, about versions and about uploads in chunks (Nextcloud developer manual, Trashbin, Versions and
+-- Chunked file upload), and what is asked about shares, users and groups (the same, OCS Share API and User provisioning API), by the holder of a token (RFC 6750, section 2.1) or
+-- by whoever knows a link.
 use Rattle.std.specs.Prelude.{◌≡◌, ⊤, ℕ, Bool, true, false, ◌||◌, ◌&&◌, ◌==◌, nat_le, not, if◌then◌else◌, List, [], ◌∷◌, length, take, drop, codes, bytes_eq, Option, None, Some, is_some, Result, Ok, Err, option_map, option_and_then, slice_get, unwrap_or}
 use Rattle.std.specs.List.{list_any}
 use Rattle.std.specs.Option.{option_map_or, option_or}
@@ -12,7 +13,7 @@ use Rattle.nf_http.specs.Fields.{first_value}
 use Rattle.nf_http.specs.Head.{Head, length_of}
 use Rattle.nf_routes.specs.Methods.{method_of, takes}
 use Rattle.nf_routes.specs.Mounts.{route_of}
-use Rattle.nf_routes.specs.Targets.{is_ocs, restores, restores_version, segments_of, trash_segments, version_segments}
+use Rattle.nf_routes.specs.Targets.{is_ocs, restores, restores_version, segments_of, trash_segments, upload_segments, version_segments}
 use Rattle.nf_routes.specs.declared.methods.Method.{Method}
 use Rattle.nf_routes.specs.declared.methods.Method.TheVariants as method
 use Rattle.nf_words.specs.declared.answer.Denial.{Denial}
@@ -36,6 +37,8 @@ use Rattle.nf_dav.specs.declared.requests.Unasked.{Unasked}
 use Rattle.nf_dav.specs.declared.requests.Unasked.TheVariants.{Refused, Memory}
 use Rattle.nf_ocs.specs.Parameters.{number_in}
 use Rattle.nf_words.specs.declared.request.TrashAsk.{TrashAsk}
+use Rattle.nf_words.specs.declared.request.UploadAsk.{UploadAsk}
+use Rattle.nf_words.specs.declared.request.UploadAsk.TheVariants as upload
 use Rattle.nf_words.specs.declared.request.VersionAsk.{VersionAsk}
 use Rattle.nf_words.specs.declared.request.VersionAsk.TheVariants as version
 
@@ -313,15 +316,92 @@ abbrev pub version_request : Route → Method → Head → Result Request Denial
 version_request route m head =
     unless_refused (version_refusal route m head) (record { caller = caller_of head; wanted = wanted.Version (version_asked route m head) })
 
+-- ---- uploads in chunks
+
+-- all of the segments behind the first
+abbrev pub names_of : List (List ℕ) → List (List ℕ)
+names_of [] = []
+names_of (first ∷ names) = names
+
+-- the names of the user, of the upload and of a chunk
+abbrev pub upload_user : Head → List ℕ
+upload_user head = first_of (upload_segments head.target)
+
+abbrev pub upload_dir : Head → List ℕ
+upload_dir head = unwrap_or (slice_get (upload_segments head.target) 1) []
+
+abbrev pub upload_chunk : Head → List ℕ
+upload_chunk head = unwrap_or (slice_get (upload_segments head.target) 2) []
+
+-- the segments of a destination in the files of that user
+abbrev pub intended_of : Head → Option (List (List ℕ))
+intended_of head =
+    option_and_then (λ segments. if bytes_eq (first_of segments) (upload_user head) then Some segments else None) (destination_of fronts.User head)
+
+-- where the method reads one
+abbrev pub told_by : Method → Head → Option (List (List ℕ))
+told_by method.Mkcol head = intended_of head
+told_by method.Put head = intended_of head
+told_by method.Move head = intended_of head
+told_by other head = None
+
+-- the names of its path
+abbrev pub names_behind : Option (List (List ℕ)) → List (List ℕ)
+names_behind told = option_map_or names_of told []
+
+-- the number of bytes that an upload is said to have
+abbrev pub total_of : Head → Option ℕ
+total_of head = option_and_then number_in (field (codes "OC-Total-Length") head)
+
+abbrev pub intended_refusal : Head → Option Denial
+intended_refusal head = if is_some (intended_of head) then None else Some (denial.BadParameter parameter.Destination)
+
+-- of the fields that a method reads there: `destination`, which only a chunk may leave out, `depth`, `total`. No Overwrite is read
+abbrev pub upload_parameter_refusal : Method → Head → Option Denial
+upload_parameter_refusal method.Mkcol head = intended_refusal head
+upload_parameter_refusal method.Put head = option_and_then (λ value. intended_refusal head) (field (codes "Destination") head)
+upload_parameter_refusal method.Move head =
+    option_or (intended_refusal head)
+    (option_or (depth_refusal head) (unread parameter.Total (λ value. is_some (number_in value)) (field (codes "OC-Total-Length") head)))
+upload_parameter_refusal other head = depth_refusal head
+
+-- the first bad name: of those in the target, the chunk's where it is sent, or else of the path in the destination
+abbrev pub chunk_fault : Method → List ℕ → Option NameFault
+chunk_fault method.Put name = name_fault name
+chunk_fault other name = None
+
+abbrev pub upload_fault : Method → Head → Option NameFault
+upload_fault m head =
+    option_or (name_fault (upload_user head))
+    (option_or (name_fault (upload_dir head)) (option_or (chunk_fault m (upload_chunk head)) (path_fault (names_behind (told_by m head)))))
+
+-- `body`, `bad-parameter`, `bad-name`
+abbrev pub upload_refusal : Method → Head → Option Denial
+upload_refusal m head =
+    option_or (body_refusal m (length_of head)) (option_or (upload_parameter_refusal m head) (option_map denial.BadName (upload_fault m head)))
+
+-- what is asked about one, by the methods of its routes
+abbrev pub upload_asked : Method → Head → UploadAsk
+upload_asked method.Mkcol head = upload.New (upload_user head) (upload_dir head) (names_behind (told_by method.Mkcol head))
+upload_asked method.Put head =
+    upload.Chunk (upload_user head) (upload_dir head) (upload_chunk head) (option_map names_of (told_by method.Put head)) (length_of head)
+upload_asked method.Move head =
+    upload.Join (upload_dir head) (record { user = Some (upload_user head); path = names_behind (told_by method.Move head) }) (total_of head)
+upload_asked other head = upload.Drop (upload_user head) (upload_dir head)
+
+abbrev pub upload_request : Method → Head → Result Request Denial
+upload_request m head =
+    unless_refused (upload_refusal m head) (record { caller = caller_of head; wanted = wanted.Upload (upload_asked m head) })
+
 -- ---- all of them
 
--- a request on a route where no files are; those of uploads aren't built yet
+-- a request on a route where no files are
 abbrev pub other_request : Route → Method → Head → List ℕ → Result Request Denial
 other_request route m head body =
     if is_ocs_route route then ocs_request route m head body
     else if is_trash_route route then trash_request route m head
     else if is_version_route route then version_request route m head
-    else Err denial.NotBuilt
+    else upload_request m head
 
 abbrev pub routed : Route → Method → Head → List ℕ → Result Request Denial
 routed route m head body =

@@ -24,6 +24,8 @@ use Rattle.nf_words.specs.declared.answer.Breach.{Breach}
 use Rattle.nf_words.specs.declared.answer.Breach.TheVariants as rule
 use Rattle.nf_words.specs.declared.answer.TargetFault.{TargetFault}
 use Rattle.nf_words.specs.declared.answer.TargetFault.TheVariants as target
+use Rattle.nf_words.specs.declared.answer.UploadFault.{UploadFault}
+use Rattle.nf_words.specs.declared.answer.UploadFault.TheVariants as misfit
 use Rattle.nf_words.specs.declared.route.Route.{Route}
 use Rattle.nf_dav.specs.declared.replies.Manner.{Manner}
 use Rattle.nf_words.specs.declared.listing.ItemLine.{ItemLine}
@@ -37,6 +39,7 @@ abbrev pub status_of : Denial → List ℕ
 status_of denial.BadMessage = codes "400 Bad Request"
 status_of (denial.BadName fault) = codes "400 Bad Request"
 status_of (denial.BadParameter field) = codes "400 Bad Request"
+status_of (denial.Upload fault) = codes "400 Bad Request"
 status_of denial.Token = codes "401 Unauthorized"
 status_of denial.NotYou = codes "403 Forbidden"
 status_of denial.ForbiddenName = codes "403 Forbidden"
@@ -59,7 +62,6 @@ status_of denial.Store = codes "500 Internal Server Error"
 status_of (denial.Damaged damage) = codes "500 Internal Server Error"
 status_of denial.RunFull = codes "500 Internal Server Error"
 status_of denial.Coding = codes "501 Not Implemented"
-status_of denial.NotBuilt = codes "501 Not Implemented"
 status_of denial.Memory = codes "503 Service Unavailable"
 status_of (denial.Limit limit) = codes "507 Insufficient Storage"
 status_of (denial.Quota excess) = codes "507 Insufficient Storage"
@@ -69,6 +71,7 @@ abbrev pub reason_of : Denial → List ℕ
 reason_of denial.BadMessage = codes "bad-message"
 reason_of (denial.BadName fault) = codes "bad-name"
 reason_of (denial.BadParameter field) = codes "bad-parameter"
+reason_of (denial.Upload fault) = codes "upload"
 reason_of denial.Token = codes "token"
 reason_of denial.NotYou = codes "not-you"
 reason_of denial.ForbiddenName = codes "forbidden-name"
@@ -91,7 +94,6 @@ reason_of denial.Store = codes "store"
 reason_of (denial.Damaged damage) = codes "damaged"
 reason_of denial.RunFull = codes "run-full"
 reason_of denial.Coding = codes "coding"
-reason_of denial.NotBuilt = codes "not-built"
 reason_of denial.Memory = codes "memory"
 reason_of (denial.Limit limit) = codes "limit"
 reason_of (denial.Quota excess) = codes "quota"
@@ -135,12 +137,15 @@ limit_word limit.Shares = codes "shares"
 limit_word limit.Mounts = codes "mounts"
 limit_word limit.Versions = codes "versions"
 limit_word limit.Pieces = codes "pieces"
+limit_word limit.Uploads = codes "uploads"
+limit_word limit.Pending = codes "pending"
 
 -- the word of a field
 abbrev pub field_word : Parameter → List ℕ
 field_word parameter.Destination = codes "destination"
 field_word parameter.Overwrite = codes "overwrite"
 field_word parameter.Depth = codes "depth"
+field_word parameter.Total = codes "total"
 field_word parameter.Id = codes "id"
 field_word parameter.At = codes "at"
 field_word parameter.Path = codes "path"
@@ -195,6 +200,22 @@ name_object fault = object (member (codes "fault") (string fault) (member (codes
 abbrev pub field_object : List ℕ → Data
 field_object field = object (member (codes "field") (string field) (member (codes "reason") (string (codes "bad-parameter")) no_members))
 
+-- what doesn't fit an upload: what it is, and of a total that which was told and that of the chunks
+abbrev pub misfit_object : List ℕ → Data
+misfit_object fault = object (member (codes "fault") (string fault) (member (codes "reason") (string (codes "upload")) no_members))
+
+abbrev pub total_object : ℕ → ℕ → Data
+total_object declared sum =
+    object
+    (member (codes "declared") (number (unsigned declared))
+    (member (codes "fault") (string (codes "total"))
+    (member (codes "reason") (string (codes "upload")) (member (codes "sum") (number (unsigned sum)) no_members))))
+
+abbrev pub upload_object : UploadFault → Data
+upload_object misfit.Number = misfit_object (codes "number")
+upload_object misfit.Destination = misfit_object (codes "destination")
+upload_object (misfit.Total declared sum) = total_object declared sum
+
 abbrev pub target_object : List ℕ → Data
 target_object cause = object (member (codes "cause") (string cause) (member (codes "reason") (string (codes "bad-target")) no_members))
 
@@ -237,6 +258,7 @@ reason_object reason = object (member (codes "reason") (string reason) no_member
 abbrev pub refusal_object : Denial → Data
 refusal_object (denial.BadName f) = name_object (fault_word f)
 refusal_object (denial.BadParameter field) = field_object (field_word field)
+refusal_object (denial.Upload fault) = upload_object fault
 refusal_object (denial.BadTarget cause) = target_object (cause_word cause)
 refusal_object (denial.BrokenLink share cause) = link_object share (link_word cause)
 refusal_object (denial.Rule rule) = rule_object (rule_word rule)
@@ -251,6 +273,7 @@ abbrev pub code_of : Denial → ℕ
 code_of denial.BadMessage = 400
 code_of (denial.BadName fault) = 400
 code_of (denial.BadParameter field) = 400
+code_of (denial.Upload fault) = 400
 code_of denial.Token = 401
 code_of denial.NotYou = 403
 code_of denial.ForbiddenName = 403
@@ -273,7 +296,6 @@ code_of denial.Store = 500
 code_of (denial.Damaged damage) = 500
 code_of denial.RunFull = 500
 code_of denial.Coding = 501
-code_of denial.NotBuilt = 501
 code_of denial.Memory = 503
 code_of (denial.Limit limit) = 507
 code_of (denial.Quota excess) = 507

@@ -62,8 +62,8 @@ pub(crate) fn unread(parameter: Parameter) -> Unasked
     Unasked::Refused(Denial::BadParameter(parameter))
 }
 
-// The segments of a destination that can be read.
-fn destination(
+/// The segments of a destination that can be read.
+pub(crate) fn destination(
     routes: &Routes,
     alloc: Global,
     front: Front,

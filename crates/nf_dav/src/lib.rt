@@ -9,6 +9,7 @@ mod replies;
 mod requests;
 mod spots;
 mod trash;
+mod upload_requests;
 mod version_requests;
 mod words;
 

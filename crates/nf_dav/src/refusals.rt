@@ -3,13 +3,13 @@
 ghost use Rattle.std.specs.Prelude.{◌≡◌, IfOk};
 ghost use Rattle.std.specs.String.{string_bytes};
 ghost use Rattle.serde_json.specs.View.{view};
-ghost use Rattle.nf_dav.specs.Reply.{envelope as envelope_of, locked_object, meta_object, quota_object, refusal_body, refusal_object};
+ghost use Rattle.nf_dav.specs.Reply.{envelope as envelope_of, locked_object, meta_object, misfit_object, quota_object, refusal_body, refusal_object, upload_object};
 
 use crate::words::{
     cause_word, code, fault_word, field_word, limit_word, link_word, reason, rule_word,
 };
 use nf_json::{Said, object_of, text_of};
-use nf_words::{Denial, Excess, LockKey};
+use nf_words::{Denial, Excess, LockKey, UploadFault};
 use serde_json::{Map, Value, put};
 use std::alloc::{AllocError, Global};
 
@@ -68,6 +68,7 @@ fn refusal_value(alloc: Global, denial: &Denial) -> Result<Value, AllocError>
             let field = Said::Text(field_word(*field));
             object_of(alloc, &[("field", field), reason])
         }
+        Denial::Upload(fault) => upload_value(alloc, *fault),
         Denial::BadTarget(cause) => {
             let cause = Said::Text(cause_word(*cause));
             object_of(alloc, &[("cause", cause), reason])
@@ -94,6 +95,37 @@ fn refusal_value(alloc: Global, denial: &Denial) -> Result<Value, AllocError>
         Denial::Quota(excess) => quota_value(alloc, excess),
         _ => object_of(alloc, &[reason]),
     }
+}
+
+/// What doesn't fit an upload.
+fn upload_value(alloc: Global, fault: UploadFault) -> Result<Value, AllocError>
+    ensures { IfOk result (λ value. view value ≡ upload_object fault) }
+{
+    match fault {
+        UploadFault::Number => misfit_value(alloc, "number"),
+        UploadFault::Destination => misfit_value(alloc, "destination"),
+        UploadFault::Total { declared, sum } => object_of(
+            alloc,
+            &[
+                ("declared", Said::Number(declared)),
+                ("fault", Said::Text("total")),
+                ("reason", Said::Text("upload")),
+                ("sum", Said::Number(sum)),
+            ],
+        ),
+    }
+}
+
+fn misfit_value(alloc: Global, fault: &str) -> Result<Value, AllocError>
+    ensures { IfOk result (λ value. view value ≡ misfit_object fault.now) }
+{
+    object_of(
+        alloc,
+        &[
+            ("fault", Said::Text(fault)),
+            ("reason", Said::Text("upload")),
+        ],
+    )
 }
 
 /// What would pass a quota.

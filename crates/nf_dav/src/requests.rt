@@ -14,6 +14,7 @@ use crate::fields::{overwrites, second_segments};
 use crate::fronts::{Front, first, front_on};
 use crate::spots::{name, spot};
 use crate::trash::{is_trash_route, trash_request};
+use crate::upload_requests::upload_request;
 use crate::version_requests::{is_version_route, version_request};
 use nf_base::{Digest, MAX_OCS_BODY};
 use nf_http::Message;
@@ -53,9 +54,9 @@ pub fn wants_body(message: &Message) -> usize
     }
 }
 
-/// The request of a message; or why it has none, the first that holds: there is no such route, the route doesn't have the method or isn't
-/// built, an OCS request doesn't say that it is one, the body isn't taken, a field or a parameter can't be read, a name is bad. Of a body that
-/// is longer than `wants_body` no byte is handed over.
+/// The request of a message; or why it has none, the first that holds: there is no such route, the route doesn't have the method, an OCS
+/// request doesn't say that it is one, the body isn't taken, a field or a parameter can't be read, a name is bad. Of a body that is longer
+/// than `wants_body` no byte is handed over.
 #[tactic(auto, unfolding(crate::specs::Asked::request_of))]
 pub fn request(
     routes: &Routes,
@@ -81,7 +82,7 @@ pub fn request(
     }
     match front_on(route) {
         Some(front) => files_request(routes, alloc, front, method, message),
-        None => other_request(alloc, route, method, message, body),
+        None => other_request(routes, alloc, route, method, message, body),
     }
 }
 
@@ -117,8 +118,9 @@ fn files_request(
     })
 }
 
-// A request on a route where no files are. Those of uploads aren't built yet.
+// A request on a route where no files are.
 fn other_request(
+    routes: &Routes,
     alloc: Global,
     route: Route,
     method: Method,
@@ -135,7 +137,7 @@ fn other_request(
     } else if is_version_route(route) {
         version_request(alloc, route, method, message)
     } else {
-        Err(Unasked::Refused(Denial::NotBuilt))
+        upload_request(routes, alloc, method, message)
     }
 }
 
@@ -160,8 +162,8 @@ fn ocs_request(
     }
 }
 
-// Whether the method is refused for its body.
-fn takes_no_body(method: Method, length: usize) -> bool
+/// Whether the method is refused for its body.
+pub(crate) fn takes_no_body(method: Method, length: usize) -> bool
     ensures { body_refusal method length ≡ (if result then Some Body else None) }
 {
     method == Method::Mkcol && length > 0

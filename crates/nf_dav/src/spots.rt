@@ -48,7 +48,8 @@ pub fn name(alloc: Global, bytes: &[u8]) -> Result<Name, Unasked>
     }
 }
 
-fn path(alloc: Global, names: &[Vec<u8>]) -> Result<Path, Unasked>
+/// A path that is.
+pub fn path(alloc: Global, names: &[Vec<u8>]) -> Result<Path, Unasked>
     ensures { GivesNamed (path_fault (map (λ segment. segment.items) names.now)) (map (λ segment. segment.items) names.now) result }
 {
     match Path::read(alloc, names) {

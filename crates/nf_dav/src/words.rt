@@ -12,7 +12,8 @@ pub fn status(denial: &Denial) -> &'static str
     ensures { result.now ≡ status_of denial.now }
 {
     match denial {
-        Denial::BadMessage | Denial::BadName(_) | Denial::BadParameter(_) => "400 Bad Request",
+        Denial::BadMessage | Denial::BadName(_) | Denial::BadParameter(_) | Denial::Upload(_) =>
+            "400 Bad Request",
         Denial::Token => "401 Unauthorized",
         Denial::NotYou
         | Denial::ForbiddenName
@@ -29,7 +30,7 @@ pub fn status(denial: &Denial) -> &'static str
         Denial::Locked(_) => "423 Locked",
         Denial::Head => "431 Request Header Fields Too Large",
         Denial::Store | Denial::Damaged(_) | Denial::RunFull => "500 Internal Server Error",
-        Denial::Coding | Denial::NotBuilt => "501 Not Implemented",
+        Denial::Coding => "501 Not Implemented",
         Denial::Memory => "503 Service Unavailable",
         Denial::Limit(_) | Denial::Quota(_) => "507 Insufficient Storage",
     }
@@ -40,7 +41,8 @@ pub fn code(denial: &Denial) -> u16
     ensures { result ≡ code_of denial.now }
 {
     match denial {
-        Denial::BadMessage | Denial::BadName(_) | Denial::BadParameter(_) => 400,
+        Denial::BadMessage | Denial::BadName(_) | Denial::BadParameter(_) | Denial::Upload(_) =>
+            400,
         Denial::Token => 401,
         Denial::NotYou
         | Denial::ForbiddenName
@@ -57,7 +59,7 @@ pub fn code(denial: &Denial) -> u16
         Denial::Locked(_) => 423,
         Denial::Head => 431,
         Denial::Store | Denial::Damaged(_) | Denial::RunFull => 500,
-        Denial::Coding | Denial::NotBuilt => 501,
+        Denial::Coding => 501,
         Denial::Memory => 503,
         Denial::Limit(_) | Denial::Quota(_) => 507,
     }
@@ -71,6 +73,7 @@ pub fn reason(denial: &Denial) -> &'static str
         Denial::BadMessage => "bad-message",
         Denial::BadName(_) => "bad-name",
         Denial::BadParameter(_) => "bad-parameter",
+        Denial::Upload(_) => "upload",
         Denial::Token => "token",
         Denial::NotYou => "not-you",
         Denial::ForbiddenName => "forbidden-name",
@@ -93,7 +96,6 @@ pub fn reason(denial: &Denial) -> &'static str
         Denial::Damaged(_) => "damaged",
         Denial::RunFull => "run-full",
         Denial::Coding => "coding",
-        Denial::NotBuilt => "not-built",
         Denial::Memory => "memory",
         Denial::Limit(_) => "limit",
         Denial::Quota(_) => "quota",
@@ -138,6 +140,7 @@ pub fn field_word(field: Parameter) -> &'static str
         Parameter::Destination => "destination",
         Parameter::Overwrite => "overwrite",
         Parameter::Depth => "depth",
+        Parameter::Total => "total",
         Parameter::Id => "id",
         Parameter::At => "at",
         Parameter::Path => "path",
@@ -198,5 +201,7 @@ pub fn limit_word(limit: Limit) -> &'static str
         Limit::Mounts => "mounts",
         Limit::Versions => "versions",
         Limit::Pieces => "pieces",
+        Limit::Uploads => "uploads",
+        Limit::Pending => "pending",
     }
 }

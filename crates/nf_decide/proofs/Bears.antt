@@ -2,7 +2,7 @@
 use Rattle.std.proofs.Common.{inl, inr, ◌⊎◌, cond, count_by, max, nat_lt, ◌∷◌, length-append, ℕ, ◌+◌, ◌<◌, ◌≤◌, ◌==◌, ◌≡◌, true, false, not, List, [], ◌++◌, length, is_some, sum_by, Option, None, Some, IfSome, refl, sym, ap, ◌∙◌, subst, arith}
 use Rattle.std.specs.List.{All}
 use Rattle.std.specs.Option.{option_map_or}
-use Rattle.std.proofs.lemmas.List.Elements.{All-cons, All-nil, All-weaker}
+use Rattle.std.proofs.lemmas.List.Elements.{All-append, All-cons, All-head, All-nil, All-weaker}
 use Rattle.std.proofs.lemmas.List.Quantifiers.{all_pairs_push}
 use Rattle.nf_base.specs.declared.changes.Change.{Change}
 use Rattle.nf_base.specs.declared.changes.Change.TheVariants.{Drop, Put}
@@ -10,14 +10,17 @@ use Rattle.nf_base.specs.declared.changes.RowKey.TheVariants as keys
 use Rattle.nf_base.specs.declared.rows.MetaRow.{MetaRow}
 use Rattle.nf_base.specs.declared.rows.Row.TheVariants as rows
 use Rattle.nf_laws.proofs.Copied.{walk_first}
+use Rattle.nf_laws.proofs.Each.{abandons_each, crossing_each, forgets_each, leaving_each, purges_each, put_each}
 use Rattle.nf_laws.proofs.InTurn.{deed_moment, Fit, fit_sound, InTurn, Joins}
 use Rattle.nf_laws.proofs.Lists.{counted_higher, Rising, rising_row}
 use Rattle.nf_laws.proofs.Mirrored.{mirrored}
 use Rattle.nf_laws.proofs.OneRow.{length_with}
 use Rattle.nf_laws.proofs.Others.{stamp_sound}
+use Rattle.nf_laws.proofs.Plain.{IsPlain, IsPlainAct}
 use Rattle.nf_laws.proofs.Parts.{deed_stamped, rest_of, step_turn}
 use Rattle.nf_laws.proofs.Puts.{put_changed, put_new}
 use Rattle.nf_laws.proofs.Rows.{stamp}
+use Rattle.nf_laws.specs.Numbers.{AreHigher}
 use Rattle.std.proofs.lemmas.Bool.{cond_both, eqb-true, le-ltb, lt-ltb}
 use Rattle.std.proofs.lemmas.List.Sums.{sum_by-append, sum_by-cons}
 use Rattle.std.proofs.lemmas.Option.{same_Some}
@@ -27,10 +30,11 @@ use Rattle.nf_charge.specs.Sums.{LeadUp}
 use Rattle.nf_base.specs.declared.rows.ItemRow.{ItemRow}
 use Rattle.nf_base.specs.declared.rows.NodeRow.{NodeRow}
 use Rattle.nf_base.specs.declared.rows.ShareRow.{ShareRow}
+use Rattle.nf_base.specs.declared.rows.UploadRow.{UploadRow}
 use Rattle.nf_base.specs.declared.rows.UserRow.{UserRow}
 use Rattle.nf_defs.proofs.Puts.{all_put}
 use Rattle.nf_defs.specs.Prelude.{filled, made, node_key, node_row, put, Tables, user_key}
-use Rattle.nf_words.specs.Prelude.{AreSound, beside, besides, copies_to, deed_done, discard, discards, forgets, goes_itself, IsNewShare, IsNewUser, IsOtherShare, item_for, last_number, last_short, purges, raised, row_at}
+use Rattle.nf_words.specs.Prelude.{abandons, AreSound, beside, besides, copies_to, deed_done, discard, discards, forgets, goes_itself, IsNewShare, IsNewUser, IsOtherShare, item_for, last_number, last_short, purges, raised, row_at}
 use Rattle.nf_words.specs.declared.answer.Allowed.{Allowed}
 use Rattle.nf_words.specs.declared.answer.Allowed.TheVariants as allowed
 use Rattle.nf_words.specs.declared.answer.Deed.{Deed}
@@ -40,9 +44,9 @@ use Rattle.nf_retention.specs.declared.versions.Version.{Version}
 use Rattle.nf_words.proofs.Fits.{KnownChange, KnownRow, KnownRows, no_more, one_more, user_more, with_user}
 use Rattle.nf_words.proofs.Found.{found_has, found_passes}
 use Rattle.nf_words.proofs.Known.{Known, KnownCopies, KnownDeeds, KnownSettled}
-use Rattle.nf_words.proofs.Known.KnownDeeds.{by_copying, by_crossing, by_going, by_leaving, by_moving, by_requoting, by_restoring}
-use Rattle.nf_decide.specs.Current.{AreBorne, AreGiven, BearsAct, BearsChanges, BearsCopies, BearsDeed, BearsDeeds, BearsStep, IsBorne, IsCounted, IsNew, IsRequoted, added_by, is_fresh, rows_joined}
-use Rattle.nf_decide.proofs.Putting.{count_by-cons, counts_none, counts_one}
+use Rattle.nf_words.proofs.Known.KnownDeeds.{by_abandoning, by_copying, by_crossing, by_going, by_joining, by_leaving, by_moving, by_requoting, by_restoring, by_sweeping}
+use Rattle.nf_decide.specs.Current.{added_by, added_deeds, AreBorne, AreGiven, BearsAct, BearsChanges, BearsCopies, BearsDeed, BearsDeeds, BearsStep, BearsStore, IsBorne, IsCounted, is_fresh, IsNew, IsRequoted, nodes_joined, OnlyDrops, rows_joined, StoresFirst, StoresNone}
+use Rattle.nf_decide.proofs.Putting.{count_by-cons, counted_later, counts_none, counts_one}
 use Rattle.nf_decide.proofs.Leading.{copies_lead, leads_born, leads_rooted, leads_row, sound_leads}
 use Rattle.nf_decide.proofs.Tells.{tells_step}
 use Rattle.nf_decide.proofs.ToldGone.{item_shares}
@@ -73,6 +77,8 @@ row_borne t u blob meta (Put (rows.Node row)) leads known =
 row_borne t u blob meta (Put (rows.Share row)) leads known = share_stays t u row known.1
 row_borne t u blob meta (Put (rows.Mount row)) leads known = tt
 row_borne t u blob meta (Put (rows.Version row)) leads known = tt
+row_borne t u blob meta (Put (rows.Upload row)) leads known = tt
+row_borne t u blob meta (Put (rows.Chunk row)) leads known = tt
 row_borne t u blob meta (Drop (keys.Version node at)) leads known = tt
 row_borne t u blob meta (Put (rows.User row)) leads known =
     let it = known.1 in inr (record { was = it.old; there = it.there; same = it.same })
@@ -92,6 +98,8 @@ meta_last t u blob meta (Put (rows.Node row)) known = refl
 meta_last t u blob meta (Put (rows.Share row)) known = refl
 meta_last t u blob meta (Put (rows.Mount row)) known = refl
 meta_last t u blob meta (Put (rows.Version row)) known = refl
+meta_last t u blob meta (Put (rows.Upload row)) known = refl
+meta_last t u blob meta (Put (rows.Chunk row)) known = refl
 meta_last t u blob meta (Drop (keys.Version node at)) known = refl
 meta_last t u blob meta (Put (rows.User row)) known = refl
 meta_last t u blob meta (Put (rows.Token row)) known = refl
@@ -147,6 +155,8 @@ row_counted t u blob (Put (rows.Share row)) few given known =
     elim known.1 [ inl it ↦ omega (arith, it.0.given, few.shares) | inr it ↦ omega (arith, it.1) ]
 row_counted t u blob (Put (rows.Mount row)) few given known = tt
 row_counted t u blob (Put (rows.Version row)) few given known = tt
+row_counted t u blob (Put (rows.Upload row)) few given known = tt
+row_counted t u blob (Put (rows.Chunk row)) few given known = tt
 row_counted t u blob (Drop (keys.Version node at)) few given known = tt
 row_counted t u blob (Put (rows.User row)) few given known =
     let it = known.1 in
@@ -168,6 +178,8 @@ row_given t u blob (Put (rows.Node row)) given known = (refl, given)
 row_given t u blob (Put (rows.Share row)) given known = (refl, given)
 row_given t u blob (Put (rows.Mount row)) given known = (refl, given)
 row_given t u blob (Put (rows.Version row)) given known = (refl, given)
+row_given t u blob (Put (rows.Upload row)) given known = (refl, given)
+row_given t u blob (Put (rows.Chunk row)) given known = (refl, given)
 row_given t u blob (Drop (keys.Version node at)) given known = (refl, given)
 row_given t u blob (Put (rows.User row)) given known =
     let it = known.1 in
@@ -249,6 +261,8 @@ row_few t u blob (Put (rows.Node row)) rising few known =
 row_few t u blob (Put (rows.Share row)) rising few known = none_added t.meta.next_node u.nodes (Put (rows.Share row)) refl few
 row_few t u blob (Put (rows.Mount row)) rising few known = none_added t.meta.next_node u.nodes (Put (rows.Mount row)) refl few
 row_few t u blob (Put (rows.Version row)) rising few known = none_added t.meta.next_node u.nodes (Put (rows.Version row)) refl few
+row_few t u blob (Put (rows.Upload row)) rising few known = none_added t.meta.next_node u.nodes (Put (rows.Upload row)) refl few
+row_few t u blob (Put (rows.Chunk row)) rising few known = none_added t.meta.next_node u.nodes (Put (rows.Chunk row)) refl few
 row_few t u blob (Drop (keys.Version node at)) rising few known =
     none_added t.meta.next_node u.nodes (Drop (keys.Version node at)) refl few
 row_few t u blob (Put (rows.User row)) rising few known = none_added t.meta.next_node u.nodes (Put (rows.User row)) refl few
@@ -314,6 +328,8 @@ deed_bears t now (deed.Relink node folder name) sound at (row, fits) =
 deed_bears t now (deed.Join copies) sound at joins = copies_bear t now copies sound joins
 deed_bears t now (deed.Requote row) sound at known = record { was = known.old; there = known.there; same = known.same }
 deed_bears t now (deed.Forget node moment) sound at known = tt
+deed_bears t now (deed.Store changes) sound at known = record { stored = changes_bear t now changes None sound known; given = sound_given t sound }
+deed_bears t now (deed.Abandon user dir) sound at known = tt
 
 deeds_bear : (t : Tables) (now : ℕ) (deeds : List Deed) → AreSound t → t.meta.last ≡ now → InTurn t now deeds → BearsDeeds t deeds
 deeds_bear t now [] sound at turn = tt
@@ -321,6 +337,46 @@ deeds_bear t now (one ∷ deeds) sound at turn = (
   deed_bears t now one sound at turn.0,
   deeds_bear (deed_done t one) now deeds (fit_sound t now one sound at turn.0) (deed_moment t one ∙ at) turn.1,
 )
+
+-- what can be borne is so whatever the meta row has
+row_met : (next : ℕ) (t : Tables) (meta : MetaRow) (change : Change) → IsBorne next t change
+    → IsBorne next (record t { meta = meta }) change × (made (record t { meta = meta }) change ≡ record (made t change) { meta = meta })
+row_met next t meta (Put (rows.User row)) borne = (borne, refl)
+row_met next t meta (Put (rows.Token row)) borne = (record { fresh = borne.fresh; user = borne.user; few = borne.few }, refl)
+row_met next t meta (Put (rows.Group row)) borne = (borne, refl)
+row_met next t meta (Put (rows.Member row)) borne =
+    (record { fresh = borne.fresh; group = borne.group; user = borne.user; few = borne.few }, refl)
+row_met next t meta (Put (rows.Node row)) borne = (borne, refl)
+row_met next t meta (Put (rows.Share row)) borne = (borne, refl)
+row_met next t meta (Put (rows.Mount row)) borne = (tt, refl)
+row_met next t meta (Put (rows.Version row)) borne = (tt, refl)
+row_met next t meta (Put (rows.Item row)) borne = (tt, refl)
+row_met next t meta (Put (rows.Upload row)) borne = (tt, refl)
+row_met next t meta (Put (rows.Chunk row)) borne = (tt, refl)
+row_met next t meta (Drop (keys.Member group user)) borne = (tt, refl)
+row_met next t meta (Drop (keys.Version node at)) borne = (tt, refl)
+row_met next t meta (Drop (keys.Item node)) borne = (tt, refl)
+row_met next t meta change borne = absurd borne
+
+rows_met : (next : ℕ) (t : Tables) (meta : MetaRow) (changes : List Change) → AreBorne next t changes → AreBorne next (record t { meta = meta }) changes
+rows_met next t meta [] borne = tt
+rows_met next t meta (change ∷ changes) borne =
+    let met = row_met next t meta change borne.0 in
+    (met.0, subst (λ (after : Tables). AreBorne next after changes) (sym met.1) (rows_met next (made t change) meta changes borne.1))
+
+store_unstamped : (t : Tables) (now : ℕ) (changes : List Change) → BearsStore (stamp t now) changes → BearsStore t changes
+store_unstamped t now changes bears =
+    let was = (stamp t now).meta in
+    let same : AreHigher was t.meta =
+    record { users = omega arith; groups = omega arith; nodes = omega arith; shares = omega arith; blobs = omega arith } in
+    record {
+      stored = record {
+        rows = rows_met t.meta.next_node (stamp t now) t.meta changes bears.stored.rows;
+        numbers = All-weaker (IsCounted was) (IsCounted t.meta) (λ change counts. counted_later was t.meta change same counts) changes bears.stored.numbers;
+        next_blob = bears.stored.next_blob;
+      };
+      given = record { rising = bears.given.rising; given = bears.given.given };
+    }
 
 -- whatever moment is stamped
 deed_unstamped : (t : Tables) (now : ℕ) (one : Deed) → BearsDeed (stamp t now) one → BearsDeed t one
@@ -336,6 +392,8 @@ deed_unstamped t now (deed.Join copies) bears = record {
 }
 deed_unstamped t now (deed.Requote row) bears = bears
 deed_unstamped t now (deed.Forget node at) bears = bears
+deed_unstamped t now (deed.Store changes) bears = store_unstamped t now changes bears
+deed_unstamped t now (deed.Abandon user dir) bears = bears
 
 deeds_unstamped : (t : Tables) (now : ℕ) (deeds : List Deed) → BearsDeeds (stamp t now) deeds → BearsDeeds t deeds
 deeds_unstamped t now [] bears = tt
@@ -344,19 +402,72 @@ deeds_unstamped t now (one ∷ deeds) bears = (
   deeds_unstamped (deed_done t one) now deeds (subst (λ (u : Tables). BearsDeeds u deeds) (deed_stamped t now one) bears.1),
 )
 
-step_bears : (t : Tables) (now : ℕ) (deeds : List Deed) → AreSound t → t.meta.last ≤ now → KnownSettled t now deeds → BearsStep t deeds
-step_bears t now deeds sound later known = record {
+-- ---- what is stored, if anything is, is stored first
+
+none_first : (deeds : List Deed) → All StoresNone deeds → StoresFirst deeds
+none_first [] none = none
+none_first (deed.Store changes ∷ deeds) none = absurd (All-head StoresNone (deed.Store changes) deeds none)
+none_first (one ∷ deeds) none = none
+
+-- the deeds of a step store nothing, or it is an upload that becomes the content of a file
+record Joined (t : Tables) (now : ℕ) (deeds : List Deed) : Type 0 where
+  changes : List Change
+  user : ℕ
+  dir : List ℕ
+  are : deeds ≡ deed.Store changes ∷ deed.Abandon user dir ∷ []
+  known : KnownChange t now changes None
+
+stores : (t : Tables) (now : ℕ) (deeds : List Deed) → KnownDeeds t now deeds → All StoresNone deeds ⊎ Joined t now deeds
+stores t now _ (by_going nodes goes) = inl (purges_each t now StoresNone (λ node. tt) (λ item. tt) nodes)
+stores t now _ (by_leaving row known) = inl (leaving_each t now StoresNone (λ node. tt) (λ item. tt) row)
+stores t now _ (by_restoring node folder name gone known goes others) =
+    inl (All-cons StoresNone (deed.Restore node folder name) (purges gone) tt (purges_each t now StoresNone (λ node. tt) (λ item. tt) gone))
+stores t now _ (by_requoting row gone known goes) =
+    inl (All-cons StoresNone (deed.Requote row) (purges gone) tt (purges_each t now StoresNone (λ node. tt) (λ item. tt) gone))
+stores t now _ (by_moving transfer name known) =
+    inl (put_each t now StoresNone (λ node. tt) (λ item. tt) transfer.replaced (deed.Relink transfer.node transfer.folder name) tt)
+stores t now _ (by_copying transfer name known) =
+    inl (put_each t now StoresNone (λ node. tt) (λ item. tt) transfer.replaced (deed.Join (copies_to t now transfer name)) tt)
+stores t now _ (by_crossing transfer name known) = inl (crossing_each t now StoresNone (λ node. tt) (λ item. tt) transfer name tt)
+stores t now _ (by_joining changes user dir known there) =
+    inr (record { changes = changes; user = user; dir = dir; are = refl; known = known })
+stores t now _ (by_abandoning user dir there) = inl (All-cons StoresNone (deed.Abandon user dir) [] tt (All-nil StoresNone))
+stores t now _ (by_sweeping nodes rows goes idle) =
+    inl (All-append StoresNone (purges nodes) (abandons rows) (purges_each t now StoresNone (λ node. tt) (λ item. tt) nodes)
+    (abandons_each StoresNone (λ user dir. tt) rows))
+
+-- and so with the versions that go behind them
+settled_first : (t : Tables) (now : ℕ) (deeds : List Deed) → KnownSettled t now deeds → StoresFirst deeds
+settled_first t now deeds known =
+    let gone = forgets known.gone in
+    subst StoresFirst (sym known.are)
+    (elim (stores t now known.first known.known) [
+      | inl none ↦ none_first (known.first ++ gone) (All-append StoresNone known.first gone none (forgets_each StoresNone (λ node at. tt) known.gone))
+      | inr joined ↦
+          subst (λ (first : List Deed). StoresFirst (first ++ gone)) (sym joined.are) (
+            (λ none. absurd (cc)),
+            All-cons OnlyDrops (deed.Abandon joined.user joined.dir) gone tt (forgets_each OnlyDrops (λ node at. tt) known.gone),
+          )
+    ])
+
+-- ---- an act
+
+step_bears : (t : Tables) (now : ℕ) (deeds : List Deed) → AreSound t → t.meta.last ≤ now → KnownSettled t now deeds → All IsPlain deeds → BearsStep t deeds
+step_bears t now deeds sound later known plain = record {
   borne = deeds_unstamped t now deeds (deeds_bear (stamp t now) now deeds (stamp_sound t now sound later) refl (step_turn t now deeds sound later known));
-  tells = tells_step t now deeds sound later known;
+  order = settled_first t now deeds known;
+  tells = tells_step t now deeds sound later known plain;
 }
 
-pub known_bears : (t : Tables) (now : ℕ) (act : Allowed) → AreSound t → t.meta.last ≤ now → Known t now act → BearsAct t act
-known_bears t now (allowed.Get node content) sound later known = tt
-known_bears t now (allowed.List listing) sound later known = tt
-known_bears t now (allowed.Put by key length) sound later known = tt
-known_bears t now (allowed.Change changes blob report) sound later known = changes_bear t now changes blob sound known
-known_bears t now (allowed.Deeds deeds report) sound later known = step_bears t now deeds sound later known
-known_bears t now allowed.Close sound later known = tt
+-- what is decided stores nothing but files and versions by a deed
+pub known_bears : (t : Tables) (now : ℕ) (act : Allowed) → AreSound t → t.meta.last ≤ now → Known t now act → IsPlainAct act → BearsAct t act
+known_bears t now (allowed.Get node content) sound later known plain = tt
+known_bears t now (allowed.List listing) sound later known plain = tt
+known_bears t now (allowed.Put by key length) sound later known plain = tt
+known_bears t now (allowed.Chunk user dir number length) sound later known plain = tt
+known_bears t now (allowed.Change changes blob report) sound later known plain = changes_bear t now changes blob sound known
+known_bears t now (allowed.Deeds deeds report) sound later known plain = step_bears t now deeds sound later known plain
+known_bears t now allowed.Close sound later known plain = tt
 
 -- ---- how many nodes deeds make
 
@@ -396,6 +507,11 @@ many_copies : (t : Tables) (now : ℕ) (transfer : Transfer) (name : List ℕ) �
     → length t.nodes + length (copies_to t now transfer name) ≤ MAX_NODES
 many_copies t now transfer name sound known = omega (arith, (mirrored t now transfer name sound known.known.source).all, known.nodes)
 
+-- uploads that go make none
+abandons_none : (rows : List UploadRow) → sum_by rows_joined (abandons rows) ≡ 0
+abandons_none [] = refl
+abandons_none (row ∷ rows) = omega (arith, sum_by-cons rows_joined (deed.Abandon row.user row.dir) (abandons rows), abandons_none rows)
+
 step_few : (t : Tables) (now : ℕ) (deeds : List Deed) → AreSound t → KnownDeeds t now deeds → length t.nodes + sum_by rows_joined deeds ≤ MAX_NODES
 step_few t now deeds sound (by_going nodes goes) = omega (arith, sound.few_nodes, purges_none nodes)
 step_few t now deeds sound (by_leaving row known) =
@@ -434,6 +550,16 @@ step_few t now deeds sound (by_crossing transfer name known) =
       besides_none t now transfer.replaced,
       besides_none t now from,
     )
+step_few t now deeds sound (by_joining changes user dir known there) =
+    omega (
+      arith,
+      sound.few_nodes,
+      sum_by-cons rows_joined (deed.Store changes) (deed.Abandon user dir ∷ []),
+      sum_by-cons rows_joined (deed.Abandon user dir) [],
+    )
+step_few t now deeds sound (by_abandoning user dir there) = omega (arith, sound.few_nodes, sum_by-cons rows_joined (deed.Abandon user dir) [])
+step_few t now deeds sound (by_sweeping nodes rows goes idle) =
+    omega (arith, sound.few_nodes, sum_by-append rows_joined (purges nodes) (abandons rows), purges_none nodes, abandons_none rows)
 
 -- versions that go make none
 forgets_none : (gone : List Version) → sum_by rows_joined (forgets gone) ≡ 0
@@ -451,12 +577,34 @@ settled_few t now deeds sound known =
       forgets_none known.gone,
     )
 
+-- those that deeds add where nothing is stored
+none_adds : (next : ℕ) (deeds : List Deed) → All StoresNone deeds → (added_deeds next deeds).nodes ≡ nodes_joined deeds
+none_adds next [] none = refl
+none_adds next (deed.Store changes ∷ deeds) none = absurd (All-head StoresNone (deed.Store changes) deeds none)
+none_adds next (one ∷ deeds) none = refl
+
+deeds_few : (t : Tables) (now : ℕ) (deeds : List Deed) → AreSound t → KnownSettled t now deeds
+    → length t.nodes + (added_deeds t.meta.next_node deeds).nodes ≤ MAX_NODES
+deeds_few t now deeds sound known =
+    let next = t.meta.next_node in
+    let gone = forgets known.gone in
+    elim (stores t now known.first known.known) [
+      | inl none ↦
+          (let all = All-append StoresNone known.first gone none (forgets_each StoresNone (λ node at. tt) known.gone) in
+          omega (arith, settled_few t now deeds sound known, none_adds next deeds (subst (All StoresNone) (sym known.are) all)))
+      | inr joined ↦
+          subst (λ (all : List Deed). length t.nodes + (added_deeds next all).nodes ≤ MAX_NODES)
+          (sym (known.are ∙ ap (λ (first : List Deed). first ++ gone) joined.are))
+          (rows_few t None (raised t now joined.changes None) joined.changes sound.rising sound.few_nodes joined.known.rows)
+    ]
+
 -- so there may be the nodes that an act adds
 pub known_few : (t : Tables) (now : ℕ) (act : Allowed) → AreSound t → Known t now act → length t.nodes + (added_by t act).nodes ≤ MAX_NODES
 known_few t now (allowed.Get node content) sound known = omega (arith, sound.few_nodes)
 known_few t now (allowed.List listing) sound known = omega (arith, sound.few_nodes)
 known_few t now (allowed.Put by key length) sound known = omega (arith, sound.few_nodes)
+known_few t now (allowed.Chunk user dir number length) sound known = omega (arith, sound.few_nodes)
 known_few t now (allowed.Change changes blob report) sound known =
     rows_few t blob (raised t now changes blob) changes sound.rising sound.few_nodes known.rows
-known_few t now (allowed.Deeds deeds report) sound known = omega (arith, settled_few t now deeds sound known)
+known_few t now (allowed.Deeds deeds report) sound known = deeds_few t now deeds sound known
 known_few t now allowed.Close sound known = omega (arith, sound.few_nodes)

@@ -5,7 +5,7 @@ use Rattle.std.specs.Option.{option_or}
 use Rattle.std.specs.declared.alloc.AllocError.{AllocError}
 use Rattle.nf_defs.specs.Access.{Access}
 use Rattle.nf_words.proofs.Passing.{no_limit}
-use Rattle.nf_words.specs.Prelude.{access_of, allowed_of, asked_by, Call, call_decision, earlier_rules, exceeded, first_that_holds, later_rules, limit_rule, limited, locked_rule, places_of, quota_rule, refusal_of, room_rule, Rule, unless_refused}
+use Rattle.nf_words.specs.Prelude.{access_of, allowed_of, asked_by, Call, call_decision, earlier_rules, first_that_holds, later_rules, limit_rule, limited, locked_rule, places_of, quota_rule, refusal_of, room_rule, Rule, unless_refused}
 use Rattle.nf_words.specs.Sharing.{limit_by, limit_of_ask, offer_limit}
 use Rattle.nf_words.specs.declared.answer.Allowed.{Allowed}
 use Rattle.nf_words.specs.declared.answer.Denial.{Denial}
@@ -15,7 +15,7 @@ use Rattle.nf_words.specs.declared.answer.Limit.{Limit}
 use Rattle.nf_words.specs.declared.request.Places.{Places}
 use Rattle.nf_words.specs.declared.request.ShareAsk.{ShareAsk}
 use Rattle.nf_words.specs.declared.request.ShareAsk.TheVariants as ask
-use Rattle.nf_decide.specs.Deciding.{early_refusal, late_refusal, locked_at, offer_by, passed_at}
+use Rattle.nf_decide.specs.Deciding.{early_refusal, excess_in, late_refusal, locked_at, offer_by, passed_at}
 
 first_of_both : (before behind : List Rule) (access : Access) (call : Call)
     → first_that_holds (before ++ behind) access call ≡ option_or (first_that_holds before access call) (first_that_holds behind access call)
@@ -73,21 +73,21 @@ room_of_offer call (ask.Set share perms until) = refl
 room_of_offer call (ask.End share) = refl
 
 beyond_late : (call : Call) (places : Places) (refusal : Option Denial) → places ≡ places_of call → None ≡ locked_at call places
-    → refusal ≡ option_or (option_map denial.Limit (passed_at call places)) (option_map denial.Quota (exceeded call.state.tables places (asked_by call).makes))
+    → refusal ≡ option_or (option_map denial.Limit (passed_at call places)) (option_map denial.Quota (excess_in call places))
     → refusal ≡ late_refusal (access_of call.state) call
 unfolding locked_rule limit_rule room_rule quota_rule
 beyond_late call places refusal same free is =
     let t = call.state.tables in
     let makes = (asked_by call).makes in
     is
-    ∙ ap (λ (places : Places). option_or (option_map denial.Limit (passed_at call places)) (option_map denial.Quota (exceeded t places makes))) same
-    ∙ one_by_one (limited t (places_of call) makes) (limit_by call call.request.wanted) (exceeded t (places_of call) makes)
+    ∙ ap (λ (places : Places). option_or (option_map denial.Limit (passed_at call places)) (option_map denial.Quota (excess_in call places))) same
+    ∙ one_by_one (limited t (places_of call) makes) (limit_by call call.request.wanted) (excess_in call (places_of call))
     ∙ ap (λ (o : Option Denial). option_or o (first_that_holds (limit_rule ∷ room_rule ∷ quota_rule ∷ []) (access_of call.state) call))
     (free ∙ ap (locked_at call) same)
 
 pub ok_late : (call : Call) (places : Places) (result : Result (Option Denial) AllocError) → places ≡ places_of call → None ≡ locked_at call places
     → IfOk result (λ refusal. refusal ≡ option_or (option_map denial.Limit (passed_at call places))
-    (option_map denial.Quota (exceeded call.state.tables places (asked_by call).makes)))
+    (option_map denial.Quota (excess_in call places)))
     → IfOk result (λ refusal. refusal ≡ late_refusal (access_of call.state) call)
 ok_late call places (Ok refusal) same free is = beyond_late call places refusal same free is
 ok_late call places (Err error) same free is = tt

@@ -140,6 +140,8 @@ leads_row t u blob (Put (rows.Node row)) rising leads known =
 leads_row t u blob (Put (rows.Share row)) rising leads known = leads
 leads_row t u blob (Put (rows.Mount row)) rising leads known = leads
 leads_row t u blob (Put (rows.Version row)) rising leads known = leads
+leads_row t u blob (Put (rows.Upload row)) rising leads known = leads
+leads_row t u blob (Put (rows.Chunk row)) rising leads known = leads
 leads_row t u blob (Drop (keys.Version node at)) rising leads known = leads
 leads_row t u blob change rising leads known = subst LeadUp (sym (people_nodes u change known.1)) leads
 

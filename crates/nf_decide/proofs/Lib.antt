@@ -1,5 +1,7 @@
 pub mod About
+pub mod Allowing
 pub mod Askers
+pub mod Assembling
 pub mod Bears
 pub mod Closing
 pub mod Copies
@@ -24,6 +26,7 @@ pub mod Stamps
 pub mod Tells
 pub mod ToldFirst
 pub mod ToldGone
+pub mod ToldUploads
 pub mod TrashSums
 pub mod Walks
 pub mod Runs

@@ -15,9 +15,10 @@ use Rattle.nf_words.specs.declared.request.ShareAsk.TheVariants as ask
 use Rattle.nf_words.specs.declared.request.Spot.{Spot}
 use Rattle.nf_words.specs.declared.request.Transfer.{Transfer}
 use Rattle.nf_words.specs.declared.request.TrashAsk.TheVariants as trash
+use Rattle.nf_words.specs.declared.request.UploadAsk.TheVariants as upload
 use Rattle.nf_words.specs.declared.request.VersionAsk.TheVariants as version
 use Rattle.nf_words.specs.declared.request.Wanted.{Wanted}
-use Rattle.nf_words.specs.declared.request.Wanted.TheVariants.{Get, Put, Mkcol, Delete, Move, Copy, Share, People, Trash, Version}
+use Rattle.nf_words.specs.declared.request.Wanted.TheVariants.{Get, Put, Mkcol, Delete, Move, Copy, Share, People, Trash, Version, Upload}
 use Rattle.nf_words.proofs.Passing.{no_fault}
 use Rattle.nf_decide.specs.Deciding.{IsNamed}
 
@@ -84,6 +85,10 @@ module _ (call : Call) where
   moved_named (Version (version.List user node)) fits some = tt
   moved_named (Version (version.Get user node at)) fits some = tt
   moved_named (Version (version.Restore user node at)) fits some = tt
+  moved_named (Upload (upload.New user dir to)) fits some = tt
+  moved_named (Upload (upload.Chunk user dir name to length)) fits some = tt
+  moved_named (Upload (upload.Drop user dir)) fits some = tt
+  moved_named (Upload (upload.Join dir spot total)) fits some = absurd (cc some)
   moved_named (Copy source target overwrite) fits some = named_between source target false fits
   moved_named (Move source target overwrite) fits some = named_between source target (way_of call source).itself fits
 
@@ -107,6 +112,10 @@ module _ (call : Call) where
   renamed_named (Version (version.List user node)) fits renames = tt
   renamed_named (Version (version.Get user node at)) fits renames = tt
   renamed_named (Version (version.Restore user node at)) fits renames = tt
+  renamed_named (Upload (upload.New user dir to)) fits renames = tt
+  renamed_named (Upload (upload.Chunk user dir name to length)) fits renames = tt
+  renamed_named (Upload (upload.Drop user dir)) fits renames = tt
+  renamed_named (Upload (upload.Join dir spot total)) fits renames = absurd (cc renames)
   renamed_named (Copy source target overwrite) fits renames = named_between source target false fits
   renamed_named (Move source target overwrite) fits renames = named_between source target (way_of call source).itself fits
 

@@ -15,7 +15,7 @@ use Rattle.nf_words.specs.declared.request.Sharee.{Sharee}
 use Rattle.nf_words.specs.declared.request.ShareAsk.TheVariants as ask
 use Rattle.nf_words.specs.declared.request.Spot.{Spot}
 use Rattle.nf_words.specs.declared.request.Wanted.{Wanted}
-use Rattle.nf_words.specs.declared.request.Wanted.TheVariants.{Get, Put, Mkcol, Delete, Move, Copy, Share, People, Trash, Version}
+use Rattle.nf_words.specs.declared.request.Wanted.TheVariants.{Get, Put, Mkcol, Delete, Move, Copy, Share, People, Trash, Version, Upload}
 use Rattle.nf_decide.specs.Deciding.{IsThere, offer_in}
 
 spot_there : (call : Call) (spot : Spot) (to : Sharee) (perms until : Option ℕ) → AreSound call.state.tables → IsAsking call
@@ -42,6 +42,7 @@ wanted_there call (Share (ask.End share)) sound is passes = tt
 wanted_there call (People ask) sound is passes = tt
 wanted_there call (Trash ask) sound is passes = tt
 wanted_there call (Version ask) sound is passes = tt
+wanted_there call (Upload ask) sound is passes = tt
 wanted_there call (Get spot) sound is passes = tt
 wanted_there call (Put spot length) sound is passes = tt
 wanted_there call (Mkcol spot) sound is passes = tt

@@ -12,7 +12,7 @@ use Rattle.nf_base.specs.declared.rows.Row.TheVariants as rows
 use Rattle.nf_base.specs.declared.changes.Change.{Change}
 use Rattle.nf_base.specs.declared.rows.MetaRow.{MetaRow}
 use Rattle.nf_base.specs.declared.rows.NodeRow.{NodeRow}
-use Rattle.nf_defs.specs.Prelude.{filled, group_key, is_file, is_folder_kind, item_key, made, member_key, mount_key, node_key, node_row, put, share_key, Tables, token_key, user_key, version_key, with_node}
+use Rattle.nf_defs.specs.Prelude.{chunk_key, filled, group_key, is_file, is_folder_kind, item_key, made, member_key, mount_key, node_key, node_row, put, share_key, Tables, token_key, upload_key, user_key, version_key, with_node}
 use Rattle.nf_defs.proofs.Puts.{dropped_length, put_length}
 use Rattle.nf_laws.proofs.Lists.{Rising}
 use Rattle.nf_laws.proofs.OneRow.{length_with, rising_with}
@@ -21,7 +21,7 @@ use Rattle.nf_laws.specs.Numbers.{AreHigher}
 use Rattle.nf_words.proofs.Found.{found_has, found_passes}
 use Rattle.nf_words.specs.Prelude.{above, counted}
 use Rattle.nf_decide.specs.Counts.{FitsRows, IsNoSmaller}
-use Rattle.nf_decide.specs.Current.{added_of, IsBorne, IsCounted, IsNew, IsRefilled, is_fresh, puts_group, puts_item, puts_member, puts_mount, puts_share, puts_token, puts_user, puts_version}
+use Rattle.nf_decide.specs.Current.{added_of, IsBorne, IsCounted, IsNew, IsRefilled, is_fresh, puts_chunk, puts_group, puts_item, puts_member, puts_mount, puts_share, puts_token, puts_upload, puts_user, puts_version}
 use Rattle.nf_decide.specs.declared.counts.RowCounts.{RowCounts}
 
 -- what is new isn't there
@@ -78,6 +78,8 @@ counted_later meta more (Put (rows.Share row)) higher counted = omega (arith, hi
 counted_later meta more (Put (rows.Mount row)) higher counted = tt
 counted_later meta more (Put (rows.Version row)) higher counted = tt
 counted_later meta more (Put (rows.Item row)) higher counted = tt
+counted_later meta more (Put (rows.Upload row)) higher counted = tt
+counted_later meta more (Put (rows.Chunk row)) higher counted = tt
 counted_later meta more change higher counted = absurd counted
 
 -- ---- a change that can be borne
@@ -95,6 +97,8 @@ borne_next next t (Put (rows.Share row)) borne = refl
 borne_next next t (Put (rows.Mount row)) borne = refl
 borne_next next t (Put (rows.Version row)) borne = refl
 borne_next next t (Put (rows.Item row)) borne = refl
+borne_next next t (Put (rows.Upload row)) borne = refl
+borne_next next t (Put (rows.Chunk row)) borne = refl
 borne_next next t change borne = absurd borne
 
 -- what is so of the new rows, of those with another content, and of the old ones, is so of the rows after it
@@ -118,6 +122,8 @@ borne_has P next t (Put (rows.Share row)) rising borne new refilled same = same
 borne_has P next t (Put (rows.Mount row)) rising borne new refilled same = same
 borne_has P next t (Put (rows.Version row)) rising borne new refilled same = same
 borne_has P next t (Put (rows.Item row)) rising borne new refilled same = same
+borne_has P next t (Put (rows.Upload row)) rising borne new refilled same = same
+borne_has P next t (Put (rows.Chunk row)) rising borne new refilled same = same
 borne_has P next t change rising borne new refilled same = absurd borne
 
 pub borne_rising : (next : ℕ) (t : Tables) (change : Change) → Rising t.nodes → IsBorne next t change → Rising (made t change).nodes
@@ -153,6 +159,8 @@ front_fits t room next change rest fits = record {
   mounts = omega (arith, fits.mounts, count_front puts_mount change rest);
   versions = omega (arith, fits.versions, count_front puts_version change rest);
   items = omega (arith, fits.items, count_front puts_item change rest);
+  uploads = omega (arith, fits.uploads, count_front puts_upload change rest);
+  chunks = omega (arith, fits.chunks, count_front puts_chunk change rest);
 }
 
 -- the others find the room for nodes that is left
@@ -168,7 +176,7 @@ borne_nodes next t change rest rising borne =
     (λ row is old. omega (arith, counts, length_with t.nodes row.id (filled row.content row.changed)))
     (omega (arith, counts))
 
--- and that for the rows of other kinds: users, tokens, groups, members, shares, mounts, versions and items, in this order
+-- and that for the rows of other kinds: users, tokens, groups, members, shares, mounts, versions, items, uploads and chunks, in this order
 abbrev OthersGrow : Tables → Tables → Change → Type 0
 OthersGrow t u change =
     (length u.users ≤ length t.users + cond (puts_user change) 1 0)
@@ -179,31 +187,41 @@ OthersGrow t u change =
     × (length u.mounts ≤ length t.mounts + cond (puts_mount change) 1 0)
     × (length u.versions ≤ length t.versions + cond (puts_version change) 1 0)
     × (length u.items ≤ length t.items + cond (puts_item change) 1 0)
+    × (length u.uploads ≤ length t.uploads + cond (puts_upload change) 1 0)
+    × (length u.chunks ≤ length t.chunks + cond (puts_chunk change) 1 0)
 
 borne_others : (next : ℕ) (t : Tables) (change : Change) → IsBorne next t change → OthersGrow t (made t change) change
 borne_others next t (Put (rows.User row)) borne =
-    (put_length user_key row t.users, omega arith, omega arith, omega arith, omega arith, omega arith, omega arith, omega arith)
+    (put_length user_key row t.users, omega arith, omega arith, omega arith, omega arith, omega arith, omega arith, omega arith, omega arith, omega arith)
 borne_others next t (Put (rows.Token row)) borne =
-    (omega arith, put_length token_key row t.tokens, omega arith, omega arith, omega arith, omega arith, omega arith, omega arith)
+    (omega arith, put_length token_key row t.tokens, omega arith, omega arith, omega arith, omega arith, omega arith, omega arith, omega arith, omega arith)
 borne_others next t (Put (rows.Group row)) borne =
-    (omega arith, omega arith, put_length group_key row t.groups, omega arith, omega arith, omega arith, omega arith, omega arith)
+    (omega arith, omega arith, put_length group_key row t.groups, omega arith, omega arith, omega arith, omega arith, omega arith, omega arith, omega arith)
 borne_others next t (Put (rows.Member row)) borne =
-    (omega arith, omega arith, omega arith, put_length member_key row t.members, omega arith, omega arith, omega arith, omega arith)
+    (omega arith, omega arith, omega arith, put_length member_key row t.members, omega arith, omega arith, omega arith, omega arith, omega arith, omega arith)
 borne_others next t (Put (rows.Share row)) borne =
-    (omega arith, omega arith, omega arith, omega arith, put_length share_key row t.shares, omega arith, omega arith, omega arith)
+    (omega arith, omega arith, omega arith, omega arith, put_length share_key row t.shares, omega arith, omega arith, omega arith, omega arith, omega arith)
 borne_others next t (Put (rows.Mount row)) borne =
-    (omega arith, omega arith, omega arith, omega arith, omega arith, put_length mount_key row t.mounts, omega arith, omega arith)
+    (omega arith, omega arith, omega arith, omega arith, omega arith, put_length mount_key row t.mounts, omega arith, omega arith, omega arith, omega arith)
 borne_others next t (Put (rows.Version row)) borne =
-    (omega arith, omega arith, omega arith, omega arith, omega arith, omega arith, put_length version_key row t.versions, omega arith)
+    (omega arith, omega arith, omega arith, omega arith, omega arith, omega arith, put_length version_key row t.versions, omega arith, omega arith, omega arith)
 borne_others next t (Put (rows.Item row)) borne =
-    (omega arith, omega arith, omega arith, omega arith, omega arith, omega arith, omega arith, put_length item_key row t.items)
-borne_others next t (Put (rows.Node row)) borne = (omega arith, omega arith, omega arith, omega arith, omega arith, omega arith, omega arith, omega arith)
+    (omega arith, omega arith, omega arith, omega arith, omega arith, omega arith, omega arith, put_length item_key row t.items, omega arith, omega arith)
+borne_others next t (Put (rows.Upload row)) borne =
+    (omega arith, omega arith, omega arith, omega arith, omega arith, omega arith, omega arith, omega arith, put_length upload_key row t.uploads, omega arith)
+borne_others next t (Put (rows.Chunk row)) borne =
+    (omega arith, omega arith, omega arith, omega arith, omega arith, omega arith, omega arith, omega arith, omega arith, put_length chunk_key row t.chunks)
+borne_others next t (Put (rows.Node row)) borne =
+    (omega arith, omega arith, omega arith, omega arith, omega arith, omega arith, omega arith, omega arith, omega arith, omega arith)
 borne_others next t (Drop (keys.Member group user)) borne =
-    let few = dropped_length member_key (group ∷ user ∷ []) t.members in (omega arith, omega arith, omega arith, omega arith, omega arith, omega arith, omega arith, omega arith)
+    let few = dropped_length member_key (group ∷ user ∷ []) t.members in
+    (omega arith, omega arith, omega arith, omega arith, omega arith, omega arith, omega arith, omega arith, omega arith, omega arith)
 borne_others next t (Drop (keys.Version node at)) borne =
-    let few = dropped_length version_key (node ∷ at ∷ []) t.versions in (omega arith, omega arith, omega arith, omega arith, omega arith, omega arith, omega arith, omega arith)
+    let few = dropped_length version_key (node ∷ at ∷ []) t.versions in
+    (omega arith, omega arith, omega arith, omega arith, omega arith, omega arith, omega arith, omega arith, omega arith, omega arith)
 borne_others next t (Drop (keys.Item node)) borne =
-    let few = dropped_length item_key (node ∷ []) t.items in (omega arith, omega arith, omega arith, omega arith, omega arith, omega arith, omega arith, omega arith)
+    let few = dropped_length item_key (node ∷ []) t.items in
+    (omega arith, omega arith, omega arith, omega arith, omega arith, omega arith, omega arith, omega arith, omega arith, omega arith)
 borne_others next t change borne = absurd borne
 
 -- so they fit
@@ -222,4 +240,6 @@ borne_fits next t change rest room more rising borne higher fits =
       mounts = omega (arith, higher.mounts, fits.mounts, others.5, count_by-cons puts_mount change rest);
       versions = omega (arith, higher.versions, fits.versions, others.6, count_by-cons puts_version change rest);
       items = omega (arith, higher.items, fits.items, others.7, count_by-cons puts_item change rest);
+      uploads = omega (arith, higher.uploads, fits.uploads, others.8, count_by-cons puts_upload change rest);
+      chunks = omega (arith, higher.chunks, fits.chunks, others.9, count_by-cons puts_chunk change rest);
     }

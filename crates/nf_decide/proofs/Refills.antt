@@ -3,7 +3,7 @@ use Rattle.std.proofs.Common.{◌≡◌, ◌≢◌, ℕ, zero, suc, ◌-◌, ◌
 use Rattle.std.specs.Prelude.{None, Some, is_none, is_some}
 use Rattle.std.specs.List.{All, AllPairs, AllWithin, insert, list_any}
 use Rattle.std.specs.List.Sorted.{IsBinarySearchResult, IsNonDecreasingBy, IsPartitionedBy, IsSearchInRange}
-use Rattle.std.specs.Option.{IfSome}
+use Rattle.std.specs.Option.{IfSome, option_map_or}
 use Rattle.std.specs.Ordering.{ordering_index}
 use Rattle.std.specs.Result.{is_ok}
 use Rattle.std.specs.declared.cmp.Ordering.{Ordering}
@@ -18,7 +18,7 @@ use Rattle.std.proofs.lemmas.List.Sorted.{All-permutation, IsPartitionedBy-ltb, 
 use Rattle.nf_base.specs.declared.rows.NodeRow.{NodeRow}
 use Rattle.nf_base.specs.declared.rows.VersionRow.{VersionRow}
 use Rattle.nf_defs.proofs.Puts.{all_put, put_rising}
-use Rattle.nf_defs.specs.Prelude.{by_order, is_file, IsRising, key_cmp, node_row, put, Tables, version_key}
+use Rattle.nf_defs.specs.Prelude.{by_order, is_file, is_folder, is_folder_kind, IsRising, key_cmp, node_row, put, Tables, version_key}
 use Rattle.nf_retention.specs.Thinning.{AreFalling, step, thinned, thinned_below}
 use Rattle.nf_retention.specs.declared.versions.Version.{Version}
 use Rattle.nf_table.proofs.Fronts.{kept}
@@ -35,6 +35,15 @@ use Rattle.nf_decide.proofs.Walks.{all_left, map_reverse}
 pub row_itself : (rows : List NodeRow) (node : ℕ) (row : NodeRow) → node_row rows node ≡ Some row → node_row rows row.id ≡ Some row
 row_itself rows node row there =
     ap (node_row rows) (eqb-true row.id node (found_passes (λ (r : NodeRow). r.id == node) rows row there)) ∙ there
+
+-- a file is no folder
+pub no_folder : (rows : List NodeRow) (node : ℕ) → is_file rows node ≡ true → is_folder rows node ≡ false
+no_folder rows node file = here (node_row rows node) file
+  where
+    here : (o : Option NodeRow) → option_map_or (λ row. not (is_folder_kind row.kind)) o false ≡ true
+        → option_map_or (λ row. is_folder_kind row.kind) o false ≡ false
+    here None file = refl
+    here (Some row) file = not-true _ file
 
 -- a version that is there is of a file
 pub version_file : (t : Tables) (node at : ℕ) (version : VersionRow) → AreSound t → version_row t.versions node at ≡ Some version

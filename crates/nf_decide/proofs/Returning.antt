@@ -52,6 +52,7 @@ back_touched t asked places key = here asked.makes
     here making.Told is = absurd (cc)
     here (making.Sent node) is = absurd (cc)
     here (making.Refilled node at) is = absurd (cc)
+    here making.Assembled is = absurd (cc)
 
 -- where no item is there to come back, nothing is
 pub none_touched : (t : Tables) (item : Option ItemRow) → option_map (slot_of t) item ≡ None → option_map_or (restore_touches t) item [] ≡ []

@@ -24,11 +24,8 @@ use Rattle.nf_words.proofs.Known.{IsItem}
 use Rattle.nf_words.specs.Prelude.{deed_done, deeds_done, ended_row, ended_under, is_closing, purged, purges, versions_there}
 use Rattle.nf_words.specs.declared.answer.Deed.{Deed}
 use Rattle.nf_words.specs.declared.answer.Deed.TheVariants as deed
-use Rattle.nf_decide.specs.Counts.{FitsRows, IsNoSmaller}
 use Rattle.nf_decide.specs.Gone.{item_gone}
-use Rattle.nf_decide.specs.declared.counts.RowCounts.{RowCounts}
 use Rattle.nf_decide.specs.Current.{BearsDeeds, IsClosed}
-use Rattle.nf_decide.proofs.Deeds.{added_all, rest_fits}
 
 -- ---- fewer rows, of which none comes to be under another
 
@@ -220,23 +217,6 @@ bears_both t (one ∷ first) last bears = let rest = bears_both (deed_done t one
 pub done_both : (t : Tables) (first last : List Deed) → deeds_done t (first ++ last) ≡ deeds_done (deeds_done t first) last
 done_both t [] last = refl
 done_both t (one ∷ first) last = done_both (deed_done t one) first last
-
-same_room : (room : RowCounts) → IsNoSmaller room room
-same_room room = record {
-  users = omega arith;
-  tokens = omega arith;
-  groups = omega arith;
-  members = omega arith;
-  nodes = omega arith;
-  shares = omega arith;
-  mounts = omega arith;
-  versions = omega arith;
-  items = omega arith;
-}
-
-pub both_fit : (t : Tables) (room : RowCounts) (first last : List Deed) → FitsRows t room (added_all (first ++ last)) → FitsRows (deeds_done t first) room (added_all last)
-both_fit t room [] last fits = fits
-both_fit t room (one ∷ first) last fits = both_fit (deed_done t one) room first last (rest_fits t room room one (first ++ last) (same_room room) fits)
 
 -- one node more in the run
 pub run_more : (run : List ℕ) (node : ℕ) (deeds : List Deed) → purges (run ++ node ∷ []) ++ deeds ≡ purges run ++ deed.Purge node ∷ deeds

@@ -5,7 +5,7 @@ use Rattle.std.specs.List.{All, flat_map}
 use Rattle.std.specs.Option.{option_and_then, option_map_or}
 use Rattle.std.proofs.lemmas.Bool.{and_parts, both_ways, cases_Bool, cond_both, false_from_ne_true}
 use Rattle.std.proofs.lemmas.List.{map-append, map-id}
-use Rattle.std.proofs.lemmas.List.Elements.{All-head, All-tail}
+use Rattle.std.proofs.lemmas.List.Elements.{All-cons, All-head, All-nil, All-tail}
 use Rattle.std.proofs.lemmas.Option.{option_and_then_some, same_Some}
 use Rattle.nf_base.specs.declared.changes.Change.{Change}
 use Rattle.nf_base.specs.declared.changes.Change.TheVariants.{Put}
@@ -20,6 +20,7 @@ use Rattle.nf_laws.proofs.Left.{discard_left, Left}
 use Rattle.nf_laws.proofs.Mirrored.{mirrored}
 use Rattle.nf_laws.proofs.Others.{stamp_sound}
 use Rattle.nf_laws.proofs.Parts.{both_go, deed_stamped, known_stamped, leaves_in, leaves_joined, no_goes, rest_of, step_turn}
+use Rattle.nf_laws.proofs.Plain.{IsPlain}
 use Rattle.nf_laws.proofs.Present.{root_ends, root_so}
 use Rattle.nf_laws.proofs.Rows.{AreKept, kept_joined, row_id, stamp}
 use Rattle.nf_laws.proofs.Trashed.{item_home}
@@ -27,7 +28,7 @@ use Rattle.nf_laws.proofs.Upwards.{climbs_is_under, never_climbs}
 use Rattle.nf_laws.specs.Transfers.{Mirrors}
 use Rattle.nf_words.proofs.Found.{child_parent}
 use Rattle.nf_words.proofs.Known.{IsItem, KnownCross, KnownDeeds, KnownLeaving, KnownSettled, KnownTransfer}
-use Rattle.nf_words.proofs.Known.KnownDeeds.{by_copying, by_crossing, by_going, by_leaving, by_moving, by_requoting, by_restoring}
+use Rattle.nf_words.proofs.Known.KnownDeeds.{by_abandoning, by_copying, by_crossing, by_going, by_joining, by_leaving, by_moving, by_requoting, by_restoring, by_sweeping}
 use Rattle.nf_words.proofs.Transfers.{replaced_leaves, row_leaves}
 use Rattle.nf_words.proofs.Trashing.{rest_goes}
 use Rattle.nf_words.specs.Prelude.{AreSound, beside, besides, closed_under, copies, copies_to, crossing, deed_done, deeds_done, discard, discards, ended_row, forgets, goes_itself, is_closing, item_for, LeadsToRoot, moves, purges, row_at, told_deed, told_deeds, versions_of}
@@ -37,12 +38,18 @@ use Rattle.nf_words.specs.declared.request.Transfer.{Transfer}
 use Rattle.nf_decide.specs.Gone.{TellsDeeds, told_first}
 use Rattle.nf_decide.proofs.ToldFirst.{join_same, join_tells, leave_tells, relink_tells, restore_tells, tell_both, Tells, tells_behind, there_given}
 use Rattle.nf_decide.proofs.ToldGone.{SameUnder, versions_left}
+use Rattle.nf_decide.proofs.ToldUploads.{joining_tell, sweeping_tell}
 
 -- ---- what is done first
 
 turn_front : (t : Tables) (now : ℕ) (first last : List Deed) → InTurn t now (first ++ last) → InTurn t now first
 turn_front t now [] last turn = tt
 turn_front t now (one ∷ first) last turn = (turn.0, turn_front (deed_done t one) now first last turn.1)
+
+plain_front : (first last : List Deed) → All IsPlain (first ++ last) → All IsPlain first
+plain_front [] last plain = All-nil IsPlain
+plain_front (one ∷ first) last plain =
+    All-cons IsPlain one first (All-head IsPlain one (first ++ last) plain) (plain_front first last (All-tail IsPlain one (first ++ last) plain))
 
 -- the tables after it are sound
 after_first : (t : Tables) (now : ℕ) (first last : List Deed) → AreSound t → t.meta.last ≡ now → InTurn t now (first ++ last)
@@ -368,23 +375,27 @@ module _ (t : Tables) (now : ℕ) (transfer : Transfer) (name : List ℕ) (sound
 
 -- ---- a step
 
-step_tell : (t : Tables) (now : ℕ) (deeds : List Deed) → AreSound t → t.meta.last ≡ now → KnownDeeds t now deeds → InTurn t now deeds
+step_tell : (t : Tables) (now : ℕ) (deeds : List Deed) → AreSound t → t.meta.last ≡ now → KnownDeeds t now deeds → InTurn t now deeds → All IsPlain deeds
     → TellsDeeds t deeds
-step_tell t now deeds sound at (by_going nodes goes) turn = tell_both t [] nodes sound sound goes tt
-step_tell t now deeds sound at (by_leaving row it) turn = leaving_tell t now row sound at it turn
-step_tell t now deeds sound at (by_restoring node folder name gone it goes others) turn =
+step_tell t now deeds sound at (by_going nodes goes) turn plain = tell_both t [] nodes sound sound goes tt
+step_tell t now deeds sound at (by_leaving row it) turn plain = leaving_tell t now row sound at it turn
+step_tell t now deeds sound at (by_restoring node folder name gone it goes others) turn plain =
     let back = deed.Restore node folder name in
     tell_both t (back ∷ []) gone sound (after_first t now (back ∷ []) (purges gone) sound at turn) goes (
       restore_tells t gone node folder name sound goes.items (ap is_some it.there)
           (subst (LeadsToRoot t.nodes) (sym it.home) (item_home t node it.item sound it.there).present) others,
       tt,
     )
-step_tell t now deeds sound at (by_requoting row gone it goes) turn =
+step_tell t now deeds sound at (by_requoting row gone it goes) turn plain =
     tell_both t (deed.Requote row ∷ []) gone sound (after_first t now (deed.Requote row ∷ []) (purges gone) sound at turn) goes
     (record { told = refl; items = λ items. items; same = λ items same. same }, tt)
-step_tell t now deeds sound at (by_moving transfer name it) turn = moving_tell t now transfer name sound at it.known turn
-step_tell t now deeds sound at (by_copying transfer name it) turn = copying_tell t now transfer name sound at it.known turn
-step_tell t now deeds sound at (by_crossing transfer name it) turn = crossing_tell t now transfer name sound at it turn
+step_tell t now deeds sound at (by_moving transfer name it) turn plain = moving_tell t now transfer name sound at it.known turn
+step_tell t now deeds sound at (by_copying transfer name it) turn plain = copying_tell t now transfer name sound at it.known turn
+step_tell t now deeds sound at (by_crossing transfer name it) turn plain = crossing_tell t now transfer name sound at it turn
+step_tell t now deeds sound at (by_joining changes user dir it there) turn plain =
+    joining_tell t changes user dir (All-head IsPlain (deed.Store changes) (deed.Abandon user dir ∷ []) plain)
+step_tell t now deeds sound at (by_abandoning user dir there) turn plain = refl
+step_tell t now deeds sound at (by_sweeping nodes rows goes idle) turn plain = sweeping_tell t nodes rows sound goes idle
 
 -- the moment is told of nothing
 deed_told : (t : Tables) (now : ℕ) (one : Deed) → told_deed (stamp t now) one ≡ told_deed t one
@@ -395,6 +406,8 @@ deed_told t now (deed.Relink node folder name) = refl
 deed_told t now (deed.Join copies) = refl
 deed_told t now (deed.Requote row) = refl
 deed_told t now (deed.Forget node at) = refl
+deed_told t now (deed.Store changes) = refl
+deed_told t now (deed.Abandon user dir) = refl
 
 told_stamped : (t : Tables) (now : ℕ) (deeds : List Deed) → told_deeds (stamp t now) deeds ≡ told_deeds t deeds
 told_stamped t now [] = refl
@@ -411,6 +424,8 @@ first_stamped t now (deed.Relink node folder name) = refl
 first_stamped t now (deed.Join copies) = refl
 first_stamped t now (deed.Requote row) = refl
 first_stamped t now (deed.Forget node at) = refl
+first_stamped t now (deed.Store changes) = refl
+first_stamped t now (deed.Abandon user dir) = refl
 
 firsts_stamped : (t : Tables) (now : ℕ) (deeds : List Deed) → flat_map (told_first (stamp t now)) deeds ≡ flat_map (told_first t) deeds
 firsts_stamped t now [] = refl
@@ -419,12 +434,14 @@ firsts_stamped t now (one ∷ deeds) =
     ∙ ap (λ (changes : List Change). told_first t one ++ changes) (firsts_stamped t now deeds)
 
 -- what is decided tells each deed of the tables before
-pub tells_step : (t : Tables) (now : ℕ) (deeds : List Deed) → AreSound t → t.meta.last ≤ now → KnownSettled t now deeds → TellsDeeds t deeds
-tells_step t now deeds sound later it =
+pub tells_step : (t : Tables) (now : ℕ) (deeds : List Deed) → AreSound t → t.meta.last ≤ now → KnownSettled t now deeds → All IsPlain deeds
+    → TellsDeeds t deeds
+tells_step t now deeds sound later it plain =
     let first = it.first in
     let turn = turn_front (stamp t now) now first (forgets it.gone) (subst (InTurn (stamp t now) now) it.are (step_turn t now deeds sound later it)) in
+    let fine = plain_front first (forgets it.gone) (subst (All IsPlain) it.are plain) in
     subst (TellsDeeds t) (sym it.are)
     (tells_behind t first it.gone
     (sym (told_stamped t now first)
-    ∙ step_tell (stamp t now) now first (stamp_sound t now sound later) refl (known_stamped t now now first it.known) turn
+    ∙ step_tell (stamp t now) now first (stamp_sound t now sound later) refl (known_stamped t now now first it.known) turn fine
     ∙ firsts_stamped t now first))

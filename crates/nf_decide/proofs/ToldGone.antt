@@ -53,14 +53,14 @@ still_climbs t u top j node sound also same up =
 -- ---- versions of what goes, and of what stays
 
 -- where all that a second test keeps out fails the first, the first alone says what is left
-version_left : (p q : VersionRow → Bool) (rows : List VersionRow) → All (λ (row : VersionRow). q row ≡ false → p row ≡ false) rows
+pub still_left : {X : Type 0} (p q : X → Bool) (rows : List X) → All (λ (row : X). q row ≡ false → p row ≡ false) rows
     → filter p (filter q rows) ≡ filter p rows
-version_left p q [] own = refl
-version_left p q (x ∷ rows) own =
-    let rest = version_left p q rows (All-tail (λ (row : VersionRow). q row ≡ false → p row ≡ false) x rows own) in
+still_left p q [] own = refl
+still_left {X = X} p q (x ∷ rows) own =
+    let rest = still_left p q rows (All-tail (λ (row : X). q row ≡ false → p row ≡ false) x rows own) in
     cond_both (q x) (x ∷ filter q rows) (filter q rows) (λ left. filter p left ≡ filter p (x ∷ rows))
-    (λ e. ap (λ (left : List VersionRow). if p x then x ∷ left else left) rest)
-    (λ e. rest ∙ sym (ap (λ (b : Bool). if b then x ∷ filter p rows else filter p rows) (All-head (λ (row : VersionRow). q row ≡ false → p row ≡ false) x rows own e)))
+    (λ e. ap (λ (left : List X). if p x then x ∷ left else left) rest)
+    (λ e. rest ∙ sym (ap (λ (b : Bool). if b then x ∷ filter p rows else filter p rows) (All-head (λ (row : X). q row ≡ false → p row ≡ false) x rows own e)))
 
 -- a version's node is there
 node_there : (t : Tables) (node : ℕ) → is_file t.nodes node ≡ true → is_some (node_row t.nodes node) ≡ true
@@ -74,7 +74,7 @@ node_there t node is = here (node_row t.nodes node) is
 pub versions_left : (t : Tables) (top node : ℕ) → AreSound t → is_under t.nodes node top ≡ false
     → versions_of (purged t top).versions node ≡ versions_of t.versions node
 versions_left t top node sound outside =
-    version_left (λ row. row.node == node) (λ row. is_some (node_row (without_under t.nodes top) row.node)) t.versions
+    still_left (λ (row : VersionRow). row.node == node) (λ (row : VersionRow). is_some (node_row (without_under t.nodes top) row.node)) t.versions
     (λ k d within goes.
     let row : VersionRow = get_or t.versions k d in
     false_from_ne_true (row.node == node) (λ same.

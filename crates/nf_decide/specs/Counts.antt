@@ -7,7 +7,7 @@ use Rattle.nf_decide.specs.declared.counts.RowCounts.{RowCounts}
 
 -- so many nodes, and nothing else
 abbrev pub only_nodes : ℕ → RowCounts
-only_nodes nodes = record { users = 0; tokens = 0; groups = 0; members = 0; nodes = nodes; shares = 0; mounts = 0; versions = 0; items = 0 }
+only_nodes nodes = record { users = 0; tokens = 0; groups = 0; members = 0; nodes = nodes; shares = 0; mounts = 0; versions = 0; items = 0; uploads = 0; chunks = 0 }
 
 -- those of people alone
 abbrev pub people_of : RowCounts → PeopleCounts
@@ -28,6 +28,8 @@ pub record FitsRows (t : Tables) (room added : RowCounts) : Type 0 where
   pub mounts : length t.mounts + added.mounts ≤ room.mounts
   pub versions : length t.versions + added.versions ≤ room.versions
   pub items : length t.items + added.items ≤ room.items
+  pub uploads : length t.uploads + added.uploads ≤ room.uploads
+  pub chunks : length t.chunks + added.chunks ≤ room.chunks
 
 -- as many people fit as before, or more
 pub record IsNoNarrower (old new : Room) : Type 0 where
@@ -47,3 +49,5 @@ pub record IsNoSmaller (old new : RowCounts) : Type 0 where
   pub mounts : old.mounts ≤ new.mounts
   pub versions : old.versions ≤ new.versions
   pub items : old.items ≤ new.items
+  pub uploads : old.uploads ≤ new.uploads
+  pub chunks : old.chunks ≤ new.chunks

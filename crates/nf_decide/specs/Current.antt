@@ -14,7 +14,7 @@ use Rattle.nf_base.specs.declared.rows.ShareRow.{ShareRow}
 use Rattle.nf_base.specs.declared.rows.UserRow.{UserRow}
 use Rattle.nf_charge.specs.Sums.{LeadUp}
 use Rattle.nf_defs.specs.Prelude.{filled, group_named, is_folder_kind, item_row, made, node_row, relinked, Tables, user_named, user_row, with_node}
-use Rattle.nf_words.specs.Prelude.{blob_after, deed_done, goal_of, is_closing, IsNewMember, IsNewToken, last_number, last_short, State}
+use Rattle.nf_words.specs.Prelude.{blob_after, counted, deed_done, goal_of, is_closing, IsNewMember, IsNewToken, last_number, last_short, State}
 use Rattle.nf_words.specs.declared.answer.Allowed.{Allowed}
 use Rattle.nf_words.specs.declared.answer.Allowed.TheVariants as allowed
 use Rattle.nf_words.specs.declared.answer.Deed.{Deed}
@@ -23,7 +23,7 @@ use Rattle.nf_decide.specs.Counts.{FitsRows, only_nodes}
 use Rattle.nf_decide.specs.Gone.{TellsDeeds}
 use Rattle.nf_decide.specs.declared.counts.RowCounts.{RowCounts}
 use Rattle.nf_decide.specs.declared.telling.Counted.{Counted}
-use Rattle.nf_decide.specs.declared.telling.Counted.TheVariants as counted
+use Rattle.nf_decide.specs.declared.telling.Counted.TheVariants as kind
 
 -- how many tickets and rows fit without more memory
 pub record Room : Type 0 where
@@ -63,6 +63,15 @@ abbrev pub puts_item : Change → Bool
 puts_item (Put (rows.Item row)) = true
 puts_item other = false
 
+-- and an upload or a chunk
+abbrev pub puts_upload : Change → Bool
+puts_upload (Put (rows.Upload row)) = true
+puts_upload other = false
+
+abbrev pub puts_chunk : Change → Bool
+puts_chunk (Put (rows.Chunk row)) = true
+puts_chunk other = false
+
 -- a user, new or not
 abbrev pub puts_user : Change → Bool
 puts_user (Put (rows.User row)) = true
@@ -83,15 +92,17 @@ puts_member other = false
 
 -- a row is put that is counted
 abbrev pub is_counted : Counted → Change → Bool
-is_counted (counted.Fresh next) = is_fresh next
-is_counted counted.Share = puts_share
-is_counted counted.Mount = puts_mount
-is_counted counted.Version = puts_version
-is_counted counted.Item = puts_item
-is_counted counted.User = puts_user
-is_counted counted.Token = puts_token
-is_counted counted.Group = puts_group
-is_counted counted.Member = puts_member
+is_counted (kind.Fresh next) = is_fresh next
+is_counted kind.Share = puts_share
+is_counted kind.Mount = puts_mount
+is_counted kind.Version = puts_version
+is_counted kind.Item = puts_item
+is_counted kind.Upload = puts_upload
+is_counted kind.Chunk = puts_chunk
+is_counted kind.User = puts_user
+is_counted kind.Token = puts_token
+is_counted kind.Group = puts_group
+is_counted kind.Member = puts_member
 
 -- how many rows some changes add at most
 abbrev pub added_of : ℕ → List Change → RowCounts
@@ -105,9 +116,11 @@ added_of next changes = record {
   mounts = count_by puts_mount changes;
   versions = count_by puts_version changes;
   items = count_by puts_item changes;
+  uploads = count_by puts_upload changes;
+  chunks = count_by puts_chunk changes;
 }
 
--- how many rows a deed adds at most: an item, copies, or a user
+-- how many rows a deed adds at most: an item, copies, a user, or what it stores, where that is the next number of a node
 abbrev pub discards : Deed → Bool
 discards (deed.Discard item) = true
 discards other = false
@@ -120,29 +133,34 @@ abbrev pub rows_joined : Deed → ℕ
 rows_joined (deed.Join rows) = length rows
 rows_joined other = 0
 
-abbrev pub added_deed : Deed → RowCounts
-added_deed (deed.Discard item) = record (only_nodes 0) { items = 1 }
-added_deed (deed.Purge node) = only_nodes 0
-added_deed (deed.Restore node folder name) = only_nodes 0
-added_deed (deed.Relink node folder name) = only_nodes 0
-added_deed (deed.Join rows) = only_nodes (length rows)
-added_deed (deed.Requote row) = record (only_nodes 0) { users = 1 }
-added_deed (deed.Forget node at) = only_nodes 0
+abbrev pub added_deed : ℕ → Deed → RowCounts
+added_deed next (deed.Discard item) = record (only_nodes 0) { items = 1 }
+added_deed next (deed.Purge node) = only_nodes 0
+added_deed next (deed.Restore node folder name) = only_nodes 0
+added_deed next (deed.Relink node folder name) = only_nodes 0
+added_deed next (deed.Join rows) = only_nodes (length rows)
+added_deed next (deed.Requote row) = record (only_nodes 0) { users = 1 }
+added_deed next (deed.Forget node at) = only_nodes 0
+added_deed next (deed.Store changes) = added_of next changes
+added_deed next (deed.Abandon user dir) = only_nodes 0
 
 -- and some deeds; a machine counts no further
 abbrev pub nodes_joined : List Deed → ℕ
 nodes_joined deeds = min (sum_by rows_joined deeds) last_number
 
-abbrev pub added_deeds : List Deed → RowCounts
-added_deeds deeds = record (only_nodes (nodes_joined deeds)) { users = count_by requotes deeds; items = count_by discards deeds }
+-- behind what is stored nothing is added
+abbrev pub added_deeds : ℕ → List Deed → RowCounts
+added_deeds next (deed.Store changes ∷ deeds) = added_of next changes
+added_deeds next deeds = record (only_nodes (nodes_joined deeds)) { users = count_by requotes deeds; items = count_by discards deeds }
 
 -- how many rows an act adds at most
 abbrev pub added_by : Tables → Allowed → RowCounts
 added_by t (allowed.Get node content) = only_nodes 0
 added_by t (allowed.List listing) = only_nodes 0
 added_by t (allowed.Put by key length) = only_nodes 0
+added_by t (allowed.Chunk user dir number length) = only_nodes 0
 added_by t (allowed.Change changes blob report) = added_of t.meta.next_node changes
-added_by t (allowed.Deeds deeds report) = added_deeds deeds
+added_by t (allowed.Deeds deeds report) = added_deeds t.meta.next_node deeds
 added_by t allowed.Close = only_nodes 0
 
 -- what an act adds fits
@@ -210,6 +228,8 @@ IsBorne next t (Put (rows.Share row)) = (old : ShareRow) → share_row t.shares 
 IsBorne next t (Put (rows.Mount row)) = Unit {0}
 IsBorne next t (Put (rows.Version row)) = Unit {0}
 IsBorne next t (Put (rows.Item row)) = Unit {0}
+IsBorne next t (Put (rows.Upload row)) = Unit {0}
+IsBorne next t (Put (rows.Chunk row)) = Unit {0}
 IsBorne next t other = ⊥
 
 abbrev pub AreBorne : ℕ → Tables → List Change → Type 0
@@ -228,6 +248,8 @@ IsCounted meta (Put (rows.Share row)) = row.id + 1 ≤ max meta.next_share last_
 IsCounted meta (Put (rows.Mount row)) = Unit {0}
 IsCounted meta (Put (rows.Version row)) = Unit {0}
 IsCounted meta (Put (rows.Item row)) = Unit {0}
+IsCounted meta (Put (rows.Upload row)) = Unit {0}
+IsCounted meta (Put (rows.Chunk row)) = Unit {0}
 IsCounted meta other = ⊥
 
 pub record BearsChanges (t : Tables) (changes : List Change) (blob : Option ℕ) : Type 0 where
@@ -255,6 +277,11 @@ pub record BearsCopies (t : Tables) (rows : List NodeRow) : Type 0 where
 abbrev pub IsClosed : Tables → ℕ → Type 0
 IsClosed t node = All (λ (share : ShareRow). is_closing t.nodes node share ≡ false) t.shares
 
+-- changes can be borne, and the numbers of the nodes that are there were given
+pub record BearsStore (t : Tables) (changes : List Change) : Type 0 where
+  pub stored : BearsChanges t changes None
+  pub given : AreGiven t
+
 -- what is put in the trash is there, and so is who has another quota
 abbrev pub BearsDeed : Tables → Deed → Type 0
 BearsDeed t (deed.Discard item) = IsSome (node_row t.nodes item.node)
@@ -264,22 +291,66 @@ BearsDeed t (deed.Relink node folder name) = BearsPlace t node folder name
 BearsDeed t (deed.Join rows) = BearsCopies t rows
 BearsDeed t (deed.Requote row) = IsRequoted t.users row
 BearsDeed t (deed.Forget node at) = Unit {0}
+BearsDeed t (deed.Store changes) = BearsStore t changes
+BearsDeed t (deed.Abandon user dir) = Unit {0}
 
 -- each deed can be borne by the tables after those before it
 abbrev pub BearsDeeds : Tables → List Deed → Type 0
 BearsDeeds t [] = Unit {0}
 BearsDeeds t (deed ∷ deeds) = BearsDeed t deed × BearsDeeds (deed_done t deed) deeds
 
--- and what becomes of the rows is told of the tables before all
+-- a deed stores no changes
+abbrev pub StoresNone : Deed → Type 0
+StoresNone (deed.Store changes) = ⊥
+StoresNone other = Unit {0}
+
+-- a version or an upload goes
+abbrev pub OnlyDrops : Deed → Type 0
+OnlyDrops (deed.Forget node at) = Unit {0}
+OnlyDrops (deed.Abandon user dir) = Unit {0}
+OnlyDrops other = ⊥
+
+-- changes are stored first, if any are, and then some versions and uploads go
+abbrev pub StoresFirst : List Deed → Type 0
+StoresFirst (deed.Store changes ∷ deeds) = (deeds ≢ []) × All OnlyDrops deeds
+StoresFirst deeds = All StoresNone deeds
+
+-- so can all of a step, and what becomes of the rows is told of the tables before them
 pub record BearsStep (t : Tables) (deeds : List Deed) : Type 0 where
   pub borne : BearsDeeds t deeds
+  pub order : StoresFirst deeds
   pub tells : TellsDeeds t deeds
+
+-- ---- counters
+
+-- the counters after a deed
+abbrev pub counted_with : MetaRow → Deed → MetaRow
+counted_with meta (deed.Join rows) = record meta { next_node = meta.next_node + length rows }
+counted_with meta (deed.Store changes) = counted meta changes
+counted_with meta other = meta
+
+-- and after some
+abbrev pub counted_by : MetaRow → List Deed → MetaRow
+counted_by meta [] = meta
+counted_by meta (deed ∷ deeds) = counted_by (counted_with meta deed) deeds
+
+-- they have the numbers that a deed gives
+abbrev pub CountsDeed : MetaRow → Deed → Type 0
+CountsDeed meta (deed.Join rows) = meta.next_node + length rows ≤ max meta.next_node last_number
+CountsDeed meta (deed.Store changes) = All (IsCounted meta) changes
+CountsDeed meta other = Unit {0}
+
+-- and those that some give
+abbrev pub CountsDeeds : MetaRow → List Deed → Type 0
+CountsDeeds meta [] = Unit {0}
+CountsDeeds meta (deed ∷ deeds) = CountsDeed meta deed × CountsDeeds (counted_with meta deed) deeds
 
 -- the tables can bear an act
 abbrev pub BearsAct : Tables → Allowed → Type 0
 BearsAct t (allowed.Get node content) = Unit {0}
 BearsAct t (allowed.List listing) = Unit {0}
 BearsAct t (allowed.Put by key length) = Unit {0}
+BearsAct t (allowed.Chunk user dir number length) = Unit {0}
 BearsAct t (allowed.Change changes blob report) = BearsChanges t changes blob
 BearsAct t (allowed.Deeds deeds report) = BearsStep t deeds
 BearsAct t allowed.Close = Unit {0}

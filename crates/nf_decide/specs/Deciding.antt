@@ -7,9 +7,10 @@ use Rattle.nf_defs.specs.Access.{Access}
 use Rattle.nf_defs.specs.Prelude.{item_row, node_row, Tables}
 use Rattle.nf_reach.specs.Asking.{Asking}
 use Rattle.nf_words.specs.Homes.{home_of, name_back}
-use Rattle.nf_words.specs.Prelude.{asked_by, Call, earlier_rules, exists_rule, first_that_holds, is_mount_asked, key_in_way, later_rules, limited, overwrite_rule, places_of, root_of, Rule, seeker_of, sharing_rule, target_rule, touches, transfer_of, ways_of}
+use Rattle.nf_words.specs.Prelude.{asked_by, assembled_excess, Call, earlier_rules, exceeded, exists_rule, first_that_holds, is_mount_asked, key_in_way, later_rules, limited, overwrite_rule, places_of, root_of, Rule, seeker_of, sharing_rule, target_rule, touches, transfer_of, upload_rule, ways_of}
 use Rattle.nf_words.specs.declared.answer.Denial.{Denial}
 use Rattle.nf_words.specs.declared.answer.Denial.TheVariants as denial
+use Rattle.nf_words.specs.declared.answer.Excess.{Excess}
 use Rattle.nf_words.specs.declared.answer.Limit.{Limit}
 use Rattle.nf_words.specs.declared.answer.LockKey.{LockKey}
 use Rattle.nf_words.specs.declared.answer.LockKey.TheVariants.{Slot}
@@ -28,9 +29,9 @@ abbrev pub Follows : {A : Type 0} → (Call → Option Denial) → Call → Resu
 Follows rule call (Ok _) = rule call ≡ None
 Follows rule call (Err refusal) = rule call ≡ Some refusal
 
--- the rules of what the paths lead to, once they are reached and allowed, and of sharing
+-- the rules of what the paths lead to, once they are reached and allowed, of sharing and of uploads
 abbrev pub place_rules : List Rule
-place_rules = exists_rule ∷ target_rule ∷ overwrite_rule ∷ sharing_rule ∷ []
+place_rules = exists_rule ∷ target_rule ∷ overwrite_rule ∷ sharing_rule ∷ upload_rule ∷ []
 
 abbrev pub place_refusal : Access → Call → Option Denial
 place_refusal access call = first_that_holds place_rules access call
@@ -61,6 +62,11 @@ slot_back t other = None
 -- the limit that is passed, by where the paths were found to lead: of nodes and pieces, or else of shares, mounts and people
 abbrev pub passed_at : Call → Places → Option Limit
 passed_at call places = option_or (limited call.state.tables places (asked_by call).makes) (limit_by call call.request.wanted)
+
+-- by how much the step would pass a quota
+abbrev pub excess_in : Call → Places → Option Excess
+excess_in call places =
+    option_or (exceeded call.state.tables places (asked_by call).makes) (assembled_excess call call.request.wanted)
 
 -- who asks, with the rows that access goes by
 abbrev pub asking_of : Call → Asking

@@ -1,11 +1,11 @@
 //! What a request asks for, and what its paths lead to.
 
-ghost use Rattle.std.specs.Prelude.{◌≡◌, option_copied, true};
+ghost use Rattle.std.specs.Prelude.{◌≡◌, option_copied, false, true};
 ghost use Rattle.std.specs.Option.{option_map_or};
 ghost use Rattle.nf_words.specs.Prelude.{has_forbidden, is_kept, is_transfer, node_at, node_found};
 ghost use Rattle.nf_decide.specs.Asked.{is_called, is_forbidden, names_caller};
 
-use nf_base::{Name, NodeId, UserRow};
+use nf_base::{Name, NodeId, Path, UserRow};
 use nf_defs::Found;
 use nf_words::{Making, Places, Spot};
 
@@ -48,6 +48,16 @@ pub(crate) fn is_forbidden(spot: Option<&Spot>) -> bool
     }
 }
 
+/// Whether a path has one, if there is a path.
+pub(crate) fn is_forbidden_path(path: Option<&Path>) -> bool
+    ensures { result ≡ option_map_or has_forbidden (option_copied path.entry) false }
+{
+    match path {
+        Some(path) => has_forbidden(path.names()),
+        None => false,
+    }
+}
+
 fn has_forbidden(names: &[Name]) -> bool
     ensures { result ≡ has_forbidden names.now }
 {
@@ -67,7 +77,8 @@ pub(crate) fn is_transfer(makes: &Making) -> bool
         | Making::Told
         | Making::Restored { .. }
         | Making::Sent { .. }
-        | Making::Refilled { .. } => false,
+        | Making::Refilled { .. }
+        | Making::Assembled => false,
     }
 }
 

@@ -118,6 +118,7 @@ impl<'a> Call<'a> {
             Wanted::Share(_)
             | Wanted::Trash(_)
             | Wanted::Version(_)
+            | Wanted::Upload(_)
             | Wanted::Get(_)
             | Wanted::Put { .. }
             | Wanted::Mkcol(_)
@@ -144,7 +145,11 @@ fn is_about_files(wanted: &Wanted) -> bool
     ensures { result ≡ is_about_files wanted.now }
 {
     match wanted {
-        Wanted::Share(_) | Wanted::People(_) | Wanted::Trash(_) | Wanted::Version(_) => false,
+        Wanted::Share(_)
+        | Wanted::People(_)
+        | Wanted::Trash(_)
+        | Wanted::Version(_)
+        | Wanted::Upload(_) => false,
         Wanted::Get(_)
         | Wanted::Put { .. }
         | Wanted::Mkcol(_)
@@ -155,7 +160,7 @@ fn is_about_files(wanted: &Wanted) -> bool
 }
 
 /// The number of the user who asks.
-fn asker_of(caller: Option<&UserRow>) -> UserId
+pub(crate) fn asker_of(caller: Option<&UserRow>) -> UserId
     ensures { result ≡ option_map_or (λ row. row.id) (option_copied caller.entry) 0 }
 {
     match caller {

@@ -5,7 +5,7 @@ ghost use Rattle.nf_decide.specs.Counts.{only_nodes, people_of};
 
 use nf_people::PeopleCounts;
 
-/// How many users, tokens, groups, members, nodes, shares, mounts, versions and items of the trash.
+/// How many users, tokens, groups, members, nodes, shares, mounts, versions, items of the trash, uploads and chunks.
 #[derive(Clone, Copy, PartialEq, Eq)]
 pub struct RowCounts {
     pub users: usize,
@@ -17,6 +17,8 @@ pub struct RowCounts {
     pub mounts: usize,
     pub versions: usize,
     pub items: usize,
+    pub uploads: usize,
+    pub chunks: usize,
 }
 
 impl RowCounts {
@@ -34,6 +36,8 @@ impl RowCounts {
             mounts: 0,
             versions: 0,
             items: 0,
+            uploads: 0,
+            chunks: 0,
         }
     }
 

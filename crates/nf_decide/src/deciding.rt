@@ -1,16 +1,17 @@
 //! The rules that refuse a request, and what a request that none of them refuses may do.
 
-ghost use Rattle.std.specs.Prelude.{◌≡◌, ◌≤◌, IfOk, IfSome, OnOk, None, Some, false, length, option_and_then, option_copied, option_map};
+ghost use Rattle.std.specs.Prelude.{◌≡◌, ◌≤◌, IfOk, IfSome, MatchResult, OnOk, None, Some, false, length, option_and_then, option_copied, option_map};
 ghost use Rattle.std.specs.Option.{option_map_or, option_or};
 ghost use Rattle.nf_base.specs.declared.limits.TheConstants.{MAX_DEPTH};
 ghost use Rattle.nf_defs.specs.Prelude.{found_from, is_folder, user_row};
-ghost use Rattle.nf_words.specs.Prelude.{access_of, acts_rule, allowed_of, AreSound, asked_by, call_decision, exceeded, excess_at, exists_rule, forbidden_rule, is_there, limit_at, limited, link_of, overwrite_rule, place_rule, places_of, root_of, seeker_of, served, shared, target_rule, ways_of};
+ghost use Rattle.nf_words.specs.Prelude.{access_of, acts_rule, allowed_of, AreSound, asked_by, asker_of, call_decision, exceeded, excess_at, exists_rule, forbidden_rule, is_there, limit_at, limited, link_of, overwrite_rule, place_rule, places_of, root_of, seeker_of, served, shared, taken, target_rule, ways_of};
 ghost use Rattle.nf_words.specs.Sharing.{limit_by, offer_limit};
 ghost use Rattle.nf_words.specs.declared.answer.Denial.TheVariants.{Limit as TheLimit, Quota};
-ghost use Rattle.nf_decide.specs.Deciding.{Follows, IsNamed, IsThere, asking_of, early_refusal, late_refusal, locked_at, offer_by, offer_in, passed_at, place_refusal};
+ghost use Rattle.nf_decide.specs.Deciding.{excess_in, Follows, IsNamed, IsThere, asking_of, early_refusal, late_refusal, locked_at, offer_by, offer_in, passed_at, place_refusal};
 
 use crate::acting::{copied, deleted, made_folder, moved, stored};
-use crate::asked::{is_forbidden, is_kept, is_transfer, node_at};
+use crate::asked::{is_forbidden, is_forbidden_path, is_kept, is_transfer, node_at};
+use crate::callers::asker_of;
 use crate::items::item_row;
 use crate::limits::{
     back_limit, carry_limit, copy_limit, limit_at, offer_limit, pieces_of, restored_limit,
@@ -22,7 +23,7 @@ use crate::people::{people_done, people_limit};
 use crate::quotas::{back_excess, carry_excess, copy_excess, excess_at, restore_excess};
 use crate::transferring::{transfer_of, unfit};
 use crate::view::View;
-use nf_base::{Moment, NodeId, ShareRow};
+use nf_base::{Moment, NodeId, ShareRow, UserId};
 use nf_defs::{Found, Seeker};
 use nf_reach::{Asker, Way, Ways};
 use nf_tree::Tree;
@@ -60,6 +61,8 @@ impl<'a> Model for Call<'a> {
 /// What the rules found: who asks, what the paths lead from and to, and the share that is asked for.
 #[derive(Clone, Copy)]
 struct Seen {
+    /// The number of the user who asks.
+    caller: UserId,
     seeker: Seeker,
     root: NodeId,
     ways: Ways,
@@ -78,73 +81,84 @@ impl<'a> Call<'a> {
             Ok(seen) => seen,
             Err(refusal) => return Ok(Err(refusal)),
         };
-        match self.late(alloc, &seen.places, &seen.offer)? {
+        match self.late(alloc, &seen)? {
             Some(refusal) => Ok(Err(refusal)),
             None => Ok(Ok(self.allowed(alloc, &seen)?)),
         }
     }
 
     /// The rules behind those that are judged: the locks, then the limits, then the quotas. These alone take memory.
-    fn late(
-        &self,
-        alloc: Global,
-        places: &Places,
-        offer: &Option<Offer>,
-    ) -> Result<Option<Denial>, AllocError>
+    fn late(&self, alloc: Global, seen: &Seen) -> Result<Option<Denial>, AllocError>
         requires sound { AreSound self.now.state.tables }
-        requires places { places.now ≡ places_of self.now }
-        requires offer { offer.now ≡ offer_in self.now self.now.request.wanted }
-        requires there { IsThere self.now.state.tables offer.now }
+        requires caller { seen.now.caller ≡ asker_of self.now }
+        requires places { seen.now.places ≡ places_of self.now }
+        requires offer { seen.now.offer ≡ offer_in self.now self.now.request.wanted }
+        requires there { IsThere self.now.state.tables seen.now.offer }
         ensures { IfOk result (λ refusal. refusal ≡ late_refusal (access_of self.entry.now.state) self.entry.now) }
     {
-        match self.locked(alloc, places)? {
+        match self.locked(alloc, &seen.places)? {
             Some(refusal) => Ok(Some(refusal)),
-            None => self.beyond(alloc, places, offer),
+            None => self.beyond(alloc, seen),
         }
     }
 
     /// The limit that the step would pass, or else how it would pass a quota.
-    fn beyond(
-        &self,
-        alloc: Global,
-        places: &Places,
-        offer: &Option<Offer>,
-    ) -> Result<Option<Denial>, AllocError>
+    fn beyond(&self, alloc: Global, seen: &Seen) -> Result<Option<Denial>, AllocError>
         requires sound { AreSound self.now.state.tables }
-        requires offer { offer.now ≡ offer_in self.now self.now.request.wanted }
-        requires there { IsThere self.now.state.tables offer.now }
-        ensures { IfOk result (λ refusal. refusal ≡ option_or (option_map TheLimit (passed_at self.entry.now places.now)) (option_map Quota (exceeded self.entry.now.state.tables places.now (asked_by self.entry.now).makes))) }
+        requires caller { seen.now.caller ≡ asker_of self.now }
+        requires places { seen.now.places ≡ places_of self.now }
+        requires offer { seen.now.offer ≡ offer_in self.now self.now.request.wanted }
+        requires there { IsThere self.now.state.tables seen.now.offer }
+        ensures { IfOk result (λ refusal. refusal ≡ option_or (option_map TheLimit (passed_at self.entry.now seen.now.places)) (option_map Quota (excess_in self.entry.now seen.now.places))) }
     {
-        match self.passed(alloc, places, offer)? {
+        match self.passed(alloc, seen)? {
             Some(limit) => Ok(Some(Denial::Limit(limit))),
-            None => match self.exceeded(places) {
+            None => match self.excess(seen) {
                 Some(excess) => Ok(Some(Denial::Quota(excess))),
                 None => Ok(None),
             },
         }
     }
 
-    /// The limit that the step would pass, of nodes and pieces, or else of shares, mounts and people.
-    fn passed(
+    /// The limit that the step would pass, of nodes and pieces, or else of shares, mounts, people and uploads.
+    fn passed(&self, alloc: Global, seen: &Seen) -> Result<Option<Limit>, AllocError>
+        requires sound { AreSound self.now.state.tables }
+        requires caller { seen.now.caller ≡ asker_of self.now }
+        requires places { seen.now.places ≡ places_of self.now }
+        requires offer { seen.now.offer ≡ offer_in self.now self.now.request.wanted }
+        requires there { IsThere self.now.state.tables seen.now.offer }
+        ensures { IfOk result (λ limit. limit ≡ passed_at self.entry.now seen.now.places) }
+    {
+        match self.limit(alloc, &seen.places)? {
+            Some(limit) => Ok(Some(limit)),
+            None => self.room(alloc, seen.caller, &seen.places, &seen.offer),
+        }
+    }
+
+    /// How the step would pass the quota of who is charged for it: by what is made there, or else by what the chunks of an upload have.
+    fn excess(&self, seen: &Seen) -> Option<Excess>
+        requires sound { AreSound self.now.state.tables }
+        requires caller { seen.now.caller ≡ asker_of self.now }
+        requires places { seen.now.places ≡ places_of self.now }
+        ensures { result ≡ excess_in self.entry.now seen.now.places }
+    {
+        match self.exceeded(&seen.places) {
+            Some(excess) => Some(excess),
+            None => self.upload_excess(seen.caller, &seen.places),
+        }
+    }
+
+    /// The limit of shares, mounts, people or uploads that what is asked would pass.
+    fn room(
         &self,
         alloc: Global,
+        caller: UserId,
         places: &Places,
         offer: &Option<Offer>,
     ) -> Result<Option<Limit>, AllocError>
         requires sound { AreSound self.now.state.tables }
-        requires offer { offer.now ≡ offer_in self.now self.now.request.wanted }
-        requires there { IsThere self.now.state.tables offer.now }
-        ensures { IfOk result (λ limit. limit ≡ passed_at self.entry.now places.now) }
-    {
-        match self.limit(alloc, places)? {
-            Some(limit) => Ok(Some(limit)),
-            None => self.room(alloc, offer),
-        }
-    }
-
-    /// The limit of shares, mounts or people that what is asked would pass.
-    fn room(&self, alloc: Global, offer: &Option<Offer>) -> Result<Option<Limit>, AllocError>
-        requires sound { AreSound self.now.state.tables }
+        requires caller { caller ≡ asker_of self.now }
+        requires places { places.now ≡ places_of self.now }
         requires offer { offer.now ≡ offer_in self.now self.now.request.wanted }
         requires there { IsThere self.now.state.tables offer.now }
         ensures { IfOk result (λ limit. limit ≡ limit_by self.entry.now self.entry.now.request.wanted) }
@@ -152,6 +166,7 @@ impl<'a> Call<'a> {
         match &self.request.wanted {
             Wanted::Share(_) => self.offer_room(alloc, offer),
             Wanted::People(ask) => people_limit(alloc, &self.view, ask),
+            Wanted::Upload(ask) => Ok(self.upload_limit(caller, places, ask)),
             Wanted::Trash(_)
             | Wanted::Version(_)
             | Wanted::Get(_)
@@ -187,11 +202,13 @@ impl<'a> Call<'a> {
     fn judge(&self) -> Result<Seen, Denial>
         requires { AreSound self.now.state.tables }
         ensures judged { Follows (early_refusal (access_of self.entry.now.state)) self.entry.now result }
+        ensures caller { IfOk result (λ seen. seen.caller ≡ asker_of self.entry.now) }
         ensures seeker { IfOk result (λ seen. seen.seeker ≡ seeker_of self.entry.now) }
         ensures root { IfOk result (λ seen. seen.root ≡ root_of self.entry.now) }
         ensures ways { IfOk result (λ seen. seen.ways ≡ ways_of self.entry.now) }
         ensures places { IfOk result (λ seen. seen.places ≡ places_of self.entry.now) }
         ensures offer { IfOk result (λ seen. seen.offer ≡ offer_in self.entry.now self.entry.now.request.wanted) }
+        ensures exists { IfOk result (λ _. exists_rule (access_of self.entry.now.state) self.entry.now ≡ None) }
         ensures named { IfOk result (λ _. IsNamed self.entry.now) }
         ensures there { IfOk result (λ seen. IsThere self.entry.now.state.tables seen.offer) }
     {
@@ -200,15 +217,17 @@ impl<'a> Call<'a> {
         self.not_you(caller)?;
         self.forbidden()?;
         let asker = self.asker(caller, link);
+        let caller = asker_of(caller);
         let ways = self.ways(&asker);
-        self.reached(&asker, link, &ways)?;
+        self.reached(&asker, caller, link, &ways)?;
         self.named(&asker)?;
         self.allows(&asker, &ways)?;
         self.lacks_version()?;
         let places = self.places(&ways);
         let offer = self.offer(&ways);
-        self.places_fit(&asker, &ways, &places, &offer)?;
+        self.places_fit(&asker, caller, &ways, &places, &offer)?;
         Ok(Seen {
+            caller,
             seeker: asker.seeker(),
             root: asker.root(),
             ways,
@@ -217,25 +236,30 @@ impl<'a> Call<'a> {
         })
     }
 
-    /// The rules of what the paths lead to and of sharing, in their order.
+    /// The rules of what the paths lead to, of sharing and of uploads, in their order.
     fn places_fit(
         &self,
         asker: &Asker<'_>,
+        caller: UserId,
         ways: &Ways,
         places: &Places,
         offer: &Option<Offer>,
     ) -> Result<(), Denial>
+        requires sound { AreSound self.now.state.tables }
         requires asker { asker.now ≡ asking_of self.now }
+        requires caller { caller ≡ asker_of self.now }
         requires ways { ways.now ≡ ways_of self.now }
         requires places { places.now ≡ places_of self.now }
         requires offer { offer.now ≡ offer_in self.now self.now.request.wanted }
         ensures rules { Follows (place_refusal (access_of self.entry.now.state)) self.entry.now result }
+        ensures exists { OnOk result (exists_rule (access_of self.entry.now.state) self.entry.now ≡ None) }
         ensures target { OnOk result (target_rule (access_of self.entry.now.state) self.entry.now ≡ None) }
     {
-        self.exists(places)?;
+        self.exists(caller, places)?;
         self.target(asker.root(), ways)?;
         self.overwrite(places)?;
-        self.sharing(asker, offer)
+        self.sharing(asker, offer)?;
+        self.upload_fits(caller)
     }
 
     #[tactic(auto, unfolding(nf_words::specs::Places::forbidden_rule))]
@@ -243,7 +267,8 @@ impl<'a> Call<'a> {
         ensures { Follows (forbidden_rule (access_of self.entry.now.state)) self.entry.now result }
     {
         let asked = self.request.wanted.asked();
-        if is_forbidden(asked.source) || is_forbidden(asked.target) {
+        let are_places = is_forbidden(asked.source) || is_forbidden(asked.target);
+        if are_places || is_forbidden_path(asked.intended) {
             Err(Denial::ForbiddenName)
         } else {
             Ok(())
@@ -251,59 +276,72 @@ impl<'a> Call<'a> {
     }
 
     #[tactic(auto, unfolding(nf_words::specs::Reached::place_rule))]
-    fn reached(&self, asker: &Asker<'_>, link: Option<&ShareRow>, ways: &Ways) -> Result<(), Denial>
+    fn reached(
+        &self,
+        asker: &Asker<'_>,
+        caller: UserId,
+        link: Option<&ShareRow>,
+        ways: &Ways,
+    ) -> Result<(), Denial>
         requires asker { asker.now ≡ asking_of self.now }
+        requires caller { caller ≡ asker_of self.now }
         requires link { option_copied link ≡ link_of self.now }
         requires ways { ways.now ≡ ways_of self.now }
         ensures { Follows (place_rule (access_of self.entry.now.state)) self.entry.now result }
     {
         let asked = self.request.wanted.asked();
-        match self.unlinked(link) {
-            Some(refusal) => Err(refusal),
-            None => match asker.places(&asked, ways) {
-                Some(refusal) => Err(refusal),
-                None => Ok(()),
-            },
-        }
+        unless(self.unlinked(link))?;
+        unless(asker.source_lost(&asked, ways))?;
+        unless(self.unopened(caller))?;
+        unless(asker.target_lost(ways))
     }
 
-    #[tactic(auto, using(nf_reach::proofs::Refusals::first_of_both), unfolding(nf_words::specs::Reached::acts_rule))]
+    #[tactic(auto, using(crate::proofs::Allowing::acts_by))]
     fn allows(&self, asker: &Asker<'_>, ways: &Ways) -> Result<(), Denial>
         requires asker { asker.now ≡ asking_of self.now }
         requires ways { ways.now ≡ ways_of self.now }
         ensures { Follows (acts_rule (access_of self.entry.now.state)) self.entry.now result }
     {
         let asked = self.request.wanted.asked();
-        match asker.acts(&asked, ways) {
-            Some(refusal) => Err(refusal),
-            None => match self.version_refused(asker) {
-                Some(refusal) => Err(refusal),
-                None => Ok(()),
-            },
-        }
+        unless(asker.acts(&asked, ways))?;
+        unless(self.version_refused(asker))
     }
 
     #[tactic(auto, unfolding(nf_words::specs::Places::exists_rule))]
-    fn exists(&self, places: &Places) -> Result<(), Denial>
-        requires { places.now ≡ places_of self.now }
+    fn exists(&self, caller: UserId, places: &Places) -> Result<(), Denial>
+        requires caller { caller ≡ asker_of self.now }
+        requires places { places.now ≡ places_of self.now }
         ensures { Follows (exists_rule (access_of self.entry.now.state)) self.entry.now result }
     {
-        let is_taken = match self.request.wanted.asked().makes {
-            Making::File { .. } => is_folder_at(self.tree(), places.target),
-            Making::Folder => node_at(places.target).is_some(),
-            Making::Nothing
+        unless(self.taken(places))?;
+        unless(self.opened(caller))
+    }
+
+    /// What is where a folder is to be made, or a folder where a file is to be stored.
+    fn taken(&self, places: &Places) -> Option<Denial>
+        ensures { result ≡ taken self.entry.now.state.tables.nodes places.now (asked_by self.entry.now).makes }
+    {
+        match self.request.wanted.asked().makes {
+            Making::File { .. } if is_folder_at(self.tree(), places.target) => {
+                Some(Denial::Exists(Route::Files))
+            }
+            Making::Folder if node_at(places.target).is_some() => {
+                Some(Denial::Exists(Route::Files))
+            }
+            Making::Assembled if is_folder_at(self.tree(), places.target) => {
+                Some(Denial::Exists(Route::Assembly))
+            }
+            Making::File { .. }
+            | Making::Folder
+            | Making::Assembled
+            | Making::Nothing
             | Making::Moved
             | Making::Copied
             | Making::Shared
             | Making::Told
             | Making::Restored { .. }
             | Making::Sent { .. }
-            | Making::Refilled { .. } => false,
-        };
-        if is_taken {
-            Err(Denial::Exists(Route::Files))
-        } else {
-            Ok(())
+            | Making::Refilled { .. } => None,
         }
     }
 
@@ -340,7 +378,11 @@ impl<'a> Call<'a> {
         let view = &self.view;
         let asked = self.request.wanted.asked();
         match &asked.makes {
-            Making::Nothing | Making::Shared | Making::Told | Making::Sent { .. } => Ok(None),
+            Making::Nothing
+            | Making::Shared
+            | Making::Told
+            | Making::Sent { .. }
+            | Making::Assembled => Ok(None),
             Making::File { length } => Ok(limit_there(view, places.target, pieces_of(*length))),
             Making::Folder => Ok(limit_there(view, places.target, 0)),
             Making::Moved => match transfer_of(view.tree(), places) {
@@ -368,7 +410,8 @@ impl<'a> Call<'a> {
             | Making::Folder
             | Making::Shared
             | Making::Told
-            | Making::Sent { .. } => None,
+            | Making::Sent { .. }
+            | Making::Assembled => None,
             Making::File { length } => excess_there(view, places.target, *length),
             Making::Moved => carry_excess(view, &transfer_of(view.tree(), places)?),
             Making::Copied => copy_excess(view, &transfer_of(view.tree(), places)?),
@@ -385,6 +428,8 @@ impl<'a> Call<'a> {
         requires ways { seen.now.ways ≡ ways_of self.now }
         requires places { seen.now.places ≡ places_of self.now }
         requires offer { seen.now.offer ≡ offer_in self.now self.now.request.wanted }
+        requires caller { seen.now.caller ≡ asker_of self.now }
+        requires exists { exists_rule (access_of self.now.state) self.now ≡ None }
         requires named { IsNamed self.now }
         requires there { IsThere self.now.state.tables seen.now.offer }
         requires few { limited self.now.state.tables (places_of self.now) (asked_by self.now).makes ≡ None }
@@ -418,6 +463,7 @@ impl<'a> Call<'a> {
             Wanted::People(ask) => people_done(alloc, view, self.now, ask),
             Wanted::Trash(ask) => self.trash_done(alloc, &self.asker_seen(seen), ask),
             Wanted::Version(ask) => self.version_done(alloc, ask),
+            Wanted::Upload(ask) => self.upload_done(alloc, seen.caller, target, ask),
         }
     }
 
@@ -483,6 +529,16 @@ impl<'a> Call<'a> {
     }
 }
 
+/// Passes unless there is a refusal.
+fn unless(refusal: Option<Denial>) -> Result<(), Denial>
+    ensures { MatchResult result (λ _. refusal ≡ None) (λ why. refusal ≡ Some why) }
+{
+    match refusal {
+        Some(refusal) => Err(refusal),
+        None => Ok(()),
+    }
+}
+
 /// Who asks, by the mount of a way, if there is one.
 fn by(seeker: Seeker, way: &Option<Way>) -> By
     ensures { result ≡ record { seeker = seeker; mount = option_and_then (λ way. way.mount) way.now } }
@@ -518,7 +574,7 @@ fn limit_there(view: &View<'_>, place: Option<Found>, pieces: u64) -> Option<Lim
     limit_at(view, &place?, pieces)
 }
 
-fn excess_there(view: &View<'_>, place: Option<Found>, length: u64) -> Option<Excess>
+pub(crate) fn excess_there(view: &View<'_>, place: Option<Found>, length: u64) -> Option<Excess>
     requires { AreSound view.now.tables }
     ensures { result ≡ option_and_then (excess_at view.now.tables length) place }
 {

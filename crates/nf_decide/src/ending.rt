@@ -4,20 +4,21 @@ ghost use Rattle.std.specs.Prelude.{◌≡◌, ◌≤◌, ◌==◌, ◌&&◌, tr
 ghost use Rattle.std.specs.Option.{ForSome, option_or};
 ghost use Rattle.nf_base.specs.declared.limits.TheConstants.{MAX_BODY};
 ghost use Rattle.nf_base.specs.declared.rows.NodeKind.TheVariants.{File};
-ghost use Rattle.nf_words.specs.Prelude.{access_of, AreSound, blob_for, content_in, end_lost, end_refusal, end_unfit, ends_goal, excess_at, IsGoalSound, IsHeld, IsStorable, limit_at, MayBring, needed_by, new_node, node_of_key, pieces_of, place_of, stored_at, stored_new, stores};
+ghost use Rattle.nf_words.specs.Prelude.{access_of, AreSound, blob_for, content_in, end_lost, end_refusal, end_unfit, ends_goal, excess_at, IsGoalSound, IsHeld, IsStorable, limit_at, MayBring, needed_by, new_file, new_node, node_of_key, pieces_of, place_of, stored_at, stored_new, stores};
 ghost use Rattle.nf_words.specs.declared.answer.By.{By as TheBy};
 ghost use Rattle.nf_words.specs.declared.answer.Denial.TheVariants.{Limit, NotFound, Quota};
 ghost use Rattle.nf_reach.specs.Asking.{refusal_for};
 ghost use Rattle.nf_decide.specs.Ending.{unreached_unless_owner};
 
 use crate::acting::{new_node, only};
+use crate::chunks::{Chunk, store_chunk};
 use crate::limits::{limit_at, pieces_of};
 use crate::nodes::{is_root, owner_of};
 use crate::quotas::excess_at;
 use crate::refilling::{push_dropped, stored_over};
 use crate::settling::{owner_charged, settled};
 use crate::view::View;
-use nf_base::{Act, BlobId, Content, Digest, Moment, Name, NodeId, NodeKind, Piece};
+use nf_base::{Act, BlobId, Changes, Content, Digest, Moment, Name, NodeId, NodeKind, Piece};
 use nf_defs::Found;
 use nf_reach::Asker;
 use nf_words::{Allowed, By, Denial, Goal, LockKey, Outcome, Report};
@@ -43,6 +44,19 @@ pub fn decide_end(
         Outcome::Body { digest, length } => match goal {
             Goal::Serve(_) => Ok(Ok(Allowed::Close)),
             Goal::Store { by, key, .. } => store(alloc, view, moment, by, key, digest, *length),
+            Goal::Chunk {
+                user,
+                dir,
+                number,
+                ..
+            } => {
+                let chunk = Chunk {
+                    user: *user,
+                    dir,
+                    number: *number,
+                };
+                store_chunk(alloc, view, moment, &chunk, digest, *length)
+            }
         },
     }
 }
@@ -203,28 +217,42 @@ fn stored_under(
     requires { AreSound view.now.tables }
     ensures { IfOk result (λ allowed. allowed ≡ stored_new view.now.tables (new_node view.now.tables moment folder name.now File content) blob) }
 {
-    let name = name.copy()?;
-    let charged = owner_charged(view, owner_of(view.tree(), folder), 0, content.size());
-    let gone = settled(alloc, view, &charged)?;
-    let row = new_node(view, moment, folder, name, NodeKind::File, content);
-    let mut changes = only(alloc, row)?;
-    push_dropped(&mut changes, &gone)?;
     Ok(Allowed::Change {
-        changes,
+        changes: new_file(alloc, view, moment, folder, name.copy()?, content)?,
         blob,
         report: Report::Made,
     })
 }
 
+/// What becomes of the rows by a new file: its own, and those of the versions that go for it.
+pub(crate) fn new_file(
+    alloc: Global,
+    view: &View<'_>,
+    moment: Moment,
+    folder: NodeId,
+    name: Name,
+    content: Content,
+) -> Result<Changes, AllocError>
+    requires { AreSound view.now.tables }
+    ensures { IfOk result (λ changes. changes ≡ new_file view.now.tables (new_node view.now.tables moment folder name File content)) }
+{
+    let charged = owner_charged(view, owner_of(view.tree(), folder), 0, content.size());
+    let gone = settled(alloc, view, &charged)?;
+    let row = new_node(view, moment, folder, name, NodeKind::File, content);
+    let mut changes = only(alloc, row)?;
+    push_dropped(&mut changes, &gone)?;
+    Ok(changes)
+}
+
 /// The blob of a body: the next one, or none for an empty body.
-fn blob_for(next: BlobId, length: u64) -> Option<BlobId>
+pub(crate) fn blob_for(next: BlobId, length: u64) -> Option<BlobId>
     ensures { result ≡ blob_for next length }
 {
     if length == 0 { None } else { Some(next) }
 }
 
 /// The content of a body in its blob.
-fn content_in(
+pub(crate) fn content_in(
     alloc: Global,
     blob: &Option<BlobId>,
     digest: &Digest,

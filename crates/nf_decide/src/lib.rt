@@ -4,6 +4,7 @@
 mod acting;
 mod asked;
 mod callers;
+mod chunks;
 mod copying;
 mod counts;
 mod deciding;
@@ -32,6 +33,7 @@ mod telling;
 mod tokens;
 mod transferring;
 mod trash;
+mod uploads;
 mod versions;
 mod view;
 

@@ -5,7 +5,7 @@ ghost use Rattle.nf_base.specs.declared.limits.TheConstants.{MAX_DEPTH, MAX_PIEC
 ghost use Rattle.nf_access.specs.Mounts.{mount_row};
 ghost use Rattle.nf_defs.specs.Tree.{content_of, node_row, walk_of};
 ghost use Rattle.nf_words.specs.Versions.{version_row};
-ghost use Rattle.nf_words.specs.Limits.{back_limit, carry_limit, copy_limit, count_of, deepest, deepest_in, last_number, limit_at, limit_passed, mount_limit, move_limit, pieces_in, pieces_of, restore_limit, versions_added};
+ghost use Rattle.nf_words.specs.Limits.{back_limit, carry_limit, copy_limit, count_of, deepest, deepest_in, last_number, limit_at, limit_passed, limit_with, mount_limit, move_limit, pieces_in, pieces_of, restore_limit, versions_added};
 ghost use Rattle.nf_words.specs.Contents.{stored_pieces};
 ghost use Rattle.nf_words.specs.People.{are_many_groups, are_many_nodes, are_many_tokens, are_many_users, new_user_limit};
 ghost use Rattle.nf_words.specs.Sharing.{offer_limit};
@@ -25,18 +25,25 @@ use nf_tree::Tree;
 use nf_words::{Limit, Offer, Transfer};
 use std::alloc::{AllocError, Global};
 
-/// The limit that is passed where a content of so many pieces is put there.
+/// The limit that is passed where a content of so many pieces, all in new blobs, is put there.
 pub(crate) fn limit_at(view: &View<'_>, place: &Found, pieces: u64) -> Option<Limit>
     ensures { result ≡ limit_at view.now.tables pieces place.now }
+{
+    limit_with(view, place, u128::from(pieces), pieces)
+}
+
+/// The same where so many of them are in new blobs.
+pub(crate) fn limit_with(view: &View<'_>, place: &Found, pieces: u128, blobs: u64) -> Option<Limit>
+    ensures { result ≡ limit_with view.now.tables pieces blobs place.now }
 {
     match place {
         Found::At(node) => {
             let versions = versions_added(view, *node, None);
-            limit_passed(view, 0, 0, versions, u128::from(pieces), pieces)
+            limit_passed(view, 0, 0, versions, pieces, blobs)
         }
         Found::Free { folder } => {
             let deep = view.tree().depth(*folder) + 1;
-            limit_passed(view, 1, deep, 0, u128::from(pieces), pieces)
+            limit_passed(view, 1, deep, 0, pieces, blobs)
         }
         Found::Missing { .. } => None,
     }
@@ -280,7 +287,7 @@ pub(crate) fn back_limit(view: &View<'_>, node: NodeId, at: Moment) -> Option<Li
 
 /// The first limit that is passed by so many nodes more, the deepest of them so deep, so many versions and pieces more, and so many new
 /// blobs.
-fn limit_passed(
+pub(crate) fn limit_passed(
     view: &View<'_>,
     nodes: u64,
     deep: u32,
@@ -316,7 +323,7 @@ fn are_many(view: &View<'_>, pieces: u128) -> bool
     passes(all_pieces, Limit::Pieces)
 }
 
-fn passes(count: u128, limit: Limit) -> bool
+pub(crate) fn passes(count: u128, limit: Limit) -> bool
     ensures { result ≡ nat_lt (count_of limit) count }
 {
     count > u128::from(limit.count())

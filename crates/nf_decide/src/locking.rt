@@ -72,7 +72,8 @@ fn slot_back(alloc: Global, view: &View<'_>, makes: &Making) -> Result<Option<Lo
         | Making::Shared
         | Making::Told
         | Making::Sent { .. }
-        | Making::Refilled { .. } => Ok(None),
+        | Making::Refilled { .. }
+        | Making::Assembled => Ok(None),
     }
 }
 
@@ -109,7 +110,7 @@ fn touches<'a>(
     let tree = view.tree();
     match asked.makes {
         Making::Nothing => source_touches(alloc, tree, asked.removes, node_at(places.source)),
-        Making::File { .. } | Making::Folder => {
+        Making::File { .. } | Making::Folder | Making::Assembled => {
             target_touches(alloc, target_name(asked), places.target)
         }
         Making::Moved => {

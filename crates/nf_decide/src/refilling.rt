@@ -6,7 +6,7 @@ ghost use Rattle.std.specs.Option.{option_map_or};
 ghost use Rattle.nf_base.specs.declared.changes.Change.TheVariants.{Drop, Put};
 ghost use Rattle.nf_base.specs.declared.changes.RowKey.TheVariants as keys;
 ghost use Rattle.nf_base.specs.declared.rows.Row.TheVariants as rows;
-ghost use Rattle.nf_defs.specs.Tree.{filled, is_file, is_folder_kind, node_row};
+ghost use Rattle.nf_defs.specs.Tree.{filled, is_file, is_folder, is_folder_kind, node_row};
 ghost use Rattle.nf_retention.specs.Thinning.{AreFalling};
 ghost use Rattle.nf_retention.specs.declared.versions.Version.{Version as TheVersion};
 ghost use Rattle.nf_words.specs.Changes.{brought_back, charged, is_same, nothing_done, refilled, refills};
@@ -34,6 +34,7 @@ struct Refill<'a> {
 }
 
 /// Another content of a file, whose body is in that blob.
+#[tactic(auto, using(crate::proofs::Refills::no_folder))]
 pub(crate) fn stored_over(
     alloc: Global,
     view: &View<'_>,
@@ -54,9 +55,9 @@ pub(crate) fn stored_over(
     })
 }
 
-/// What becomes of the rows where that is another content.
+/// What becomes of the rows where that is another content, if a file is there.
 #[tactic(auto, using(crate::proofs::Refills::row_itself))]
-fn refilled(
+pub(crate) fn refilled(
     alloc: Global,
     view: &View<'_>,
     moment: Moment,
@@ -65,7 +66,7 @@ fn refilled(
 ) -> Result<Changes, AllocError>
     requires sound { AreSound view.now.tables }
     requires late { view.now.tables.meta.last ≤ moment }
-    requires file { is_file view.now.tables.nodes node ≡ true }
+    requires file { is_folder view.now.tables.nodes node ≡ false }
     ensures { IfOk result (λ changes. changes ≡ option_map_or (refilled view.now.tables moment content) (node_row view.now.tables.nodes node) []) }
 {
     match view.tree().node(node) {

@@ -52,7 +52,8 @@ impl<'a> Call<'a> {
             Wanted::People(ask) => self.people_unnamed(ask),
             Wanted::Trash(ask) => self.untrashed(asker, ask),
             Wanted::Version(ask) => self.unversioned(asker, ask),
-            Wanted::Get(_)
+            Wanted::Upload(_)
+            | Wanted::Get(_)
             | Wanted::Put { .. }
             | Wanted::Mkcol(_)
             | Wanted::Delete(_)
@@ -114,6 +115,7 @@ impl<'a> Call<'a> {
             Wanted::People(ask) => self.people_fault(ask),
             Wanted::Trash(_)
             | Wanted::Version(_)
+            | Wanted::Upload(_)
             | Wanted::Get(_)
             | Wanted::Put { .. }
             | Wanted::Mkcol(_)
@@ -389,6 +391,7 @@ impl<'a> Call<'a> {
             Wanted::People(_)
             | Wanted::Trash(_)
             | Wanted::Version(_)
+            | Wanted::Upload(_)
             | Wanted::Get(_)
             | Wanted::Put { .. }
             | Wanted::Mkcol(_)

@@ -7,12 +7,12 @@ ghost use Rattle.nf_base.specs.declared.rows.NodeRow.{NodeRow};
 ghost use Rattle.nf_base.specs.declared.rows.Row.TheVariants as kinds;
 ghost use Rattle.nf_base.specs.declared.rows.MetaRow.{MetaRow};
 ghost use Rattle.nf_defs.specs.Prelude.{drop_row, dropped, item_key, item_row, made, node_key, node_row, put, put_all, rows_of};
-ghost use Rattle.nf_words.specs.Prelude.{above, blob_after, changed, counted, deed_done, deeds_done, discarded, forgotten, goal_of, joined, last_number, purged, purges, restored, versions_there};
+ghost use Rattle.nf_words.specs.Prelude.{above, blob_after, changed, counted, deed_done, deeds_done, discarded, forgotten, goal_of, joined, last_number, purged, purges, replaced, restored, versions_there};
 ghost use Rattle.nf_words.specs.declared.answer.Report.TheVariants.{Done};
 ghost use Rattle.nf_words.specs.declared.answer.Allowed.TheVariants as allowed;
-ghost use Rattle.nf_decide.specs.Current.{AreBorne, AreGiven, BearsAct, BearsChanges, BearsCopies, BearsDeed, BearsDeeds, BearsPlace, IsBorne, IsCounted, IsDroppedKey, IsNew, IsRefilled, LeadUpBehind, added_by, added_deed, added_deeds, added_of};
+ghost use Rattle.nf_decide.specs.Current.{AreBorne, AreGiven, BearsAct, BearsChanges, BearsCopies, BearsDeed, BearsDeeds, BearsPlace, IsBorne, IsCounted, IsDroppedKey, IsNew, IsRefilled, LeadUpBehind, StoresFirst, added_by, added_deed, added_deeds, added_of};
 ghost use Rattle.nf_decide.specs.Gone.{item_gone};
-ghost use Rattle.nf_decide.specs.Rows.{rows_of_others};
+ghost use Rattle.nf_decide.specs.Rows.{rows_beside, rows_of_others};
 ghost use Rattle.nf_rules.specs.Ruled.{AreRuled};
 ghost use Rattle.nf_decide.specs.Counts.{FitsNodes, FitsRows, IsNoSmaller, only_nodes};
 
@@ -20,8 +20,8 @@ use crate::counts::RowCounts;
 use crate::people_put::{put_group, put_member, put_token, put_user};
 use crate::view::View;
 use nf_base::{
-    BlobId, Change, Changes, GroupId, ItemRow, MetaRow, Moment, MountRow, Name, NodeId, NodeRow,
-    Row, RowKey, RowList, ShareId, ShareRow, UserId, VersionRow,
+    BlobId, Change, Changes, ChunkRow, GroupId, ItemRow, MetaRow, Moment, MountRow, Name, NodeId,
+    NodeRow, Row, RowKey, RowList, ShareId, ShareRow, UploadRow, UserId, VersionRow,
 };
 use nf_mounts::Mounts;
 use nf_opening::Loaded;
@@ -30,11 +30,12 @@ use nf_shares::Shares;
 use nf_table::{Table, VersionKey};
 use nf_trash::Trash;
 use nf_tree::Tree;
+use nf_uploads::Uploads;
 use nf_words::{Allowed, Deed, Deeds, Goal, NodeRows, Ticket};
 use std::alloc::{AllocError, Global};
 use std::marker::Model;
 
-/// The rows of each kind that is built; there are none of the others.
+/// The rows of each kind.
 #[derive(Drop)]
 pub(crate) struct Tables {
     meta: MetaRow,
@@ -44,6 +45,7 @@ pub(crate) struct Tables {
     mounts: Mounts,
     versions: Table<VersionRow>,
     items: Trash,
+    uploads: Uploads,
 }
 
 impl Model for Tables {
@@ -52,7 +54,7 @@ impl Model for Tables {
     ghost Value = { Rows };
 
     ghost view = { λ t. record {
-      tables = tables_in t.meta t.people t.tree.rows t.shares.rows t.mounts.rows t.versions.rows t.items.rows;
+      tables = tables_in t.meta t.people t.tree.rows t.shares.rows t.mounts.rows t.versions.rows t.items.rows t.uploads.uploads t.uploads.chunks;
       room = record {
         users = t.people.room.users;
         tokens = t.people.room.tokens;
@@ -63,6 +65,8 @@ impl Model for Tables {
         mounts = t.mounts.room;
         versions = t.versions.room;
         items = t.items.room;
+        uploads = t.uploads.upload_room;
+        chunks = t.uploads.chunk_room;
       };
     } };
 }
@@ -86,6 +90,7 @@ impl Tables {
             mounts: Mounts::load(alloc, parts.mounts)?,
             versions: Table::of(parts.versions),
             items: Trash::load(alloc, parts.items)?,
+            uploads: Uploads::of(parts.uploads, parts.chunks),
         })
     }
 
@@ -107,6 +112,7 @@ impl Tables {
             mounts: &self.mounts,
             versions: &self.versions,
             items: &self.items,
+            uploads: &self.uploads,
             tickets,
             seen,
         }
@@ -122,6 +128,7 @@ impl Tables {
         self.mounts.keeps();
         let _ = self.versions.count();
         let _ = self.items.count();
+        let _ = (self.uploads.count(), self.uploads.chunk_count());
     }
 
     /// Makes room for so many rows more.
@@ -138,7 +145,8 @@ impl Tables {
         self.shares.reserve(added.shares)?;
         self.mounts.reserve(added.mounts)?;
         self.versions.reserve(added.versions)?;
-        self.items.reserve(added.items)
+        self.items.reserve(added.items)?;
+        self.uploads.reserve(added.uploads, added.chunks)
     }
 
     /// Makes the changes of an act, and answers what it grants.
@@ -152,6 +160,17 @@ impl Tables {
         match act {
             Allowed::Get { node: _, content } => Some(Goal::Serve(content)),
             Allowed::Put { by, key, length } => Some(Goal::Store { by, key, length }),
+            Allowed::Chunk {
+                user,
+                dir,
+                number,
+                length,
+            } => Some(Goal::Chunk {
+                user,
+                dir,
+                number,
+                length,
+            }),
             Allowed::List(_) | Allowed::Close => None,
             Allowed::Change { changes, blob, .. } => {
                 self.change(moment, changes, blob);
@@ -183,14 +202,15 @@ impl Tables {
         requires room { FitsRows self.old.tables self.old.room (added_of self.old.tables.meta.next_node changes) }
         requires borne { AreBorne self.old.tables.meta.next_node self.old.tables changes }
         requires rising { AllPairs (λ (a b : NodeRow). a.id < b.id) self.old.tables.nodes }
-        ensures { self.new.tables ≡ put_all self.old.tables changes }
+        ensures tables { self.new.tables ≡ put_all self.old.tables changes }
+        ensures room { IsNoSmaller self.old.room self.new.room }
     {
         for change in changes.into_vec() {
             self.make(change);
         }
     }
 
-    /// Makes a change. Only rows of people, of nodes, of shares, of mounts, of versions and of the trash are changed yet.
+    /// Makes a change. The meta row is none.
     fn make(&mut self, change: Change)
         requires room { FitsRows self.old.tables self.old.room (added_of self.old.tables.meta.next_node (change ∷ [])) }
         requires borne { IsBorne self.old.tables.meta.next_node self.old.tables change }
@@ -208,7 +228,9 @@ impl Tables {
             Change::Put(Row::Mount(row)) => self.mounts.put(row),
             Change::Put(Row::Version(row)) => self.versions.put(row),
             Change::Put(Row::Item(row)) => self.items.put(row),
-            Change::Put(_) => unreachable!(),
+            Change::Put(Row::Upload(row)) => self.uploads.put_upload(row),
+            Change::Put(Row::Chunk(row)) => self.uploads.put_chunk(row),
+            Change::Put(Row::Meta(_)) => unreachable!(),
         }
     }
 
@@ -240,8 +262,9 @@ impl Tables {
 
     /// Does some deeds, one after the other. Where there is no memory to gather items that go for good, they go one by one.
     fn perform_all(&mut self, moment: Moment, deeds: Deeds)
-        requires room { FitsRows self.old.tables self.old.room (added_deeds deeds) }
+        requires room { FitsRows self.old.tables self.old.room (added_deeds self.old.tables.meta.next_node deeds) }
         requires bears { BearsDeeds self.old.tables deeds }
+        requires order { StoresFirst deeds }
         ensures { self.new.tables ≡ changed self.old.tables moment (allowed.Deeds deeds Done) }
     {
         let deeds = deeds.into_vec();
@@ -254,8 +277,9 @@ impl Tables {
 
     /// Items that go for good one after the other go together, in one pass over the rows.
     fn perform_each(&mut self, deeds: Vec<Deed>)
-        requires room { FitsRows self.old.tables self.old.room (added_deeds deeds.items) }
+        requires room { FitsRows self.old.tables self.old.room (added_deeds self.old.tables.meta.next_node deeds.items) }
         requires bears { BearsDeeds self.old.tables deeds.items }
+        requires order { StoresFirst deeds.items }
         ensures { self.new.tables ≡ deeds_done self.old.tables deeds.items }
     {
         let mut run = Vec::new(*deeds.allocator());
@@ -327,7 +351,7 @@ impl Tables {
     }
 
     fn perform(&mut self, deed: Deed)
-        requires room { FitsRows self.old.tables self.old.room (added_deed deed) }
+        requires room { FitsRows self.old.tables self.old.room (added_deed self.old.tables.meta.next_node deed) }
         requires bears { BearsDeed self.old.tables deed }
         ensures tables { self.new.tables ≡ deed_done self.old.tables deed }
         ensures room { IsNoSmaller self.old.room self.new.room }
@@ -340,7 +364,22 @@ impl Tables {
             Deed::Join(rows) => self.join(rows),
             Deed::Requote(row) => put_user(&mut self.people, row),
             Deed::Forget { node, at } => self.forget(node, at),
+            Deed::Store(changes) => self.store(changes),
+            Deed::Abandon { user, dir } => self.uploads.abandon(user, &dir),
         }
+    }
+
+    /// Makes some changes, with the counters above the numbers that they put.
+    fn store(&mut self, changes: Changes)
+        requires room { FitsRows self.old.tables self.old.room (added_of self.old.tables.meta.next_node changes) }
+        requires bears { BearsChanges self.old.tables changes None }
+        requires given { AreGiven self.old.tables }
+        ensures tables { self.new.tables ≡ replaced self.old.tables changes }
+        ensures room { IsNoSmaller self.old.room self.new.room }
+    {
+        let meta = counted(&self.meta, changes.as_slice());
+        self.put_all(changes);
+        self.meta = meta;
     }
 
     /// Puts a node in the trash with all under it, as that item, and ends the shares there.
@@ -436,8 +475,17 @@ impl Tables {
         push_nodes(list, self.tree.nodes())?;
         push_shares(list, self.shares.rows())?;
         push_mounts(list, self.mounts.rows())?;
+        self.push_beside(list)
+    }
+
+    /// Puts those of versions, of the trash and of uploads there.
+    fn push_beside(&self, list: &mut RowList) -> Result<(), AllocError>
+        ensures { OnOk result (list.new ≡ list.old ++ rows_beside self.now.tables) }
+    {
         push_versions(list, self.versions.rows())?;
-        push_items(list, self.items.rows())
+        push_items(list, self.items.rows())?;
+        push_uploads(list, self.uploads.uploads())?;
+        push_chunks(list, self.uploads.chunks())
     }
 }
 
@@ -450,6 +498,8 @@ struct Parts {
     mounts: Vec<MountRow>,
     versions: Vec<VersionRow>,
     items: Vec<ItemRow>,
+    uploads: Vec<UploadRow>,
+    chunks: Vec<ChunkRow>,
 }
 
 fn split(loaded: Loaded) -> Parts
@@ -462,6 +512,8 @@ fn split(loaded: Loaded) -> Parts
     ensures mounts { result.mounts.items ≡ loaded.mounts }
     ensures versions { result.versions.items ≡ loaded.versions }
     ensures items { result.items.items ≡ loaded.items }
+    ensures uploads { result.uploads.items ≡ loaded.uploads }
+    ensures chunks { result.chunks.items ≡ loaded.chunks }
 {
     Parts {
         people: PeopleRows {
@@ -475,6 +527,8 @@ fn split(loaded: Loaded) -> Parts
         mounts: loaded.mounts,
         versions: loaded.versions,
         items: loaded.items,
+        uploads: loaded.uploads,
+        chunks: loaded.chunks,
     }
 }
 
@@ -560,6 +614,40 @@ fn push_items(list: &mut RowList, items: &[ItemRow]) -> Result<(), AllocError>
     Ok(())
 }
 
+/// An equal upload.
+fn copy_upload(upload: &UploadRow) -> Result<UploadRow, AllocError>
+    ensures { IfOk result (λ copy. copy ≡ upload.now) }
+{
+    upload.clone()
+}
+
+/// Puts uploads at the end of a list of rows.
+fn push_uploads(list: &mut RowList, uploads: &[UploadRow]) -> Result<(), AllocError>
+    ensures { OnOk result (list.new ≡ list.old ++ map kinds.Upload uploads.now) }
+{
+    for upload in uploads {
+        list.push(Row::Upload(copy_upload(upload)?))?;
+    }
+    Ok(())
+}
+
+/// An equal chunk.
+fn copy_chunk(chunk: &ChunkRow) -> Result<ChunkRow, AllocError>
+    ensures { IfOk result (λ copy. copy ≡ chunk.now) }
+{
+    chunk.clone()
+}
+
+/// Puts chunks at the end of a list of rows.
+fn push_chunks(list: &mut RowList, chunks: &[ChunkRow]) -> Result<(), AllocError>
+    ensures { OnOk result (list.new ≡ list.old ++ map kinds.Chunk chunks.now) }
+{
+    for chunk in chunks {
+        list.push(Row::Chunk(copy_chunk(chunk)?))?;
+    }
+    Ok(())
+}
+
 /// An equal version.
 fn copy_version(version: &VersionRow) -> Result<VersionRow, AllocError>
     ensures { IfOk result (λ copy. copy ≡ version.now) }
@@ -608,15 +696,23 @@ pub(crate) fn raised(
     requires blob { blob_after meta.now.next_blob blob ≤ max meta.now.next_blob last_number }
     ensures { result ≡ record (counted meta.now changes.now) { next_blob = blob_after meta.now.next_blob blob; last = moment } }
 {
+    MetaRow {
+        next_blob: blob_after(meta.next_blob, blob),
+        last: moment,
+        ..counted(meta, changes)
+    }
+}
+
+/// The meta row with its counters above the numbers that some changes put.
+pub(crate) fn counted(meta: &MetaRow, changes: &[Change]) -> MetaRow
+    requires { All (IsCounted meta.now) changes.now }
+    ensures { result ≡ counted meta.now changes.now }
+{
     let mut counted = *meta;
     for change in changes {
         counted = above(counted, change);
     }
-    MetaRow {
-        next_blob: blob_after(meta.next_blob, blob),
-        last: moment,
-        ..counted
-    }
+    counted
 }
 
 /// The meta row with its counters above the number that is put.

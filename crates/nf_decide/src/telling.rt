@@ -1,30 +1,30 @@
 //! What an act changes, told as a list of the rows that differ.
 
-ghost use Rattle.std.specs.Prelude.{◌≡◌, ◌+◌, ◌≤◌, count_by, max, true, false, [], ◌∷◌, ◌++◌, map, IfOk, OnOk};
+ghost use Rattle.std.specs.Prelude.{◌≡◌, count_by, true, false, [], ◌∷◌, ◌++◌, map, IfOk, OnOk};
 ghost use Rattle.std.specs.List.{flat_map};
 ghost use Rattle.nf_base.specs.declared.changes.Change.TheVariants as change;
 ghost use Rattle.nf_base.specs.declared.changes.RowKey.TheVariants as keys;
 ghost use Rattle.nf_base.specs.declared.rows.Row.TheVariants as kinds;
 ghost use Rattle.nf_defs.specs.Tree.{is_leaf, is_under, node_row, relinked, trashed};
-ghost use Rattle.nf_words.specs.Limits.{last_number};
 ghost use Rattle.nf_words.specs.Changes.{blob_of, changes_of, hold_of, meta_after, told, with_meta};
 ghost use Rattle.nf_words.specs.Versions.{forgotten_of};
 ghost use Rattle.nf_words.specs.Deeds.{closed_under, dropped_under, ended_row, gone_under, is_closing, told_deed, told_deeds, told_node};
 ghost use Rattle.nf_words.specs.declared.answer.Deed.TheVariants as deeds;
 ghost use Rattle.nf_words.specs.declared.answer.LockKey.TheVariants as lock_keys;
 ghost use Rattle.nf_words.specs.declared.answer.Mode.TheVariants.{Exclusive, Shared};
-ghost use Rattle.nf_decide.specs.Current.{BearsAct, added_by, added_deeds, added_of, discards, is_counted, is_fresh, nodes_joined, puts_group, puts_item, puts_member, puts_mount, puts_share, puts_token, puts_user, puts_version, requotes, rows_joined};
+ghost use Rattle.nf_decide.specs.Counts.{only_nodes};
+ghost use Rattle.nf_decide.specs.Current.{BearsAct, CountsDeed, CountsDeeds, added_by, added_deeds, added_of, counted_by, counted_with, discards, is_counted, is_fresh, nodes_joined, puts_chunk, puts_group, puts_item, puts_member, puts_mount, puts_share, puts_token, puts_upload, puts_user, puts_version, requotes, rows_joined};
 ghost use Rattle.nf_decide.specs.Gone.{TellsDeeds, closed_entry, told_first, told_gone};
 
 use crate::counts::RowCounts;
 use crate::items::item_row;
 use crate::refilling::dropped;
-use crate::tables::{copy, copy_item, raised};
+use crate::tables::{copy, copy_item, counted, raised};
 use crate::versions::versions_of;
 use crate::view::View;
 use nf_base::{
     BlobId, Change, Changes, ItemRow, MetaRow, Moment, Name, NodeId, NodeRow, Place, Row, RowKey,
-    ShareId, ShareRow, UserRow, VersionRow,
+    ShareId, ShareRow, UserId, UserRow, VersionRow,
 };
 use nf_tree::Tree;
 use nf_words::{Allowed, Deed, Hold, LockKey, Mode};
@@ -39,6 +39,8 @@ enum Counted {
     Mount,
     Version,
     Item,
+    Upload,
+    Chunk,
     User,
     Token,
     Group,
@@ -79,9 +81,11 @@ fn told(alloc: Global, view: &View<'_>, act: &Allowed) -> Result<Changes, AllocE
     match act {
         Allowed::Change { changes, .. } => changes.copy(alloc),
         Allowed::Deeds { deeds, .. } => told_deeds(alloc, view, deeds.as_slice()),
-        Allowed::Get { .. } | Allowed::List(_) | Allowed::Put { .. } | Allowed::Close => {
-            Ok(Changes::new(alloc))
-        }
+        Allowed::Get { .. }
+        | Allowed::List(_)
+        | Allowed::Put { .. }
+        | Allowed::Chunk { .. }
+        | Allowed::Close => { Ok(Changes::new(alloc)) }
     }
 }
 
@@ -279,7 +283,41 @@ fn push_deed(
         Deed::Join(rows) => put_all(changes, rows.rows()),
         Deed::Requote(row) => changes.push(Change::Put(Row::User(row.clone()?))),
         Deed::Forget { node, at } => changes.push(dropped(*node, *at)),
+        Deed::Store(stored) => push_all(changes, stored.copy(alloc)?),
+        Deed::Abandon { user, dir } => push_abandoned(view, *user, dir, changes),
     }
+}
+
+/// Some changes as they are.
+fn push_all(changes: &mut Changes, all: Changes) -> Result<(), AllocError>
+    ensures { OnOk result (changes.new ≡ changes.old ++ all) }
+{
+    for change in all.into_vec() {
+        changes.push(change)?;
+    }
+    Ok(())
+}
+
+/// The chunks of an upload are dropped, and then the upload.
+fn push_abandoned(
+    view: &View<'_>,
+    user: UserId,
+    dir: &Name,
+    changes: &mut Changes,
+) -> Result<(), AllocError>
+    ensures { OnOk result (changes.new ≡ changes.old ++ told_deed view.now.tables (deeds.Abandon user dir.now)) }
+{
+    for chunk in view.uploads().chunks_of(user, dir) {
+        changes.push(Change::Drop(RowKey::Chunk {
+            user: chunk.user,
+            dir: chunk.dir.copy()?,
+            number: chunk.number,
+        }))?;
+    }
+    changes.push(Change::Drop(RowKey::Upload {
+        user,
+        dir: dir.copy()?,
+    }))
 }
 
 /// The node of an item is in the trash, the item is there, and the shares of what is under the node are ended.
@@ -369,23 +407,51 @@ fn meta_after(view: &View<'_>, moment: Moment, act: &Allowed) -> MetaRow
     match act {
         Allowed::Change { changes, blob, .. } => raised(meta, moment, changes.as_slice(), *blob),
         Allowed::Deeds { deeds, .. } => MetaRow {
-            next_node: next_node(meta.next_node, deeds.as_slice()),
             last: moment,
-            ..*meta
+            ..counted_by(meta, deeds.as_slice())
         },
-        Allowed::Get { .. } | Allowed::List(_) | Allowed::Put { .. } | Allowed::Close => MetaRow {
+        Allowed::Get { .. }
+        | Allowed::List(_)
+        | Allowed::Put { .. }
+        | Allowed::Chunk { .. }
+        | Allowed::Close => MetaRow {
             last: moment,
             ..*meta
         },
     }
 }
 
-/// The next number of a node after some deeds.
-fn next_node(next: NodeId, deeds: &[Deed]) -> NodeId
-    requires { next + nodes_joined deeds.now ≤ max next last_number }
-    ensures { result ≡ next + nodes_joined deeds.now }
+/// The meta row with its counters after some deeds.
+fn counted_by(meta: &MetaRow, deeds: &[Deed]) -> MetaRow
+    requires { CountsDeeds meta.now deeds.now }
+    ensures { result ≡ counted_by meta.now deeds.now }
 {
-    NodeId::new(next.number() + nodes_joined(deeds) as u64)
+    let mut counted = *meta;
+    for deed in deeds {
+        counted = counted_with(&counted, deed);
+    }
+    counted
+}
+
+/// And after one.
+fn counted_with(meta: &MetaRow, deed: &Deed) -> MetaRow
+    requires { CountsDeed meta.now deed.now }
+    ensures { result ≡ counted_with meta.now deed.now }
+{
+    match deed {
+        Deed::Join(rows) => MetaRow {
+            next_node: NodeId::new(meta.next_node.number() + rows.rows().len() as u64),
+            ..*meta
+        },
+        Deed::Store(changes) => counted(meta, changes.as_slice()),
+        Deed::Discard(_)
+        | Deed::Purge(_)
+        | Deed::Restore { .. }
+        | Deed::Relink { .. }
+        | Deed::Requote(_)
+        | Deed::Forget { .. }
+        | Deed::Abandon { .. } => *meta,
+    }
 }
 
 /// How many nodes are made by some deeds.
@@ -405,12 +471,14 @@ fn rows_joined(deed: &Deed) -> usize
 {
     match deed {
         Deed::Join(rows) => rows.rows().len(),
-        Deed::Discard(_)
+        Deed::Store(_)
+        | Deed::Discard(_)
         | Deed::Purge(_)
         | Deed::Restore { .. }
         | Deed::Relink { .. }
         | Deed::Requote(_)
-        | Deed::Forget { .. } => 0,
+        | Deed::Forget { .. }
+        | Deed::Abandon { .. } => 0,
     }
 }
 
@@ -420,16 +488,28 @@ pub fn added_by(view: &View<'_>, act: &Allowed) -> RowCounts
 {
     match act {
         Allowed::Change { changes, .. } => added_of(view.meta().next_node, changes.as_slice()),
-        Allowed::Get { .. } | Allowed::List(_) | Allowed::Put { .. } | Allowed::Close => {
-            RowCounts::only_nodes(0)
-        }
-        Allowed::Deeds { deeds, .. } => added_deeds(deeds.as_slice()),
+        Allowed::Get { .. }
+        | Allowed::List(_)
+        | Allowed::Put { .. }
+        | Allowed::Chunk { .. }
+        | Allowed::Close => { RowCounts::only_nodes(0) }
+        Allowed::Deeds { deeds, .. } => added_deeds(view.meta().next_node, deeds.as_slice()),
     }
 }
 
-/// How many rows some deeds add at most: copies, items of the trash, and a user.
-fn added_deeds(deeds: &[Deed]) -> RowCounts
-    ensures { result ≡ added_deeds deeds.now }
+/// How many rows some deeds add at most. Behind changes that are stored nothing is added.
+fn added_deeds(next: NodeId, deeds: &[Deed]) -> RowCounts
+    ensures { result ≡ added_deeds next deeds.now }
+{
+    match deeds.first() {
+        Some(Deed::Store(changes)) => added_of(next, changes.as_slice()),
+        _ => added_otherwise(deeds),
+    }
+}
+
+/// What deeds add where none stores changes: copies, items of the trash, and a user.
+fn added_otherwise(deeds: &[Deed]) -> RowCounts
+    ensures { result ≡ record (only_nodes (nodes_joined deeds.now)) { users = count_by requotes deeds.now; items = count_by discards deeds.now } }
 {
     RowCounts {
         items: deeds.iter().filter(|deed| discards(deed)).count(),
@@ -464,6 +544,8 @@ fn added_of(next: NodeId, changes: &[Change]) -> RowCounts
         mounts: change_count(&Counted::Mount, changes),
         versions: change_count(&Counted::Version, changes),
         items: change_count(&Counted::Item, changes),
+        uploads: change_count(&Counted::Upload, changes),
+        chunks: change_count(&Counted::Chunk, changes),
     }
 }
 
@@ -490,6 +572,8 @@ fn is_counted(counted: &Counted, change: &Change) -> bool
         Counted::Mount => puts_mount(change),
         Counted::Version => puts_version(change),
         Counted::Item => puts_item(change),
+        Counted::Upload => puts_upload(change),
+        Counted::Chunk => puts_chunk(change),
         Counted::User => puts_user(change),
         Counted::Token => puts_token(change),
         Counted::Group => puts_group(change),
@@ -531,6 +615,18 @@ fn puts_item(change: &Change) -> bool
     matches!(change, Change::Put(Row::Item(_)))
 }
 
+fn puts_upload(change: &Change) -> bool
+    ensures { result ≡ puts_upload change.now }
+{
+    matches!(change, Change::Put(Row::Upload(_)))
+}
+
+fn puts_chunk(change: &Change) -> bool
+    ensures { result ≡ puts_chunk change.now }
+{
+    matches!(change, Change::Put(Row::Chunk(_)))
+}
+
 fn puts_user(change: &Change) -> bool
     ensures { result ≡ puts_user change.now }
 {
@@ -564,6 +660,7 @@ pub fn blob_of(act: &Allowed) -> Option<BlobId>
         Allowed::Get { .. }
         | Allowed::List(_)
         | Allowed::Put { .. }
+        | Allowed::Chunk { .. }
         | Allowed::Deeds { .. }
         | Allowed::Close => None,
     }
@@ -576,9 +673,11 @@ pub fn hold_of(act: &Allowed) -> Result<Option<Hold>, AllocError>
     match act {
         Allowed::Get { node, .. } => Ok(Some(beside(*node))),
         Allowed::Put { key, .. } => Ok(Some(alone(key)?)),
-        Allowed::List(_) | Allowed::Change { .. } | Allowed::Deeds { .. } | Allowed::Close => Ok(
-            None,
-        ),
+        Allowed::List(_)
+        | Allowed::Chunk { .. }
+        | Allowed::Change { .. }
+        | Allowed::Deeds { .. }
+        | Allowed::Close => Ok(None),
     }
 }
 

@@ -103,6 +103,7 @@ impl<'a> Call<'a> {
             Wanted::Share(_)
             | Wanted::People(_)
             | Wanted::Trash(_)
+            | Wanted::Upload(_)
             | Wanted::Get(_)
             | Wanted::Put { .. }
             | Wanted::Mkcol(_)

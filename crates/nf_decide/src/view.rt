@@ -20,10 +20,11 @@ use nf_shares::Shares;
 use nf_table::Table;
 use nf_trash::Trash;
 use nf_tree::Tree;
+use nf_uploads::Uploads;
 use nf_words::Ticket;
 use std::marker::Model;
 
-/// The rows of each kind that is built, the tickets and the greatest moment seen. There are no rows of the other kinds.
+/// The rows of each kind, the tickets and the greatest moment seen.
 #[derive(Drop)]
 pub struct View<'a> {
     pub meta: &'a MetaRow,
@@ -33,6 +34,7 @@ pub struct View<'a> {
     pub mounts: &'a Mounts,
     pub versions: &'a Table<VersionRow>,
     pub items: &'a Trash,
+    pub uploads: &'a Uploads,
     pub tickets: &'a [Ticket],
     pub seen: Moment,
 }
@@ -44,7 +46,7 @@ impl<'a> Model for View<'a> {
     ghost Value = { State };
 
     ghost view = { λ v. record {
-      tables = tables_in v.meta.now v.people.now v.tree.now.rows v.shares.now.rows v.mounts.now.rows v.versions.now.rows v.items.now.rows;
+      tables = tables_in v.meta.now v.people.now v.tree.now.rows v.shares.now.rows v.mounts.now.rows v.versions.now.rows v.items.now.rows v.uploads.now.uploads v.uploads.now.chunks;
       tickets = v.tickets.now;
       seen = v.seen;
     } };
@@ -114,6 +116,14 @@ impl<'a> View<'a> {
         self.items
     }
 
+    /// The uploads and their chunks.
+    pub(crate) fn uploads(&self) -> &Uploads
+        ensures uploads { result.now.uploads ≡ self.now.tables.uploads }
+        ensures chunks { result.now.chunks ≡ self.now.tables.chunks }
+    {
+        self.uploads
+    }
+
     pub(crate) fn tickets(&self) -> &[Ticket]
         ensures { result.now ≡ self.now.tickets }
     {
@@ -152,7 +162,7 @@ impl<'a> View<'a> {
     pub(crate) fn stored_pieces(&self) -> u128
         ensures { result ≡ stored_pieces self.now.tables }
     {
-        self.tree.pieces() as u128 + pieces_in(self.versions.rows())
+        self.tree.pieces() as u128 + (pieces_in(self.versions.rows()) + self.uploads.pieces())
     }
 
     /// Tells callers that the nodes are by rising number; it does nothing.

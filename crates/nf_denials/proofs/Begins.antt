@@ -13,11 +13,11 @@ use Rattle.nf_defs.specs.declared.Found.TheVariants.{At, Free, Missing}
 use Rattle.nf_defs.specs.Prelude.{Access, is_folder}
 use Rattle.nf_defs.specs.declared.Seeker.{Seeker}
 use Rattle.nf_words.proofs.Orders.{first_of}
-use Rattle.nf_words.specs.Places.{has_forbidden, taken}
+use Rattle.nf_words.specs.Places.{has_forbidden, is_open, opened_by, taken}
 use Rattle.nf_words.specs.Reached.{unlinked_by}
 use Rattle.nf_words.specs.Sharing.{unnamed_by}
 use Rattle.nf_words.specs.Trash.{lacks_item, untrashed}
-use Rattle.nf_words.specs.Prelude.{access_of, acts_rule, allowed_of, answered_by, are_named, asked_by, asks_by_link, Call, call_of, caller_row, exists_rule, forbidden_rule, is_caller, is_itself, IsSound, lacks_version, limit_rule, locked_rule, may_ask, mount_of, named_rule, node_asked, not_you_rule, receiver_named, overwrite_rule, own_item, paths_of, place_rule, places_of, refusal_of, room_rule, root_of, seeker_of, share_shown, share_steered, sharing_rule, source_lost, source_refused, State, target_lost, target_refused, target_rule, token_rule, unless_refused, unlinked, unreached, unreached_by, users_of, version_lost, version_rule, Way, way_by, way_of, quota_rule}
+use Rattle.nf_words.specs.Prelude.{access_of, acts_rule, allowed_of, answered_by, are_named, asked_by, asks_by_link, Call, call_of, caller_row, dir_asked, exists_rule, forbidden_rule, is_caller, is_itself, IsSound, lacks_upload, lacks_version, limit_rule, locked_rule, may_ask, mount_of, named_rule, node_asked, not_you_rule, overwrite_rule, own_item, own_upload, paths_of, place_rule, places_of, quota_rule, receiver_named, refusal_of, room_rule, root_of, seeker_of, share_shown, share_steered, sharing_rule, source_lost, source_refused, State, target_lost, target_refused, target_rule, token_rule, unless_refused, unlinked, unopened, unreached, unreached_by, upload_rule, users_of, version_lost, version_rule, Way, way_by, way_of}
 use Rattle.nf_words.specs.declared.answer.Allowed.{Allowed}
 use Rattle.nf_words.specs.declared.answer.Denial.{Denial}
 use Rattle.nf_words.specs.declared.answer.Denial.TheVariants as denial
@@ -30,8 +30,9 @@ use Rattle.nf_words.specs.declared.request.ShareAsk.TheVariants as ask
 use Rattle.nf_words.specs.declared.request.Spot.{Spot}
 use Rattle.nf_words.specs.declared.request.TrashAsk.{TrashAsk}
 use Rattle.nf_words.specs.declared.request.TrashAsk.TheVariants as trash
+use Rattle.nf_words.specs.declared.request.UploadAsk.TheVariants as upload
 use Rattle.nf_words.specs.declared.request.Wanted.{Wanted}
-use Rattle.nf_words.specs.declared.request.Wanted.TheVariants.{People, Share, Trash, Version}
+use Rattle.nf_words.specs.declared.request.Wanted.TheVariants.{People, Share, Trash, Upload, Version}
 use Rattle.nf_denials.proofs.Told.{acts_told, unreached_told}
 use Rattle.nf_denials.specs.Laws.{BeginsTellTheirBreak, GoesBy, IsKeptOut, IsStoppedAt, IsUnmet, UnreachedIsRefused, all_needed, at_source, at_target, is_of_shares}
 
@@ -61,6 +62,10 @@ module _ (of : Denial → Bool) where
   if_test true refusal fine = fine
   if_test false refusal fine = tt
 
+  pub or_other : (a b : Option Denial) → IsOther a → IsOther b → IsOther (option_or a b)
+  or_other None b fine more = more
+  or_other (Some first) b fine more = fine
+
   pub told_by : {X : Type 0} (tell : X → Denial) (o : Option X) → ((x : X) → of (tell x) ≡ false) → IsOther (option_map tell o)
   told_by tell None fine = tt
   told_by tell (Some x) fine = fine x
@@ -89,6 +94,12 @@ taken_other rows places making.Told = tt
 taken_other rows places (making.Restored item) = tt
 taken_other rows places (making.Sent node) = tt
 taken_other rows places (making.Refilled node at) = tt
+taken_other rows places making.Assembled = if_test is_early _ (denial.Exists _) refl
+
+-- an upload that is there already
+opened_other : (call : Call) (wanted : Wanted) → IsOther is_early (opened_by call wanted)
+opened_other call (Upload (upload.New user dir to)) = if_test is_early (is_open call dir) (denial.Exists _) refl
+opened_other call other = tt
 
 -- an item of the trash that isn't there
 lacks_other : (item : Option ItemRow) → IsOther is_of_shares (lacks_item item)
@@ -131,20 +142,24 @@ behind access call =
     (option_or (target_rule access call)
     (option_or (overwrite_rule access call)
     (option_or (sharing_rule access call)
-    (option_or (locked_rule access call) (option_or (limit_rule access call) (option_or (room_rule access call) (option_or (quota_rule access call) None)))))))
+    (option_or (upload_rule access call)
+    (option_or (locked_rule access call) (option_or (limit_rule access call) (option_or (room_rule access call) (option_or (quota_rule access call) None))))))))
 
 pub none_behind : (access : Access) (call : Call) (refusal : Denial) → is_early refusal ≡ true → behind access call ≡ Some refusal → ⊥
-unfolding exists_rule target_rule overwrite_rule sharing_rule locked_rule limit_rule room_rule quota_rule
+unfolding exists_rule target_rule overwrite_rule sharing_rule upload_rule locked_rule limit_rule room_rule quota_rule
 none_behind access call refusal early is =
     none-some refusal
     (skip is_early (quota_rule access call) None refusal (told_by is_early denial.Quota _ (λ excess. refl)) early
     (skip is_early (room_rule access call) _ refusal (told_by is_early denial.Limit _ (λ limit. refl)) early
     (skip is_early (limit_rule access call) _ refusal (told_by is_early denial.Limit _ (λ limit. refl)) early
     (skip is_early (locked_rule access call) _ refusal (told_by is_early denial.Locked _ (λ key. refl)) early
+    (skip is_early (upload_rule access call) _ refusal (told_by is_early denial.Upload _ (λ fault. refl)) early
     (skip is_early (sharing_rule access call) _ refusal (told_by is_early denial.Rule _ (λ fault. refl)) early
     (skip is_early (overwrite_rule access call) _ refusal (if_test is_early _ denial.Overwrite refl) early
     (skip is_early (target_rule access call) _ refusal (told_by is_early denial.BadTarget _ (λ fault. refl)) early
-    (skip is_early (exists_rule access call) _ refusal (taken_other call.state.tables.nodes (places_of call) (asked_by call).makes) early is))))))))
+    (skip is_early (exists_rule access call) _ refusal
+    (or_other is_early (taken call.state.tables.nodes (places_of call) (asked_by call).makes) (opened_by call call.request.wanted)
+    (taken_other call.state.tables.nodes (places_of call) (asked_by call).makes) (opened_other call call.request.wanted)) early is)))))))))
 
 -- nor do those of who asks and of names
 by_rules : (access : Access) (call : Call) (refusal : Denial) → is_of_shares refusal ≡ true → refusal_of access call ≡ Some refusal
@@ -199,6 +214,15 @@ unlinked_other call = here call.request.caller
     here (caller.Token digest) = tt
     here (caller.Link token) = unless_test is_of_shares (is_some (link_row call.state.tables.shares token)) denial.NotFound refl
 
+-- nor that there is no such upload
+unopened_other : (call : Call) (wanted : Wanted) → IsOther is_of_shares (unopened call wanted)
+unopened_other call (Upload asked) = here (dir_asked asked)
+  where
+    here : (dir : Option (List ℕ)) → IsOther is_of_shares (option_and_then (lacks_upload call) dir)
+    here None = tt
+    here (Some dir) = unless_test is_of_shares (is_some (own_upload call dir)) denial.NotFound refl
+unopened_other call other = tt
+
 source_other : (place : Found) → IsOther is_of_shares (source_lost place)
 source_other (At node) = tt
 source_other (Free folder) = refl
@@ -236,7 +260,9 @@ module _ (s : State) (seat now : ℕ) (call : Call) (refusal : Denial) (sound : 
   unfolding place_rule
   kept_out is = elim (either _ _ refusal (skip is_of_shares (unlinked call) _ refusal (unlinked_other call) shares is)) [
     | inl source ↦ at (asked_by call).source refl source
-    | inr target ↦ to (asked_by call).target refl target
+    | inr rest ↦
+        to (asked_by call).target refl
+        (skip is_of_shares (unopened call call.request.wanted) _ refusal (unopened_other call call.request.wanted) shares rest)
   ]
     where
       tested : (spot : Spot) (b : Bool) → (if b then None else unreached (access_of call.state) call (way_of call spot)) ≡ Some refusal
@@ -281,6 +307,14 @@ begins_tell s seat now words request refusal sound is shares =
 
 -- ---- the mount first
 
+-- what its way is refused for, by the mount alone
+way_stopped : (call : Call) (spot : Spot) (mount : ℕ) (refusal : Denial) → mount_of call spot ≡ Some mount
+    → unreached_by (access_of call.state) (ground_of call.state.tables) (seeker_of call) call.now mount ≡ Some refusal
+    → unreached (access_of call.state) call (way_of call spot) ≡ Some refusal
+way_stopped call spot mount refusal by is =
+    ap (option_and_then (unreached_by (access_of call.state) (ground_of call.state.tables) (seeker_of call) call.now))
+    (mount_is call.state.tables.nodes (seeker_of call) (root_of call) spot.path (mount_of call spot) ∙ by) ∙ is
+
 stopped : (call : Call) (mount : ℕ) (refusal : Denial) → unlinked call ≡ None → IsStoppedAt call mount
     → unreached_by (access_of call.state) (ground_of call.state.tables) (seeker_of call) call.now mount ≡ Some refusal
     → place_rule (access_of call.state) call ≡ Some refusal
@@ -288,29 +322,27 @@ unfolding place_rule
 stopped call mount refusal linked (at_source spot asked by stays) is =
     let access = access_of call.state in
     let way : Way = way_of call spot in
-    let reach : unreached access call way ≡ Some refusal =
-    ap (option_and_then (unreached_by access (ground_of call.state.tables) (seeker_of call) call.now))
-    (mount_is call.state.tables.nodes (seeker_of call) (root_of call) spot.path (mount_of call spot) ∙ by) ∙ is in
     let itself : ((asked_by call).removes && way.itself) ≡ false =
     ap (λ (b : Bool). (asked_by call).removes && b) (itself_is call.state.tables.nodes (seeker_of call) (root_of call) spot.path (mount_of call spot) mount by) ∙ stays in
     let source : source_refused access call way ≡ Some refusal =
     ap (λ (b : Bool). option_or (if b then None else unreached access call way) (source_lost way.place)) itself
-    ∙ ap (λ (o : Option Denial). option_or o (source_lost way.place)) reach in
-    ap (λ (o : Option Denial). option_or o (option_or (option_and_then (λ spot. source_refused access call (way_of call spot)) (asked_by call).source)
-    (option_and_then (λ spot. target_refused access call (way_of call spot)) (asked_by call).target))) linked
-    ∙ ap (λ (o : Option Denial). option_or o (option_and_then (λ spot. target_refused access call (way_of call spot)) (asked_by call).target))
-    (ap (option_and_then (λ spot. source_refused access call (way_of call spot))) asked ∙ source)
-stopped call mount refusal linked (at_target spot asked by passes) is =
+    ∙ ap (λ (o : Option Denial). option_or o (source_lost way.place)) (way_stopped call spot mount refusal by is) in
+    let behind = option_or (unopened call call.request.wanted)
+    (option_and_then (λ spot. target_refused access call (way_of call spot)) (asked_by call).target) in
+    ap (λ (o : Option Denial). option_or o
+    (option_or (option_and_then (λ spot. source_refused access call (way_of call spot)) (asked_by call).source) behind)) linked
+    ∙ ap (λ (o : Option Denial). option_or o behind) (ap (option_and_then (λ spot. source_refused access call (way_of call spot))) asked ∙ source)
+stopped call mount refusal linked (at_target spot asked by passes opened) is =
     let access = access_of call.state in
     let way : Way = way_of call spot in
-    let reach : unreached access call way ≡ Some refusal =
-    ap (option_and_then (unreached_by access (ground_of call.state.tables) (seeker_of call) call.now))
-    (mount_is call.state.tables.nodes (seeker_of call) (root_of call) spot.path (mount_of call spot) ∙ by) ∙ is in
-    ap (λ (o : Option Denial). option_or o (option_or (option_and_then (λ spot. source_refused access call (way_of call spot)) (asked_by call).source)
-    (option_and_then (λ spot. target_refused access call (way_of call spot)) (asked_by call).target))) linked
-    ∙ ap (λ (o : Option Denial). option_or o (option_and_then (λ spot. target_refused access call (way_of call spot)) (asked_by call).target)) passes
+    let target = option_and_then (λ spot. target_refused access call (way_of call spot)) (asked_by call).target in
+    ap (λ (o : Option Denial). option_or o
+    (option_or (option_and_then (λ spot. source_refused access call (way_of call spot)) (asked_by call).source)
+    (option_or (unopened call call.request.wanted) target))) linked
+    ∙ ap (λ (o : Option Denial). option_or o (option_or (unopened call call.request.wanted) target)) passes
+    ∙ ap (λ (o : Option Denial). option_or o target) opened
     ∙ ap (option_and_then (λ spot. target_refused access call (way_of call spot))) asked
-    ∙ ap (λ (o : Option Denial). option_or o (target_lost way.place)) reach
+    ∙ ap (λ (o : Option Denial). option_or o (target_lost way.place)) (way_stopped call spot mount refusal by is)
 
 pub unreached_refused : UnreachedIsRefused
 unreached_refused s seat now words request mount refusal well stop is =
@@ -318,5 +350,5 @@ unreached_refused s seat now words request mount refusal well stop is =
     let access = access_of s in
     ap (λ (o : Option Denial). answered_by (unless_refused o (allowed_of access call)))
     (first_of (token_rule ∷ not_you_rule ∷ forbidden_rule ∷ []) place_rule
-    (named_rule ∷ acts_rule ∷ version_rule ∷ exists_rule ∷ target_rule ∷ overwrite_rule ∷ sharing_rule ∷ locked_rule ∷ limit_rule ∷ room_rule ∷ quota_rule ∷ []) access call refusal
+    (named_rule ∷ acts_rule ∷ version_rule ∷ exists_rule ∷ target_rule ∷ overwrite_rule ∷ sharing_rule ∷ upload_rule ∷ locked_rule ∷ limit_rule ∷ room_rule ∷ quota_rule ∷ []) access call refusal
     (well.token, (well.not_you, (well.forbidden, tt))) (stopped call mount refusal well.linked stop is))

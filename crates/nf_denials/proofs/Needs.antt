@@ -14,15 +14,16 @@ use Rattle.nf_words.specs.declared.request.Spot.{Spot}
 
 module _ (call : Call) (P : Need → Type 0) (at : (spot : Spot) (act : Act) → All P (needs_at act (way_of call spot)))
     (within : (spot : Spot) → All P (needs_in call.state.tables.nodes (root_of call) (way_of call spot))) where
+  -- a file is updated, or created in its folder
+  put_each : (spot : Spot) (there : Bool)
+      → All P (if there then needs_at Update (way_of call spot) else needs_in call.state.tables.nodes (root_of call) (way_of call spot))
+  put_each spot true = at spot Update
+  put_each spot false = within spot
+
   target_each : (spot : Spot) (makes : Making) (inside : Bool)
       → All P (target_needs makes call.state.tables.nodes (root_of call) inside (way_of call spot))
   target_each spot making.Nothing inside = All-nil P
-  target_each spot (making.File length) inside = here (is_some _)
-    where
-      here : (b : Bool)
-          → All P (if b then needs_at Update (way_of call spot) else needs_in call.state.tables.nodes (root_of call) (way_of call spot))
-      here true = at spot Update
-      here false = within spot
+  target_each spot (making.File length) inside = put_each spot (is_some _)
   target_each spot making.Folder inside = within spot
   target_each spot making.Moved inside = here inside
     where
@@ -36,6 +37,7 @@ module _ (call : Call) (P : Need → Type 0) (at : (spot : Spot) (act : Act) →
   target_each spot (making.Restored item) inside = All-nil P
   target_each spot (making.Sent node) inside = All-nil P
   target_each spot (making.Refilled node at) inside = All-nil P
+  target_each spot making.Assembled inside = put_each spot (is_some _)
 
   source_each : (spot : Spot) (makes : Making) (removes inside : Bool) → All P (source_needs makes removes inside (way_of call spot))
   source_each spot making.Shared removes inside = at spot Share

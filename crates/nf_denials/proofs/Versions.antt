@@ -19,7 +19,7 @@ use Rattle.nf_words.specs.Asked.{asked_of}
 use Rattle.nf_words.specs.Needed.{version_needs}
 use Rattle.nf_words.specs.Places.{has_forbidden}
 use Rattle.nf_words.specs.Reached.{unlinked_by}
-use Rattle.nf_words.specs.Prelude.{access_of, acts_rule, allowed_of, answered_by, asked_by, asks_by_link, broken_by, Call, call_of, caller_row, exists_rule, first_refused, forbidden_rule, is_about_files, is_by_link, is_caller, lacks_version, limit_rule, locked_rule, may_ask, named_rule, Need, need_broken, needed, needed_for, needs_between, node_asked, not_you_rule, overwrite_rule, paths_of, place_rule, quota_rule, refusal_of, room_rule, root_of, seeker_of, sharing_rule, source_refused, target_refused, target_rule, token_rule, told_broken, unless_refused, unlinked, unnamed_by, users_of, version_lost, version_rule, way_of}
+use Rattle.nf_words.specs.Prelude.{access_of, acts_rule, allowed_of, answered_by, asked_by, asks_by_link, broken_by, Call, call_of, caller_row, exists_rule, first_refused, forbidden_rule, is_about_files, is_by_link, is_caller, lacks_version, limit_rule, locked_rule, may_ask, named_rule, Need, need_broken, needed, needed_for, needs_between, node_asked, not_you_rule, overwrite_rule, paths_of, place_rule, quota_rule, refusal_of, room_rule, root_of, seeker_of, sharing_rule, source_refused, target_refused, target_rule, token_rule, told_broken, unless_refused, unlinked, unnamed_by, unopened, upload_rule, users_of, version_lost, version_rule, way_of}
 use Rattle.nf_words.specs.declared.answer.Denial.{Denial}
 use Rattle.nf_words.specs.declared.answer.Denial.TheVariants as denial
 use Rattle.nf_words.specs.declared.request.Caller.{Caller}
@@ -141,8 +141,11 @@ module _ (call : Call) (ask : VersionAsk) (is : call.request.wanted ≡ Version 
   place_is =
       ap (λ (source : Option Spot). option_or (unlinked call)
       (option_or (option_and_then (λ spot. source_refused access call (way_of call spot)) source)
-      (option_and_then (λ spot. target_refused access call (way_of call spot)) (asked_by call).target)))
+      (option_or (unopened call call.request.wanted)
+      (option_and_then (λ spot. target_refused access call (way_of call spot)) (asked_by call).target))))
       (ap (λ (w : Wanted). (asked_of w).source) is ∙ no_source ask)
+      ∙ ap (λ (w : Wanted). option_or (unlinked call)
+      (option_or (unopened call w) (option_and_then (λ spot. target_refused access call (way_of call spot)) (asked_by call).target))) is
       ∙ ap (λ (target : Option Spot). option_or (unlinked call) (option_and_then (λ spot. target_refused access call (way_of call spot)) target))
       (ap (λ (w : Wanted). (asked_of w).target) is ∙ no_target ask)
       ∙ or_none (unlinked call)
@@ -234,7 +237,7 @@ module _ (call : Call) (ask : VersionAsk) (is : call.request.wanted ≡ Version 
   unseen_told : IsWellAsked call → is_seen call node ≡ false → refusal_of access call ≡ Some denial.NotFound
   unseen_told well hidden =
       first_of (token_rule ∷ not_you_rule ∷ forbidden_rule ∷ place_rule ∷ []) named_rule
-      (acts_rule ∷ version_rule ∷ exists_rule ∷ target_rule ∷ overwrite_rule ∷ sharing_rule ∷ locked_rule ∷ limit_rule ∷ room_rule ∷ quota_rule ∷ [])
+      (acts_rule ∷ version_rule ∷ exists_rule ∷ target_rule ∷ overwrite_rule ∷ sharing_rule ∷ upload_rule ∷ locked_rule ∷ limit_rule ∷ room_rule ∷ quota_rule ∷ [])
       access call denial.NotFound (well.token, (well.not_you, (well.forbidden, (place_is ∙ well.linked, tt)))) (named_is ∙ ap told_seen hidden)
 
   shut_told : (refusal : Denial) → IsWellAsked call → is_seen call node ≡ true
@@ -242,7 +245,7 @@ module _ (call : Call) (ask : VersionAsk) (is : call.request.wanted ≡ Version 
       → refusal_of access call ≡ Some refusal
   shut_told refusal well seen shut =
       first_of (token_rule ∷ not_you_rule ∷ forbidden_rule ∷ place_rule ∷ named_rule ∷ []) acts_rule
-      (version_rule ∷ exists_rule ∷ target_rule ∷ overwrite_rule ∷ sharing_rule ∷ locked_rule ∷ limit_rule ∷ room_rule ∷ quota_rule ∷ [])
+      (version_rule ∷ exists_rule ∷ target_rule ∷ overwrite_rule ∷ sharing_rule ∷ upload_rule ∷ locked_rule ∷ limit_rule ∷ room_rule ∷ quota_rule ∷ [])
       access call refusal
       (well.token, (well.not_you, (well.forbidden, (place_is ∙ well.linked, (named_is ∙ ap told_seen seen, tt))))) (acts_is ∙ shut)
 

@@ -11,12 +11,12 @@ use Rattle.nf_defs.specs.Prelude.{is_folder, is_rooted}
 use Rattle.nf_defs.specs.declared.Seeker.{Seeker}
 use Rattle.nf_defs.specs.declared.Seeker.TheVariants.{Link}
 use Rattle.nf_laws.specs.Reads.{IsWellAsked}
-use Rattle.nf_words.specs.Prelude.{access_of, answer_to, asked_by, asker_of, Call, call_of, caller_row, end_unreached, first_refused, goal_at, is_itself, is_owner, lacks_version, link_of, IsSound, may_by, mount_above, mount_of, Need, needed, needed_by, needed_for, node_asked, node_of_key, seeker_of, source_refused, State, unnamed_by, unreached_by, way_of}
+use Rattle.nf_words.specs.Prelude.{access_of, answer_to, asked_by, asker_of, Call, call_of, caller_row, end_unreached, first_refused, goal_at, is_itself, is_owner, lacks_version, link_of, IsSound, may_by, mount_above, mount_of, Need, needed, needed_by, needed_for, node_asked, node_of_key, seeker_of, source_refused, State, unnamed_by, unopened, unreached_by, way_of}
 use Rattle.nf_words.specs.Needed.{version_needs}
 use Rattle.nf_words.specs.declared.answer.By.{By}
 use Rattle.nf_words.specs.declared.answer.Denial.{Denial}
 use Rattle.nf_words.specs.declared.answer.Denial.TheVariants.{BrokenLink, Kind, NoShare, NotFound}
-use Rattle.nf_words.specs.declared.answer.Goal.TheVariants.{Serve, Store}
+use Rattle.nf_words.specs.declared.answer.Goal.TheVariants.{Chunk, Serve, Store}
 use Rattle.nf_words.specs.declared.answer.LockKey.{LockKey}
 use Rattle.nf_words.specs.declared.answer.Reply.TheVariants.{Closed}
 use Rattle.nf_base.specs.declared.content.Piece.{Piece}
@@ -128,12 +128,13 @@ pub record LinksTellTheirChain : Type 0 where
       → goal_at s seat ≡ Some (Store by key wanted) → by.seeker ≡ Link link → answer_to s seat now (End outcome) ≢ Err NoShare
 
 -- by a mount that doesn't reach who asks: the source, where it isn't a mount to be left or renamed itself, and the target of a request whose
--- source isn't refused
+-- source isn't refused and whose upload, where it is about one, is there
 pub data IsStoppedAt (call : Call) (mount : ℕ) : Type 0 where
   at_source : (spot : Spot) → (asked_by call).source ≡ Some spot → mount_of call spot ≡ Some mount
       → ((asked_by call).removes && is_itself (seeker_of call) spot.path) ≡ false → IsStoppedAt call mount
   at_target : (spot : Spot) → (asked_by call).target ≡ Some spot → mount_of call spot ≡ Some mount
-      → option_and_then (λ spot. source_refused (access_of call.state) call (way_of call spot)) (asked_by call).source ≡ None → IsStoppedAt call mount
+      → option_and_then (λ spot. source_refused (access_of call.state) call (way_of call spot)) (asked_by call).source ≡ None
+      → unopened call call.request.wanted ≡ None → IsStoppedAt call mount
 
 -- the answer is that of the mount alone, whatever the names behind it
 abbrev pub UnreachedIsRefused : Type 0
@@ -208,6 +209,12 @@ EndsTellTheirBreak =
     (s : State) (seat now : ℕ) (by : By) (key : LockKey) (wanted : ℕ) (outcome : Outcome) (denial : Denial) → IsSound s
     → goal_at s seat ≡ Some (Store by key wanted) → answer_to s seat now (End outcome) ≡ Err denial → is_of_shares denial ≡ true
     → IsKeptOutBy s now by (node_of_key key) denial ⊎ IsUnmet s now by.seeker (needed_by by key) denial
+
+-- a chunk is its user's own, so none is refused by shares
+abbrev pub ChunksTellNoShare : Type 0
+ChunksTellNoShare =
+    (s : State) (seat now user : ℕ) (dir : List ℕ) (number wanted : ℕ) (outcome : Outcome) (denial : Denial)
+    → goal_at s seat ≡ Some (Chunk user dir number wanted) → answer_to s seat now (End outcome) ≡ Err denial → is_of_shares denial ≡ false
 
 -- what was granted to be read is read
 abbrev pub ReadsGoOn : Type 0

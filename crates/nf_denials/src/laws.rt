@@ -1,6 +1,6 @@
 //! What a refusal by shares tells, and when it is made.
 
-ghost use Rattle.nf_denials.specs.Laws.{ActsAreTold, BeginsTellTheirBreak, EndsTellTheirBreak, LinksTellTheirChain, OwnIsNotRefused, ReadsGoOn, RevokedIsRefused, UnreachedIsRefused, UnreachedIsTold, VersionsTellTheirCause};
+ghost use Rattle.nf_denials.specs.Laws.{ActsAreTold, BeginsTellTheirBreak, ChunksTellNoShare, EndsTellTheirBreak, LinksTellTheirChain, OwnIsNotRefused, ReadsGoOn, RevokedIsRefused, UnreachedIsRefused, UnreachedIsTold, VersionsTellTheirCause};
 
 /// Who is refused at a mount is let in by no chain of shares, and who is refused an act there is let do it by none. What is told is the
 /// first link that is broken, with its first cause, of the chain of the first share that is received there; or that none is.
@@ -27,7 +27,8 @@ pub fn links_tell_their_chain()
     ensures { LinksTellTheirChain }
 {}
 
-/// A path that goes by a mount on which nobody lets the caller in is refused for that, whatever its further names are.
+/// A path that goes by a mount on which nobody lets the caller in is refused for that, whatever its further names are; where chunks are to
+/// become a file there, once the caller has that upload.
 pub fn unreached_is_refused()
     ensures { UnreachedIsRefused }
 {}
@@ -44,9 +45,10 @@ pub fn revoked_is_refused()
     ensures { RevokedIsRefused }
 {}
 
-/// What is told then is the first broken link, too.
+/// What is told then is the first broken link, too. The chunk of an upload, which is its user's own, is never refused so.
 pub fn ends_tell_their_break()
-    ensures { EndsTellTheirBreak }
+    ensures stored { EndsTellTheirBreak }
+    ensures chunks { ChunksTellNoShare }
 {}
 
 /// Whoever was granted a file is sent it, whatever became of the shares since.

@@ -15,9 +15,16 @@ use Rattle.nf_desk.specs.Pieces.{StrikesOne}
 use Rattle.nf_desk.specs.Stepping.{Standing, Starts}
 use Rattle.nf_desk.specs.declared.sweeping.Swept.{Swept}
 
--- how many items went by a step between these states. There are no uploads yet, so none of those go
+-- how many items and uploads there are
+abbrev pub held_in : State → Swept
+held_in s = record { items = length s.tables.items; uploads = length s.tables.uploads }
+
+-- how many of them went by a step between these states
 abbrev pub swept_between : State → State → Swept
-swept_between s t = record { items = length s.tables.items - length t.tables.items; uploads = 0 }
+swept_between s t = record {
+  items = length s.tables.items - length t.tables.items;
+  uploads = length s.tables.uploads - length t.tables.uploads;
+}
 
 -- the keeper dropped all other blobs; or it failed, which is a strike of the seat, or there was no memory, and it dropped none
 abbrev pub DropsRest : ℕ → State → Shown → Shown → Result Swept Denial → Type 0

@@ -3,7 +3,7 @@
 ghost use Rattle.std.specs.Prelude.{◌≡◌, ◌<◌, ◌≤◌, ◌-◌, OnOk, OnErr, option_map};
 ghost use Rattle.nf_desk.specs.Desk.{Tale};
 ghost use Rattle.nf_desk.specs.Stepping.{standing};
-ghost use Rattle.nf_desk.specs.Sweeping.{Sweeps, shown_by};
+ghost use Rattle.nf_desk.specs.Sweeping.{Sweeps, held_in, shown_by};
 ghost use Rattle.nf_keeper.specs.Keeping.{Counts, swept};
 ghost use Rattle.nf_laws.specs.Named.{blobs_named};
 ghost use Rattle.nf_words.specs.Prelude.{MayAsk};
@@ -22,7 +22,7 @@ use std::alloc::Global;
 pub struct Swept {
     /// How many items of the trash.
     pub items: u64,
-    /// How many uploads: there are none yet.
+    /// How many uploads.
     pub uploads: u64,
 }
 
@@ -40,10 +40,10 @@ pub(crate) fn sweep<K: Keeper>(
     ensures { (begun : Tale) → Sweeps seat (shown_by (standing site.old.kept (K.told keeper.old) (K.faults keeper.old)) strikes.old begun)
         (shown_by (standing site.new.kept (K.told keeper.new) (K.faults keeper.new)) strikes.new begun) now result }
 {
-    let items = site.items();
+    let before = held(site);
     start(alloc, site, keeper, seat, now, Event::Sweep)?;
     match drop_rest(alloc, site, keeper) {
-        Ok(()) => Ok(gone_between(items, site.items())),
+        Ok(()) => Ok(gone_between(&before, &held(site))),
         Err(KeepFault::Failed) => {
             strike_once(strikes, seat);
             Err(Denial::Store)
@@ -62,11 +62,21 @@ fn drop_rest<K: Keeper>(alloc: Global, site: &Site, keeper: &mut K) -> Result<()
     keeper.sweep(&named)
 }
 
-fn gone_between(before: usize, after: usize) -> Swept
-    ensures { result ≡ record { items = before - after; uploads = 0 } }
+/// How many items and uploads there are.
+fn held(site: &Site) -> Swept
+    ensures { result ≡ held_in site.now.kept.state }
 {
     Swept {
-        items: before.saturating_sub(after) as u64,
-        uploads: 0,
+        items: site.items() as u64,
+        uploads: site.uploads() as u64,
+    }
+}
+
+fn gone_between(before: &Swept, after: &Swept) -> Swept
+    ensures { result ≡ record { items = before.now.items - after.now.items; uploads = before.now.uploads - after.now.uploads } }
+{
+    Swept {
+        items: before.items.saturating_sub(after.items),
+        uploads: before.uploads.saturating_sub(after.uploads),
     }
 }

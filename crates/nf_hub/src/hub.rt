@@ -145,7 +145,7 @@ impl<K: Keeper + Drop> Hub<K> {
     {
         match &ticket.goal {
             Goal::Serve(content) => self.piece(rt, seat, content, index),
-            Goal::Store { .. } => unreachable!(),
+            Goal::Store { .. } | Goal::Chunk { .. } => unreachable!(),
         }
     }
 

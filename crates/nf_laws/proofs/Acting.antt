@@ -7,7 +7,7 @@ use Rattle.nf_defs.proofs.Walks.{Contains-from_flat}
 use Rattle.std.specs.Option.{IfSome, option_map_or}
 use Rattle.std.proofs.Math.Seq.{get_or-append_seam}
 use Rattle.std.proofs.lemmas.Bool.{cases_Bool, eqb-true, ne_eqb, not-true}
-use Rattle.std.proofs.lemmas.List.Elements.{All-cons, All-contains, All-contains_itself, All-weaker, Contains-append_left, Contains-append_right}
+use Rattle.std.proofs.lemmas.List.Elements.{All-append, All-cons, All-contains, All-contains_itself, All-weaker, Contains-append_left, Contains-append_right}
 use Rattle.std.proofs.lemmas.Option.{unwrap_or-slice_get}
 use Rattle.nf_access.specs.Mounts.{mount_row}
 use Rattle.nf_base.specs.declared.changes.Change.{Change}
@@ -30,6 +30,7 @@ use Rattle.nf_laws.proofs.Acted.{NoNode}
 use Rattle.nf_laws.proofs.Carried.{Kind, leaving_kind, under_alone}
 use Rattle.nf_laws.proofs.Departed.{have_left, kind_changed, others_after, rest_after, unstamped}
 use Rattle.nf_laws.proofs.Discarding.{beside_own, emptied_own}
+use Rattle.nf_laws.proofs.Each.{forgets_none, NoStore, purges_none}
 use Rattle.nf_laws.proofs.Entries.{step_changed}
 use Rattle.nf_laws.proofs.Going.{item_is}
 use Rattle.nf_laws.proofs.Puts.{put_other}
@@ -40,7 +41,7 @@ use Rattle.nf_laws.proofs.Parts.{leaving_stamped}
 use Rattle.nf_laws.proofs.Rows.{finds_none, found_is, row_id, row_is, stamp}
 use Rattle.nf_laws.proofs.Others.{stamp_sound}
 use Rattle.nf_laws.specs.Access.{LeadsBy}
-use Rattle.nf_laws.specs.Acts.{AreTaken, DeletesKeep, DropsKeep, EmptyingKeeps, FoldersAreMade, IsAdded, IsDeleted, IsFolderMade, IsItemOf, IsMountChanged, IsPut, IsRefilled, IsRestored, ItemsComeBack, LeadsToKeyBy, MountsAreLeft, MountsAreRenamed, PutsAreGranted, PutsKeep, SweepsTake, AreVersionsLeft, IsOldVersion}
+use Rattle.nf_laws.specs.Acts.{AreSwept, AreTaken, DeletesKeep, DropsKeep, EmptyingKeeps, FoldersAreMade, IsAdded, IsDeleted, IsFolderMade, IsItemOf, IsMountChanged, IsPut, IsRefilled, IsRestored, ItemsComeBack, LeadsToKeyBy, MountsAreLeft, MountsAreRenamed, PutsAreGranted, PutsKeep, SweepsTake, AreVersionsLeft, IsOldVersion}
 use Rattle.nf_laws.specs.Reads.{LeadsToKey}
 use Rattle.nf_laws.specs.Walks.{LeadsToFree}
 use Rattle.nf_words.proofs.Begins.{delete_leaves, only_at, places_at, wanted_passes, WantedPasses}
@@ -49,21 +50,22 @@ use Rattle.nf_words.proofs.Fits.{newest, put_found, KnownChange}
 use Rattle.nf_words.proofs.Found.{free_known, last_more, last_of}
 use Rattle.nf_words.proofs.Known.{Known, KnownLeaving}
 use Rattle.nf_words.proofs.Mounting.{IsOwnMount, mount_found, mount_left_so, not_mount, own_known}
-use Rattle.nf_words.proofs.Passing.{call_passes, Passes, place_passes, PlacePasses}
+use Rattle.nf_words.proofs.Passing.{call_passes, exists_passes, Passes, place_passes, PlacePasses}
 use Rattle.nf_words.proofs.Starts.{has_asker, itself_asker, row_of_caller}
 use Rattle.nf_words.proofs.Sweeping.{gone_owned, swept_goes}
 use Rattle.nf_words.proofs.Trashing.{back_known, dropped_goes, emptied_goes}
 use Rattle.nf_words.proofs.Ways.{way_there}
-use Rattle.nf_words.specs.Prelude.{access_of, allowed_of, answered_by, AreSound, asked_of, asker_of, behind, beside, blob_after, blob_for, by_of, Call, call_decision, call_of, changed, content_in, decision_of, deleted, discard, deeds_done, done, end_refusal, ends_at, exists_rule, found, given, gone_beside, gone_from, IsHeld, IsStorable, item_dropped, item_restored, items_of, last_name, left_row, made_folder, makes, MayAsk, MayEnd, mount_left, mount_of, mount_renamed, moved, named_row, named_rule, new_node, node_at, nothing_done, own_mount, owners_of, purges, refilled, refusal_of, root_of, seeker_of, row_at, source_lost, stored, stored_at, stores, swept, taken, target_lost, transfer_of, unnamed_by, untrashed, user_of, way_by, way_of, with_mount_row, charged, content_size, drop_version, gone_after, is_same, raised, refills, turns_over, unsettled, forgets, item_size, purged_by, restoring}
+use Rattle.nf_words.specs.Prelude.{access_of, allowed_of, answered_by, AreSound, asked_of, asker_of, behind, beside, blob_after, blob_for, by_of, Call, call_decision, call_of, changed, content_in, decision_of, deleted, discard, deeds_done, done, end_refusal, ends_at, found, given, gone_beside, gone_from, home_of, IsHeld, IsStorable, item_dropped, item_restored, items_of, last_name, left_row, made_folder, makes, MayAsk, MayEnd, mount_left, mount_of, mount_renamed, moved, name_back, named_row, named_rule, new_node, node_at, nothing_done, own_mount, owners_of, purges, refilled, refusal_of, root_of, seeker_of, row_at, source_lost, stored, stored_at, stores, swept, taken, target_lost, transfer_of, unnamed_by, untrashed, user_of, way_by, way_of, with_mount_row, charged, content_size, drop_version, gone_after, is_same, raised, refills, turns_over, unsettled, forgets, item_size, purged_by, restoring}
 use Rattle.nf_words.specs.declared.answer.Allowed.{Allowed}
 use Rattle.nf_words.specs.declared.answer.Allowed.TheVariants as allowed
 use Rattle.nf_words.specs.declared.answer.Deed.{Deed}
+use Rattle.nf_words.specs.declared.answer.Deed.TheVariants as deed
 use Rattle.nf_words.specs.declared.answer.Denial.{Denial}
 use Rattle.nf_words.specs.declared.answer.Goal.{Goal}
 use Rattle.nf_words.specs.declared.answer.LockKey.{LockKey}
 use Rattle.nf_words.specs.declared.answer.LockKey.TheVariants.{Node, Slot}
 use Rattle.nf_words.specs.declared.answer.Report.{Report}
-use Rattle.nf_words.specs.declared.answer.Report.TheVariants.{Done, Made, Plain}
+use Rattle.nf_words.specs.declared.answer.Report.TheVariants.{Done, Made}
 use Rattle.nf_words.specs.declared.history.Event.TheVariants.{Begin, End, Sweep}
 use Rattle.nf_words.specs.declared.history.Outcome.TheVariants.{Body}
 use Rattle.nf_words.specs.declared.request.Making.TheVariants as making
@@ -77,6 +79,7 @@ use Rattle.nf_laws.proofs.Turning.{added_fewer, altered_old, discard_keeps, Keep
 use Rattle.nf_laws.proofs.InTurn.{deeds_append}
 use Rattle.nf_retention.specs.declared.versions.Version.{Version}
 use Rattle.nf_base.specs.declared.rows.MetaRow.{MetaRow}
+use Rattle.nf_laws.proofs.Abandoned.{swept_rows}
 use Rattle.nf_laws.proofs.Behind.{behind_changed, restored_behind}
 
 -- ---- a call that isn't refused
@@ -315,7 +318,9 @@ items_come_back s seat now words request user node sound may asked ok =
     (restored_rows call item gone sound.rows (ap (item_row t.items) id ∙ own.2) back.restore own.3
     (subst (λ (user : ℕ). All (IsItemOf t user) gone) own.3 (beside_own t now item sound.rows))
     back.others back.goes.once)
-    (deeds_fewer t (first ++ forgets versions)))))
+    (deeds_fewer t (first ++ forgets versions)
+    (All-append NoStore first (forgets versions)
+    (All-cons NoStore (deed.Restore item.node (home_of t item) (name_back t item)) (purges gone) tt (purges_none gone)) (forgets_none versions))))))
 
 -- ---- a sweep
 
@@ -358,8 +363,8 @@ sweeps_take s seat now sound =
             flat_has (gone_from t now) (owners_of t.items) is.0.owner node
             (owner_among t.items is.0 (found_among (λ (item : ItemRow). item.node == node) t.items is.0 is.1)) is.2,
       ),
-      subst (λ (made : Tables). AreTaken t made tops) (sym (step_changed s seat now Sweep (swept t now) refl))
-          (taken_rows t now tops Plain sound.rows (swept_goes t sound.rows now)),
+      subst (λ (made : Tables). AreSwept t made now tops) (sym (step_changed s seat now Sweep (swept t now) refl))
+          (swept_rows t now tops sound.rows (swept_goes t sound.rows now)),
     )
 
 -- ---- a mount itself
@@ -477,10 +482,9 @@ added_rows t now folder name kind content blob gone report sound folds free coun
 makes_at : (call : Call) (spot : Spot) → call.request.wanted ≡ wanted.Mkcol spot → Passes (access_of call.state) call
     → (folder : ℕ) × (found call spot ≡ Free folder)
     × (allowed_of (access_of call.state) call ≡ makes (new_node call.state.tables call.now folder (last_name spot) Folder []) None)
-unfolding exists_rule
 makes_at call spot asked passes =
     here (found call spot) refl (placed call (wanted.Mkcol spot) asked passes).in_folder
-    (subst (λ (w : Wanted). taken t.nodes (places_at call w) (asked_of w).makes ≡ None) asked passes.exists)
+    (subst (λ (w : Wanted). taken t.nodes (places_at call w) (asked_of w).makes ≡ None) asked (exists_passes (access_of call.state) call passes.exists).0)
   where
     t : Tables
     t = call.state.tables

@@ -94,6 +94,5 @@ born_sound t row sound born =
       groups_given = sound.groups_given;
       few_nodes = omega (arith, born.few_nodes, length-append t.nodes (row ∷ []));
       few_pieces = omega (arith, born.few_pieces, sum_by_push (λ row. length row.content) t.nodes row);
-      later = sound.later;
       others = others_still t t.meta made.nodes sound (none_higher t.meta t.meta.last) (le_refl _) (still_more t row sound born);
     }

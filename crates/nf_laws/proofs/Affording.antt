@@ -8,17 +8,18 @@ use Rattle.nf_base.specs.declared.rows.UserRow.{UserRow}
 use Rattle.nf_defs.specs.Prelude.{content_of, is_folder, item_row, Tables, user_row}
 use Rattle.nf_defs.specs.declared.Found.{Found}
 use Rattle.nf_defs.specs.declared.Found.TheVariants.{At, Free, Missing}
+use Rattle.nf_laws.proofs.Joining.{abandon_lower, join_keeps, placed_at}
 use Rattle.nf_laws.proofs.Recharged.{besides_lower, copies_keep, crossing_keep, discards_lower, KeepsCharge, lower_append, lower_keeps, moves_keep, purges_lower, requoted_charge, restored_keeps, then_keeps}
-use Rattle.nf_words.proofs.Begins.{only_at, places_at, wanted_passes, WantedPasses}
+use Rattle.nf_words.proofs.Begins.{only_at, places_at, wanted_known, wanted_passes, WantedPasses}
 use Rattle.nf_words.proofs.Fits.{within}
 use Rattle.nf_words.proofs.Found.{found_passes}
 use Rattle.nf_words.proofs.Known.{KnownCopies}
-use Rattle.nf_words.proofs.Passing.{call_passes, no_excess, place_passes}
+use Rattle.nf_words.proofs.Passing.{call_passes, place_passes, quota_passes}
 use Rattle.nf_words.proofs.Provided.{row_there}
 use Rattle.nf_words.proofs.Starts.{has_asker, IsAsking}
 use Rattle.nf_words.proofs.Transfers.{copies_known, transfer_known}
 use Rattle.nf_words.proofs.Trashing.{own_there}
-use Rattle.nf_words.specs.Prelude.{access_of, AreSound, asked_of, asked_of_trash, asker_of, besides, by_of, Call, call_decision, carry_excess, carry_limit, copied, copy_excess, copy_limit, crosses, crossing, deed_done, deeds_done, deepest_in, deleted, discards, exceeded, found, given, gone_beside, gone_of, home_of, IsSound, item_dropped, item_if_of, item_restored, items_of, last_name, limited, listing_of, made_folder, MayWant, mount_left, mount_renamed, moved, move_limit, moves, name_back, node_at, nothing_done, offered, own_item, people_done, perms_after, purges, quota_rule, requoted, restored, restore_excess, root_of, row_named, served, shared, share_ended, share_made, share_set, share_shown, share_steered, share_told, stored, transfer_of, trash_done, unfit_between, unreached, until_after, way_of, brought_back, charge_of, charged, charged_for, charged_to, item_size, purged_by, requoting, restoring, settled_by, unsettled, version_done, version_row, done, copies}
+use Rattle.nf_words.specs.Prelude.{access_of, AreSound, asked_of, asked_of_trash, asker_of, assembled, assembled_excess, besides, by_of, Call, call_decision, carry_excess, carry_limit, chunk_number, chunk_sent, content_size, copied, copy_excess, copy_limit, crosses, crossing, deed_done, deeds_done, deepest_in, deleted, discards, exceeded, excess_at, found, given, gone_beside, gone_of, home_of, IsSound, item_dropped, item_if_of, item_restored, items_of, last_name, limited, listing_of, made_folder, MayWant, mount_left, mount_renamed, moved, move_limit, moves, name_back, node_at, nothing_done, offered, own_item, people_done, perms_after, purges, requoted, restored, restore_excess, root_of, row_named, served, shared, share_ended, share_made, share_set, share_shown, share_steered, share_told, stored, transfer_of, trash_done, unfit_between, unreached, until_after, way_of, brought_back, charge_of, charged, charged_for, charged_to, item_size, purged_by, requoting, restoring, settled_by, unsettled, upload_done, version_done, whole_of, version_row, done, copies}
 use Rattle.nf_words.specs.declared.answer.Allowed.{Allowed}
 use Rattle.nf_words.specs.declared.answer.Allowed.TheVariants as allowed
 use Rattle.nf_words.specs.declared.answer.By.{By}
@@ -35,6 +36,8 @@ use Rattle.nf_words.specs.declared.request.Spot.{Spot}
 use Rattle.nf_words.specs.declared.request.Transfer.{Transfer}
 use Rattle.nf_words.specs.declared.request.TrashAsk.{TrashAsk}
 use Rattle.nf_words.specs.declared.request.TrashAsk.TheVariants as trash
+use Rattle.nf_words.specs.declared.request.UploadAsk.{UploadAsk}
+use Rattle.nf_words.specs.declared.request.UploadAsk.TheVariants as upload
 use Rattle.nf_words.specs.declared.request.Wanted.{Wanted}
 use Rattle.nf_words.specs.declared.request.Wanted.TheVariants as wanted
 use Rattle.nf_laws.proofs.Behind.{behind_only}
@@ -217,26 +220,46 @@ module _ (call : Call) (sound : AreSound call.state.tables) (later : call.state.
   version_affords (version.Restore user node at) =
       where_there (brought_back all call.now node) nothing_done (version_row all.versions node at) refl (λ row. refl)
 
+  -- and so does what the chunks of an upload have together
+  joined_affords : (dir : List ℕ) (spot : Spot) (total : Option ℕ) → WantedPasses call (wanted.Upload (upload.Join dir spot total))
+      → excess_at all (content_size (whole_of all.chunks (asker_of call) dir)) (found call spot) ≡ None
+      → IsAfforded (assembled all call.now (last_name spot) (asker_of call) dir (found call spot))
+  joined_affords dir spot total p none = λ user.
+      join_keeps all call.now (last_name spot) (whole_of all.chunks (asker_of call) dir) sound (found call spot) (asker_of call) dir later
+      (wanted_known call sound is (wanted.Upload (upload.Join dir spot total)) p) user (placed_at call spot sound is p.place.target p.place.in_folder) none
+
+  upload_affords : (asked : UploadAsk) → WantedPasses call (wanted.Upload asked) → assembled_excess call (wanted.Upload asked) ≡ None
+      → IsAfforded (upload_done call (places_at call (wanted.Upload asked)) asked)
+  upload_affords (upload.New user dir to) p none = refl
+  upload_affords (upload.Chunk user dir name to length) p none =
+      where_there (chunk_sent (asker_of call) dir length) nothing_done (chunk_number name) refl (λ number. tt)
+  upload_affords (upload.Drop user dir) p none = λ user.
+      lower_keeps all user (deed.Abandon (asker_of call) dir ∷ []) (abandon_lower (asker_of call) dir)
+  upload_affords (upload.Join dir spot total) p none =
+      joined_affords dir spot total p
+      (subst (λ (places : Places). option_and_then (excess_at all (content_size (whole_of all.chunks (asker_of call) dir))) places.target ≡ None) p.led none)
+
   wanted_affords : (wanted : Wanted) → WantedPasses call wanted → exceeded all (places_at call wanted) (asked_of wanted).makes ≡ None
-      → IsAfforded (given (access_of call.state) call (places_at call wanted) wanted)
-  wanted_affords (wanted.Get spot) p none = served_affords (way_of call spot).mount (node_at (Some (found call spot)))
-  wanted_affords (wanted.Put spot length) p none = stored_affords (by_of call spot) (last_name spot) length (found call spot)
-  wanted_affords (wanted.Mkcol spot) p none = folder_affords (last_name spot) (found call spot)
-  wanted_affords (wanted.Delete spot) p none = delete_affords spot (way_of call spot).itself
-  wanted_affords (wanted.Move source to overwrite) p none =
+      → assembled_excess call wanted ≡ None → IsAfforded (given (access_of call.state) call (places_at call wanted) wanted)
+  wanted_affords (wanted.Get spot) p none whole = served_affords (way_of call spot).mount (node_at (Some (found call spot)))
+  wanted_affords (wanted.Put spot length) p none whole = stored_affords (by_of call spot) (last_name spot) length (found call spot)
+  wanted_affords (wanted.Mkcol spot) p none whole = folder_affords (last_name spot) (found call spot)
+  wanted_affords (wanted.Delete spot) p none whole = delete_affords spot (way_of call spot).itself
+  wanted_affords (wanted.Move source to overwrite) p none whole =
       move_affords source to (way_of call source).itself p.place.source p.place.target p.fits (places_at call (wanted.Move source to overwrite)) refl p.few none
-  wanted_affords (wanted.Copy source to overwrite) p none =
+  wanted_affords (wanted.Copy source to overwrite) p none whole =
       copied_affords call source to sound later is (p.place.source refl) p.place.target p.fits p.few none
-  wanted_affords (wanted.Share asked) p none = shared_affords (places_at call (wanted.Share asked)) asked
-  wanted_affords (wanted.People asked) p none = people_afford asked
-  wanted_affords (wanted.Trash asked) p none = trash_affords (places_at call (wanted.Trash asked)) asked none
-  wanted_affords (wanted.Version asked) p none = version_affords asked
+  wanted_affords (wanted.Share asked) p none whole = shared_affords (places_at call (wanted.Share asked)) asked
+  wanted_affords (wanted.People asked) p none whole = people_afford asked
+  wanted_affords (wanted.Trash asked) p none whole = trash_affords (places_at call (wanted.Trash asked)) asked none
+  wanted_affords (wanted.Version asked) p none whole = version_affords asked
+  wanted_affords (wanted.Upload asked) p none whole = upload_affords asked p whole
 
 pub call_affords : (call : Call) (act : Allowed) → IsSound call.state → call.state.tables.meta.last ≤ call.now → MayWant call.request
     → call_decision call ≡ Ok act → Affords call.state.tables act
-unfolding quota_rule
 call_affords call act sound later may is =
     let h = call_passes call act is in
+    let none = quota_passes (access_of call.state) call h.0.quota in
     let asker = has_asker call h.0.token (place_passes (access_of call.state) call h.0.place).linked in
     subst (Affords call.state.tables) h.1
-    (wanted_affords call sound.rows later asker call.request.wanted (wanted_passes call may h.0) (no_excess _ h.0.quota))
+    (wanted_affords call sound.rows later asker call.request.wanted (wanted_passes call may h.0) none.0 none.1)

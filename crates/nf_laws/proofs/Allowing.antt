@@ -4,26 +4,32 @@ use Rattle.std.specs.List.{All}
 use Rattle.std.specs.Option.{IfSome, option_and_then, option_map_or}
 use Rattle.nf_access.specs.Shares.{ground_of}
 use Rattle.nf_base.specs.declared.perms.Act.TheVariants as act
-use Rattle.nf_defs.specs.Prelude.{Tables, Access}
+use Rattle.nf_defs.specs.Prelude.{Tables, Access, put_all}
 use Rattle.nf_defs.specs.declared.Seeker.{Seeker}
 use Rattle.nf_laws.proofs.Acting.{put_rows}
 use Rattle.nf_laws.proofs.Entries.{entry_has}
-use Rattle.nf_laws.proofs.Fitting.{begin_fits, Fits, is_apart, need_of, OneOther, put_fits, versions_fit}
+use Rattle.nf_laws.proofs.Assembling.{assembled_fits, put_fits, stored_sound, stored_tables}
+use Rattle.nf_laws.proofs.Chunking.{abandon_leaves, chunk_leaves, is_that, LeavesOthers, only_part, only_these, that_is, upload_left}
+use Rattle.nf_laws.proofs.Fitting.{asked_for, begin_fits, Fits, is_apart, need_of, OneOther, versions_fit}
 use Rattle.nf_laws.proofs.Providing.{people_provide}
-use Rattle.nf_laws.proofs.Settling.{beside_settled, same_allowed, same_nodes, sweep_allowed, trash_allowed}
+use Rattle.nf_laws.proofs.Refilled.{changed_rest}
+use Rattle.nf_laws.proofs.Rows.{stamp, stamped_has}
+use Rattle.nf_laws.proofs.Settling.{beside_settled, dated_leaves, same_allowed, same_nodes, sweep_allowed, trash_allowed, uploads_allowed}
 use Rattle.nf_laws.proofs.Stays.{sound_after}
-use Rattle.nf_laws.specs.Access.{by_asking, by_delete, by_quota, by_sweep, ChangesAllowed, ChangesWhatMayBeChanged, IsItemSettled, IsNeeded, IsProviding, IsRemounted, IsRestoring, IsSharing, MayDo, needs_of, needs_of_goal, NodesAllowed, seeker_at, seeker_of_goal, Settles}
-use Rattle.nf_words.proofs.Begins.{wanted_passes, WantedPasses}
+use Rattle.nf_laws.specs.Access.{by_asking, by_delete, by_quota, by_sweep, ChangesAllowed, ChangesWhatMayBeChanged, IsItemSettled, IsNeeded, IsProviding, IsRemounted, IsRestoring, IsSharing, IsThatUpload, is_asked, is_same, is_sent, is_swept, MayDo, needs_of, needs_of_goal, NodesAllowed, seeker_at, seeker_of_goal, Settles, upload_asked, UploadsFollow}
+use Rattle.nf_words.proofs.Begins.{call_known, places_at, wanted_passes, WantedPasses}
 use Rattle.nf_words.proofs.Ends.{known_change, goal_held}
 use Rattle.nf_words.proofs.Known.{Known}
 use Rattle.nf_words.proofs.Passing.{call_passes, end_passes, needs_pass, not_refused, Passes, all_acts_pass}
 use Rattle.nf_words.proofs.Starts.{has_asker, IsAsking}
-use Rattle.nf_words.specs.Prelude.{access_of, allowed_of, AreSound, blob_for, Call, call_of, call_decision, changed, content_in, decision_of, deeds_done, end_refusal, ends_at, given, goal_at, IsSound, IsStorable, MayAsk, MayEnd, MayWant, Need, needed, needed_by, places_of, purges, seeker_of, State, stored_at, swept, forgets, needed_for, mount_by, asker_of}
+use Rattle.nf_words.specs.Prelude.{abandoned, access_of, allowed_of, AreSound, assembled, assembled_at, blob_for, chunk_number, chunk_put, chunk_refusal, chunk_sent, chunk_stored, Call, call_of, call_decision, changed, content_in, decision_of, deeds_done, done, end_refusal, found, last_name, ends_at, given, goal_at, IsSound, IsStorable, MayAsk, MayEnd, MayWant, Need, needed, needed_by, nothing_done, places_of, purges, replaced, seeker_of, State, stored_at, swept, told, upload_begun, upload_done, upload_row, upload_touched, whole_of, forgets, needed_for, mount_by, asker_of}
 use Rattle.nf_words.specs.declared.answer.Allowed.{Allowed}
 use Rattle.nf_words.specs.declared.answer.Allowed.TheVariants as allowed
+use Rattle.nf_words.specs.declared.answer.Deed.TheVariants as deed
 use Rattle.nf_words.specs.declared.answer.Goal.{Goal}
-use Rattle.nf_words.specs.declared.answer.Goal.TheVariants.{Serve, Store}
+use Rattle.nf_words.specs.declared.answer.Goal.TheVariants.{Chunk, Serve, Store}
 use Rattle.nf_words.specs.declared.answer.LockKey.TheVariants.{Node, Slot}
+use Rattle.nf_words.specs.declared.answer.Report.TheVariants.{Done, Made}
 use Rattle.nf_words.specs.declared.history.Entry.{Entry}
 use Rattle.nf_words.specs.declared.history.Event.{Event}
 use Rattle.nf_words.specs.declared.history.Event.TheVariants.{Begin, End, Sweep}
@@ -37,7 +43,12 @@ use Rattle.nf_words.specs.declared.request.Wanted.TheVariants as want
 use Rattle.nf_words.specs.declared.request.Words.{Words}
 use Rattle.nf_words.specs.Needed.{act_asked, node_asked}
 use Rattle.nf_laws.proofs.Behind.{forgets_only, versioned}
+use Rattle.nf_base.specs.declared.rows.ChunkRow.{ChunkRow}
+use Rattle.nf_base.specs.declared.rows.UploadRow.{UploadRow}
 use Rattle.nf_base.specs.declared.rows.VersionRow.{VersionRow}
+use Rattle.nf_words.specs.declared.request.Spot.{Spot}
+use Rattle.nf_words.specs.declared.request.UploadAsk.{UploadAsk}
+use Rattle.nf_words.specs.declared.request.UploadAsk.TheVariants as upload
 use Rattle.nf_words.specs.declared.request.VersionAsk.{VersionAsk}
 use Rattle.std.proofs.lemmas.List.{append-nil}
 use Rattle.std.proofs.lemmas.Bool.{false≢true}
@@ -49,16 +60,17 @@ use Rattle.std.proofs.lemmas.List.Elements.{Contains-append_right}
 abbrev IsFine : State → Entry → Tables → Type 0
 IsFine s e made = AreSound made → ChangesAllowed s e made
 
-fits_fine : (s : State) (e : Entry) (event : Event) (seeker : Seeker) (Other : Tables → Type 0) (made : Tables) → e.event ≡ event
+fits_allowed : (s : State) (e : Entry) (event : Event) (seeker : Seeker) (Other : Tables → Type 0) (made after : Tables) → e.event ≡ event
     → seeker_at s e.seat e.moment event ≡ Some seeker → All (MayDo s e.moment seeker) (needs_of s e.seat e.moment event)
-    → Fits s.tables e.moment (needs_of s e.seat e.moment event) Other made → ((u : Tables) → Other u → IsRemounted s e u ⊎ IsSharing s e u) → IsFine s e made
-fits_fine s e event seeker Other made at is may fits other fine =
+    → Fits s.tables e.moment (needs_of s e.seat e.moment event) Other made → ((u : Tables) → Other u → IsRemounted s e u ⊎ IsSharing s e u)
+    → AreSound made → UploadsFollow s e made after → ChangesAllowed s e after
+fits_allowed s e event seeker Other made after at is may fits other fine uploads =
     here (subst (λ (event : Event). seeker_at s e.seat e.moment event ≡ Some seeker) (sym at) is)
     (subst (λ (event : Event). All (MayDo s e.moment seeker) (needs_of s e.seat e.moment event)) (sym at) may)
     (subst (λ (event : Event). Fits s.tables e.moment (needs_of s e.seat e.moment event) Other made) (sym at) fits)
   where
     here : seeker_at s e.seat e.moment e.event ≡ Some seeker → All (MayDo s e.moment seeker) (needs_of s e.seat e.moment e.event)
-        → Fits s.tables e.moment (needs_of s e.seat e.moment e.event) Other made → ChangesAllowed s e made
+        → Fits s.tables e.moment (needs_of s e.seat e.moment e.event) Other made → ChangesAllowed s e after
     here is may fits = record {
       between = fits.between;
       allowed = inl (record {
@@ -67,6 +79,8 @@ fits_fine s e event seeker Other made at is may fits other fine =
         items = fits.items;
         rest = fits.rest;
       });
+      behind = made;
+      uploads = uploads;
       settled = record {
         tops = fits.gone;
         items = beside_settled s e fits.gone fits.beside;
@@ -74,6 +88,12 @@ fits_fine s e event seeker Other made at is may fits other fine =
         gone = fits.made_is;
       };
     }
+
+-- where uploads are as they were
+fits_fine : (s : State) (e : Entry) (event : Event) (seeker : Seeker) (Other : Tables → Type 0) (made : Tables) → e.event ≡ event
+    → seeker_at s e.seat e.moment event ≡ Some seeker → All (MayDo s e.moment seeker) (needs_of s e.seat e.moment event)
+    → Fits s.tables e.moment (needs_of s e.seat e.moment event) Other made → ((u : Tables) → Other u → IsRemounted s e u ⊎ IsSharing s e u) → IsFine s e made
+fits_fine s e event seeker Other made at is may fits other fine = fits_allowed s e event seeker Other made made at is may fits other fine (is_same refl)
 
 abbrev nothing : Tables → Type 0
 nothing made = ⊥
@@ -98,6 +118,18 @@ goal_fine s e (Body digest size) (Store by key wanted) act ends sound at held is
   where
     outcome_of : Outcome
     outcome_of = Body digest size
+goal_fine s e (Body digest size) (Chunk user dir number wanted) act ends sound at held is known =
+    let t = s.tables in
+    let now = e.moment in
+    let h = not_refused (chunk_refusal t user dir number size) (chunk_stored t now user dir number digest size) act is in
+    let blob = blob_for t.meta.next_blob size in
+    let row : ChunkRow = record { user = user; dir = dir; number = number; content = content_in blob digest size } in
+    let changes = chunk_put t row ++ option_map_or (upload_touched now) (upload_row t.uploads user dir) [] in
+    let meta = (changed t now (allowed.Change changes blob Made)).meta in
+    subst (λ (a : Allowed). IsFine s e (changed t now a)) h.1 (λ fine.
+    subst (ChangesAllowed s e) (sym (changed_rest t now changes blob Made))
+    (uploads_allowed s e sound meta (record (put_all t changes) { meta = meta })
+    (is_sent (Body digest size) user dir number wanted ends at (only_part t row now meta (put_all t changes) (chunk_leaves t row now)))))
 goal_fine s e outcome goal act ends sound at held is known =
     let closes : allowed.Close ≡ act = cc in
     subst (λ (a : Allowed). IsFine s e (changed s.tables e.moment a)) closes (λ fine. same_allowed s e sound)
@@ -105,6 +137,7 @@ goal_fine s e outcome goal act ends sound at held is known =
 -- where nothing is asked about versions, what the paths need is all
 paths_needed : (access : Access) (call : Call) (wanted : Wanted) → is_apart wanted ≡ false → needed call ++ needed_for access call wanted ≡ needed call
 paths_needed access call (want.Version asked) other = absurd (false≢true (sym other))
+paths_needed access call (want.Upload asked) other = append-nil (needed call)
 paths_needed access call (Get spot) other = append-nil (needed call)
 paths_needed access call (Put spot size) other = append-nil (needed call)
 paths_needed access call (Mkcol spot) other = append-nil (needed call)
@@ -132,36 +165,40 @@ module _ (s : State) (e : Entry) (words : Words) (request : Request) (decided : 
   abbrev all_needs : List Need
   all_needs = needed call ++ needed_for (access_of s) call request.wanted
 
+  -- one mount or one share is another
+  others_fine : (u : Tables) → OneOther call u → IsRemounted s e u ⊎ IsSharing s e u
+  others_fine u (inl one) =
+      inl (record {
+        words = words;
+        request = request;
+        begins = begins;
+        old = one.old;
+        row = one.row;
+        there = one.there;
+        becomes = one.becomes;
+        mounts = one.mounts;
+        nodes = one.nodes;
+        shares = one.shares;
+      })
+  others_fine u (inr one) =
+      inr (record {
+        words = words;
+        request = request;
+        begins = begins;
+        row = one.row;
+        one = one.one;
+        shares = one.shares;
+        mounts = one.mounts;
+        mounted = one.mounted;
+        nodes = one.nodes;
+      })
+
   fitting_fine : Fits s.tables e.moment all_needs (OneOther call) (changed s.tables e.moment decided) → IsFine s e (changed s.tables e.moment decided)
   fitting_fine fits =
       fits_fine s e (Begin words request) (seeker_of call) (OneOther call) (changed s.tables e.moment decided) begins refl
-      (all_acts_pass (access_of s) call passes.0.acts) fits (λ u made. elim made [
-        | inl one ↦ inl (record {
-          words = words;
-          request = request;
-          begins = begins;
-          old = one.old;
-          row = one.row;
-          there = one.there;
-          becomes = one.becomes;
-          mounts = one.mounts;
-          nodes = one.nodes;
-          shares = one.shares;
-        })
-        | inr one ↦ inr (record {
-          words = words;
-          request = request;
-          begins = begins;
-          row = one.row;
-          one = one.one;
-          shares = one.shares;
-          mounts = one.mounts;
-          mounted = one.mounted;
-          nodes = one.nodes;
-        })
-      ])
+      (all_acts_pass (access_of s) call passes.0.acts) fits others_fine
 
-  -- what isn't asked about users, groups, the trash and versions
+  -- what isn't asked about users, groups, the trash, versions and uploads
   plain_fine : is_apart request.wanted ≡ false → IsFine s e (changed s.tables e.moment decided)
   plain_fine other =
       let fits = begin_fits call sound.rows later asking request.wanted refl other wants in
@@ -187,6 +224,81 @@ module _ (s : State) (e : Entry) (words : Words) (request : Request) (decided : 
       fitting_fine (subst (λ (a : Allowed). Fits t e.moment all_needs (OneOther call) (changed t e.moment a)) (does (want.Version asked) same)
       (versions_fit call sound.rows later asking asked all_needs needed_so))
 
+  -- what is asked about uploads
+  abbrev asker : ℕ
+  asker = asker_of call
+
+  -- just the upload that is asked about is another
+  only_asked : (asked : UploadAsk) (made after : Tables) → request.wanted ≡ want.Upload asked → LeavesOthers made after (is_that asker (upload_asked asked))
+      → UploadsFollow s e made after
+  only_asked asked made after same leaves =
+      is_asked words request asked begins same
+      (only_these made after (is_that asker (upload_asked asked)) (IsThatUpload asker (upload_asked asked)) leaves (that_is asker (upload_asked asked)))
+
+  begun_fine : (asked : UploadAsk) (to : List (List ℕ)) → request.wanted ≡ want.Upload asked
+      → ChangesAllowed s e (changed s.tables e.moment (upload_begun s.tables e.moment asker (upload_asked asked) to))
+  begun_fine asked to same =
+      let t = s.tables in
+      let row : UploadRow = record { user = asker; dir = upload_asked asked; to = to; touched = e.moment } in
+      let made = changed t e.moment (upload_begun t e.moment asker (upload_asked asked) to) in
+      uploads_allowed s e sound made.meta made
+      (only_asked asked (record t { meta = made.meta }) made same (record {
+        uploads = upload_left row t.uploads;
+        chunks = λ user dir number other. refl;
+        rest = refl;
+      }))
+
+  sent_fine : (dir : List ℕ) (length : ℕ) (o : Option ℕ) → ChangesAllowed s e (changed s.tables e.moment (option_map_or (chunk_sent asker dir length) o nothing_done))
+  sent_fine dir length None = same_allowed s e sound
+  sent_fine dir length (Some number) = same_allowed s e sound
+
+  abandoned_fine : (asked : UploadAsk) → request.wanted ≡ want.Upload asked
+      → ChangesAllowed s e (changed s.tables e.moment (done (deed.Abandon asker (upload_asked asked) ∷ []) Done))
+  abandoned_fine asked same =
+      let t = s.tables in
+      let dir = upload_asked asked in
+      let dated = stamp t e.moment in
+      let made = stamp (abandoned t asker dir) e.moment in
+      stamped_has (ChangesAllowed s e) t (abandoned t asker dir) e.moment (told t (done (deed.Abandon asker dir ∷ []) Done)) (same_allowed s e sound)
+      (uploads_allowed s e sound dated.meta made
+      (only_asked asked dated made same (dated_leaves t e.moment (abandoned t asker dir) (is_that asker dir) (abandon_leaves t asker dir))))
+
+  abbrev gives : (wanted : Wanted) → request.wanted ≡ wanted → given (access_of s) call (places_at call wanted) wanted ≡ decided
+  gives wanted same = ap (λ (w : Wanted). given (access_of s) call (places_at call w) w) (sym same) ∙ passes.1
+
+  -- a content is stored at the end of a path, and then the upload goes
+  joined_fine : (dir : List ℕ) (spot : Spot) (total : Option ℕ) → request.wanted ≡ want.Upload (upload.Join dir spot total)
+      → ChangesAllowed s e (changed s.tables e.moment (assembled s.tables e.moment (last_name spot) asker dir (found call spot)))
+  joined_fine dir spot total same =
+      let t = s.tables in
+      let asked = upload.Join dir spot total in
+      let p = subst (WantedPasses call) same wants in
+      let place = found call spot in
+      let changes = assembled_at t e.moment (last_name spot) (whole_of t.chunks asker dir) place in
+      let first = stored_tables t e.moment changes in
+      let made = abandoned (replaced t changes) asker dir in
+      let known = subst (Known t e.moment) (sym (gives (want.Upload asked) same)) (call_known call decided sound may is) in
+      let fits = subst (λ (needs : List Need). Fits t e.moment needs (OneOther call) first)
+      (sym (append-nil (needed call)) ∙ sym (ap (λ (w : Wanted). needed call ++ needed_for (access_of s) call w) same))
+      (subst (λ (w : Wanted). Fits t e.moment (asked_for call sound.rows later asking w) (OneOther call) first) (sym same)
+      (assembled_fits call sound.rows asking spot (whole_of t.chunks asker dir) place p.place.target refl)) in
+      stamped_has (ChangesAllowed s e) t made e.moment (told t (assembled t e.moment (last_name spot) asker dir place)) (same_allowed s e sound)
+      (fits_allowed s e (Begin words request) (seeker_of call) (OneOther call) first (stamp made e.moment) begins refl
+      (all_acts_pass (access_of s) call passes.0.acts) fits others_fine (stored_sound t e.moment changes (deed.Abandon asker dir ∷ []) sound.rows later known)
+      (only_asked asked first (stamp made e.moment) same
+      (dated_leaves (replaced t changes) e.moment made (is_that asker dir) (abandon_leaves (replaced t changes) asker dir))))
+
+  upload_fine : (asked : UploadAsk) → request.wanted ≡ want.Upload asked → IsFine s e (changed s.tables e.moment decided)
+  upload_fine asked same fine =
+      subst (λ (a : Allowed). ChangesAllowed s e (changed s.tables e.moment a)) (gives (want.Upload asked) same) (here asked same)
+    where
+      here : (asked : UploadAsk) → request.wanted ≡ want.Upload asked
+          → ChangesAllowed s e (changed s.tables e.moment (upload_done call (places_at call (want.Upload asked)) asked))
+      here (upload.New user dir to) same = begun_fine (upload.New user dir to) to same
+      here (upload.Chunk user dir name to length) same = sent_fine dir length (chunk_number name)
+      here (upload.Drop user dir) same = abandoned_fine (upload.Drop user dir) same
+      here (upload.Join dir spot total) same = joined_fine dir spot total same
+
   -- what is asked about users and groups
   people_fine : (asked : PeopleAsk) → request.wanted ≡ People asked → ChangesAllowed s e (changed s.tables e.moment decided)
   people_fine asked wanted =
@@ -198,7 +310,9 @@ module _ (s : State) (e : Entry) (words : Words) (request : Request) (decided : 
           | inl same ↦ inl (subst (NodesAllowed s e) (sym same) (same_nodes s e sound))
           | inr one ↦ inr (inl one)
         ];
+        behind = changed s.tables e.moment (given (access_of s) call (places_of call) (People asked));
         settled = provided.settled;
+        uploads = is_same refl;
       })
 
   -- and whatever a request asks
@@ -212,6 +326,7 @@ module _ (s : State) (e : Entry) (words : Words) (request : Request) (decided : 
   begin_fine (Share asked) is fine = plain (Share asked) is refl fine
   begin_fine (People asked) is fine = people_fine asked is
   begin_fine (want.Version asked) is fine = version_fine asked is fine
+  begin_fine (want.Upload asked) is fine = upload_fine asked is fine
   begin_fine (Trash asked) is fine =
       subst (λ (a : Allowed). ChangesAllowed s e (changed s.tables e.moment a)) (does (Trash asked) is)
       (trash_allowed s e sound words request begins asked is)
@@ -257,6 +372,7 @@ end_settles s e outcome _ ends (by_delete node needed) =
     here (Some (Serve content)) (mount, (k, within, same)) = omega (arith, within)
     here (Some (Store by (Node key) length)) is = one (need_of act.Update key by.mount) (λ same. cc) is
     here (Some (Store by (Slot folder name) length)) is = one (need_of act.Create folder by.mount) (λ same. cc) is
+    here (Some (Chunk user dir number length)) (mount, (k, within, same)) = omega (arith, within)
 end_settles s e outcome _ ends (by_asking words request asked begins wanted) = both_events outcome words request (sym ends ∙ begins)
 end_settles s e outcome _ ends (by_sweep user sweeps) = let both : End outcome ≡ Sweep = sym ends ∙ sweeps in cc
 end_settles s e outcome _ ends (by_quota words request user quota row begins wanted named) = both_events outcome words request (sym ends ∙ begins)
@@ -278,12 +394,26 @@ forgotten_allowed s e u versions outcome ends h = record {
   rest = ap (λ (v : Tables). versioned v versions) h.rest;
 }
 
+-- where no chunk was to be sent, no upload is another
+none_sent : (s : State) (e : Entry) (before made : Tables) (outcome : Outcome) → e.event ≡ End outcome
+    → ((user : ℕ) (dir : List ℕ) (number length : ℕ) → goal_at s e.seat ≢ Some (Chunk user dir number length)) → UploadsFollow s e before made
+    → made ≡ before
+none_sent s e before made outcome ends none (is_same same) = same
+none_sent s e before made outcome ends none (is_asked words request asked begins wanted only) =
+    absurd (both_events outcome words request (sym ends ∙ begins))
+none_sent s e before made outcome ends none (is_sent other user dir number length sends goal only) = absurd (none user dir number length goal)
+none_sent s e before made outcome ends none (is_swept sweeps only) = let both : End outcome ≡ Sweep = sym ends ∙ sweeps in absurd (cc)
+
 -- so the nodes that it makes are allowed as they stand
-pub end_allowed : (s : State) (e : Entry) (made : Tables) (outcome : Outcome) → e.event ≡ End outcome → ChangesAllowed s e made → NodesAllowed s e made
-end_allowed s e made outcome ends changes =
+pub end_allowed : (s : State) (e : Entry) (made : Tables) (outcome : Outcome) → e.event ≡ End outcome
+    → ((user : ℕ) (dir : List ℕ) (number length : ℕ) → goal_at s e.seat ≢ Some (Chunk user dir number length)) → ChangesAllowed s e made
+    → NodesAllowed s e made
+end_allowed s e made outcome ends none changes =
     let u = changes.between in
     let versions = changes.settled.versions in
-    subst (NodesAllowed s e) (sym (same changes.settled.tops changes.settled.items changes.settled.gone ∙ forgets_only u versions))
+    subst (NodesAllowed s e)
+    (sym (none_sent s e changes.behind made outcome ends none changes.uploads ∙ same changes.settled.tops changes.settled.items changes.settled.gone
+    ∙ forgets_only u versions))
     (forgotten_allowed s e u (deeds_done u (forgets versions)).versions outcome ends (nodes changes.allowed))
   where
     nodes : NodesAllowed s e changes.between ⊎ (IsProviding s e changes.between ⊎ IsRestoring s e changes.between) → NodesAllowed s e changes.between
@@ -291,7 +421,8 @@ end_allowed s e made outcome ends changes =
     nodes (inr (inl one)) = absurd (both_events outcome one.words one.request (sym ends ∙ one.begins))
     nodes (inr (inr one)) = absurd (both_events outcome one.words one.request (sym ends ∙ one.begins))
 
-    same : (tops : List ℕ) → All (IsItemSettled s e) tops → made ≡ deeds_done changes.between (purges tops ++ forgets changes.settled.versions)
-        → made ≡ deeds_done changes.between (forgets changes.settled.versions)
+    same : (tops : List ℕ) → All (IsItemSettled s e) tops
+        → changes.behind ≡ deeds_done changes.between (purges tops ++ forgets changes.settled.versions)
+        → changes.behind ≡ deeds_done changes.between (forgets changes.settled.versions)
     same [] items gone = gone
     same (top ∷ tops) items gone = let one = items 0 0 (omega arith) in absurd (end_settles s e outcome one.0.owner ends one.2)

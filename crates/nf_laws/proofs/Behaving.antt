@@ -8,17 +8,18 @@ use Rattle.nf_base.specs.declared.rows.UserRow.{UserRow}
 use Rattle.nf_defs.specs.Prelude.{content_of, is_folder, item_row, Tables, user_row, made, put_all, node_row, user_named}
 use Rattle.nf_defs.specs.declared.Found.{Found}
 use Rattle.nf_defs.specs.declared.Found.TheVariants.{At, Free, Missing}
+use Rattle.nf_laws.proofs.Joining.{abandon_lower, IsPlaced, placed_at}
 use Rattle.nf_laws.proofs.Recharged.{besides_lower, discards_lower, lower_append, purges_lower, IsLower, moves_less}
-use Rattle.nf_words.proofs.Begins.{only_at, places_at, wanted_passes, WantedPasses}
+use Rattle.nf_words.proofs.Begins.{only_at, places_at, wanted_known, wanted_passes, WantedPasses}
 use Rattle.nf_words.proofs.Fits.{within}
 use Rattle.nf_words.proofs.Found.{found_passes}
-use Rattle.nf_words.proofs.Known.{KnownCopies, KnownCross, KnownGoes, KnownRestore}
-use Rattle.nf_words.proofs.Passing.{call_passes, no_excess, place_passes}
+use Rattle.nf_words.proofs.Known.{KnownCopies, KnownCross, KnownGoes, KnownRestore, KnownSettled}
+use Rattle.nf_words.proofs.Passing.{call_passes, place_passes, quota_passes}
 use Rattle.nf_words.proofs.Provided.{row_there}
 use Rattle.nf_words.proofs.Starts.{has_asker, IsAsking}
 use Rattle.nf_words.proofs.Transfers.{copies_known, transfer_known}
 use Rattle.nf_words.proofs.Trashing.{own_there, back_known}
-use Rattle.nf_words.specs.Prelude.{access_of, AreSound, asked_of, asked_of_trash, asker_of, besides, by_of, Call, call_decision, carry_excess, carry_limit, copied, copy_excess, copy_limit, crosses, crossing, deepest_in, deleted, discards, exceeded, found, given, gone_beside, home_of, IsSound, item_dropped, item_if_of, item_restored, items_of, last_name, limited, listing_of, made_folder, MayWant, mount_left, mount_renamed, moved, move_limit, moves, name_back, node_at, nothing_done, offered, own_item, people_done, perms_after, purges, quota_rule, requoted, root_of, row_named, served, shared, share_ended, share_made, share_set, share_shown, share_steered, share_told, stored, transfer_of, trash_done, unfit_between, unreached, until_after, way_of, brought_back, charged, charged_for, charged_to, item_size, requoting, restoring, settled_by, version_done, version_row, done, copies, put_mounts, mounts_for, with_mount_row, left_row, named_row, own_mount, same_end, set_row, membership, joined_by, left_by, is_member, mounts_joined, refills, restore_limit}
+use Rattle.nf_words.specs.Prelude.{access_of, AreSound, asked_of, asked_of_trash, asker_of, assembled_at, besides, by_of, Call, call_decision, carry_excess, carry_limit, chunk_number, chunk_sent, copied, copy_excess, copy_limit, crosses, crossing, deepest_in, deleted, discards, exceeded, found, given, gone_beside, home_of, IsSound, item_dropped, item_if_of, item_restored, items_of, last_name, limited, listing_of, made_folder, MayWant, mount_left, mount_renamed, moved, move_limit, moves, name_back, node_at, nothing_done, offered, own_item, people_done, perms_after, purges, requoted, root_of, row_named, served, shared, share_ended, share_made, share_set, share_shown, share_steered, share_told, stored, transfer_of, trash_done, unfit_between, unreached, until_after, upload_done, way_of, whole_of, brought_back, charged, charged_for, charged_to, item_size, requoting, restoring, settled_by, version_done, version_row, done, copies, put_mounts, mounts_for, with_mount_row, left_row, named_row, own_mount, same_end, set_row, membership, joined_by, left_by, is_member, mounts_joined, refills, restore_limit}
 use Rattle.nf_words.specs.declared.answer.Allowed.{Allowed}
 use Rattle.nf_words.specs.declared.answer.Allowed.TheVariants as allowed
 use Rattle.nf_words.specs.declared.answer.By.{By}
@@ -34,12 +35,15 @@ use Rattle.nf_words.specs.declared.request.Spot.{Spot}
 use Rattle.nf_words.specs.declared.request.Transfer.{Transfer}
 use Rattle.nf_words.specs.declared.request.TrashAsk.{TrashAsk}
 use Rattle.nf_words.specs.declared.request.TrashAsk.TheVariants as trash
+use Rattle.nf_words.specs.declared.request.UploadAsk.{UploadAsk}
+use Rattle.nf_words.specs.declared.request.UploadAsk.TheVariants as upload
 use Rattle.nf_words.specs.declared.request.Wanted.{Wanted}
 use Rattle.nf_words.specs.declared.request.Wanted.TheVariants as wanted
 use Rattle.nf_base.specs.declared.rows.VersionRow.{VersionRow}
 use Rattle.nf_words.specs.declared.request.VersionAsk.{VersionAsk}
 use Rattle.nf_words.specs.declared.request.VersionAsk.TheVariants as version
 use Rattle.nf_words.specs.declared.answer.Deed.{Deed}
+use Rattle.nf_words.specs.declared.answer.Deed.TheVariants as deed
 use Rattle.nf_base.specs.declared.changes.Change.{Change}
 use Rattle.nf_base.specs.declared.changes.Change.TheVariants.{Put, Drop}
 use Rattle.nf_base.specs.declared.changes.RowKey.TheVariants as keys
@@ -128,7 +132,7 @@ users_turnless first t user (change ∷ changes) other all =
 -- ---- how versions are settled
 
 -- the deeds lower charges, and no version goes behind them; or a quota is another, an item comes back, or copies are put somewhere, and
--- those of one owner go that are beyond their bound then
+-- those of one owner go that are beyond their bound then; or what the chunks of an upload have together is stored, with what that turns over
 pub data AreSettledSo (t : Tables) (now : ℕ) : List Deed → Type 0 where
   by_none : (deeds : List Deed) → ((user : ℕ) → IsLower deeds t user) → AreSettledSo t now deeds
   by_quota : (row : UserRow) (quota : ℕ) → user_row t.users row.id ≡ Some row → (row.quota == quota) ≡ false
@@ -138,6 +142,9 @@ pub data AreSettledSo (t : Tables) (now : ℕ) : List Deed → Type 0 where
       → AreSettledSo t now (settled_by t (charged t item.owner 0 (item_size t item)) (restoring t now item))
   by_copies : (transfer : Transfer) (name : List ℕ) → KnownCopies t transfer name
       → AreSettledSo t now (settled_by t (charged_for t transfer) (copies t now name transfer))
+  by_join : (place : Found) (name : List ℕ) (user : ℕ) (dir : List ℕ) → IsPlaced t place
+      → KnownSettled t now (deed.Store (assembled_at t now name (whole_of t.chunks user dir) place) ∷ deed.Abandon user dir ∷ [])
+      → AreSettledSo t now (deed.Store (assembled_at t now name (whole_of t.chunks user dir) place) ∷ deed.Abandon user dir ∷ [])
   by_cross : (transfer : Transfer) (name : List ℕ) → KnownCross t transfer name
       → AreSettledSo t now (settled_by t (charged_for t transfer) (crossing t now name transfer))
 
@@ -359,6 +366,16 @@ module _ (call : Call) (sound : AreSound call.state.tables) (later : call.state.
       here None e = none
       here (Some version) e = back version e (node_row all.nodes node) refl
 
+  upload_settles : (asked : UploadAsk) → WantedPasses call (wanted.Upload asked)
+      → DoesSo (upload_done call (places_at call (wanted.Upload asked)) asked)
+  upload_settles (upload.New user dir to) p = inl ((tt, tt), refl)
+  upload_settles (upload.Chunk user dir name to length) p =
+      where_there (chunk_sent (asker_of call) dir length) nothing_done (chunk_number name) none (λ number. tt)
+  upload_settles (upload.Drop user dir) p = by_none (deed.Abandon (asker_of call) dir ∷ []) (abandon_lower (asker_of call) dir all)
+  upload_settles (upload.Join dir spot total) p =
+      by_join (found call spot) (last_name spot) (asker_of call) dir (placed_at call spot sound is p.place.target p.place.in_folder)
+      (wanted_known call sound is (wanted.Upload (upload.Join dir spot total)) p)
+
   wanted_settles : (wanted : Wanted) → WantedPasses call wanted → exceeded all (places_at call wanted) (asked_of wanted).makes ≡ None
       → DoesSo (given (access_of call.state) call (places_at call wanted) wanted)
   wanted_settles (wanted.Get spot) p fits = served_settles (way_of call spot).mount (node_at (Some (found call spot)))
@@ -373,12 +390,12 @@ module _ (call : Call) (sound : AreSound call.state.tables) (later : call.state.
   wanted_settles (wanted.People asked) p fits = people_settle asked
   wanted_settles (wanted.Trash asked) p fits = trash_settles (places_at call (wanted.Trash asked)) asked p.few
   wanted_settles (wanted.Version asked) p fits = version_settles asked
+  wanted_settles (wanted.Upload asked) p fits = upload_settles asked p
 
 pub call_settles : (call : Call) (act : Allowed) → IsSound call.state → call.state.tables.meta.last ≤ call.now → MayWant call.request
     → call_decision call ≡ Ok act → SettlesSo call.state.tables call.now act
-unfolding quota_rule
 call_settles call act sound later may is =
     let h = call_passes call act is in
     let asker = has_asker call h.0.token (place_passes (access_of call.state) call h.0.place).linked in
     subst (SettlesSo call.state.tables call.now) h.1
-    (wanted_settles call sound.rows later asker call.request.wanted (wanted_passes call may h.0) (no_excess _ h.0.quota))
+    (wanted_settles call sound.rows later asker call.request.wanted (wanted_passes call may h.0) (quota_passes (access_of call.state) call h.0.quota).0)

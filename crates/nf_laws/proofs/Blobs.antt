@@ -3,8 +3,8 @@ use Rattle.std.proofs.Common.{◌≡◌, ℕ, ◌<◌, ◌≤◌, ◌==◌, Bool
 use Rattle.std.specs.Prelude.{None, Option, option_map, Some}
 use Rattle.std.specs.List.{All}
 use Rattle.std.specs.Option.{IfSome, option_map_or}
-use Rattle.std.proofs.lemmas.List.Elements.{All-append, All-cons, All-filter, All-nil, All-contains, All-weaker}
-use Rattle.std.proofs.lemmas.Option.{none-some, slice_get-get_or}
+use Rattle.std.proofs.lemmas.List.Elements.{All-cons, All-nil, All-contains, All-weaker}
+use Rattle.std.proofs.lemmas.Option.{none-some}
 use Rattle.std.proofs.lemmas.Bool.{cases_Bool, cond_both}
 use Rattle.sha2.specs.Sha256.{sha256}
 use Rattle.nf_base.specs.declared.changes.Change.{Change}
@@ -15,28 +15,29 @@ use Rattle.nf_base.specs.declared.rows.MountRow.{MountRow}
 use Rattle.nf_base.specs.declared.rows.NodeRow.{NodeRow}
 use Rattle.nf_base.specs.declared.rows.Row.{Row}
 use Rattle.nf_base.specs.declared.rows.ShareRow.{ShareRow}
+use Rattle.nf_base.specs.declared.rows.ChunkRow.{ChunkRow}
+use Rattle.nf_base.specs.declared.rows.UploadRow.{UploadRow}
+use Rattle.nf_base.specs.Content.{content_eq}
 use Rattle.nf_base.specs.declared.changes.Change.TheVariants.{Drop, Put}
 use Rattle.nf_base.specs.declared.changes.RowKey.TheVariants as keys
 use Rattle.nf_base.specs.declared.rows.Row.TheVariants as rows
-use Rattle.nf_defs.specs.Prelude.{Access, blob_at, Blobs, content_of, filled, is_folder, made, node_key, node_row, put_all, put_blob, relinked, Tables, user_named, with_blob}
-use Rattle.nf_defs.specs.Tree.{trashed}
+use Rattle.nf_defs.specs.Prelude.{Access, blob_at, Blobs, chunk_key, content_of, filled, is_folder, made, node_key, node_row, put_all, put_blob, Tables, user_named, with_blob}
 use Rattle.nf_defs.proofs.Blobs.{new_at, put_at, put_elsewhere, still_at}
 use Rattle.nf_defs.proofs.Puts.{all_put}
 use Rattle.nf_defs.specs.declared.Found.{Found}
 use Rattle.nf_defs.specs.declared.Found.TheVariants.{At, Free}
-use Rattle.nf_laws.proofs.Contents.{contents_sound, by_kind, others_have}
-use Rattle.nf_laws.proofs.Entries.{deeds_known_have, entry_has, rest_kept, tickets_left, tickets_with}
-use Rattle.nf_laws.proofs.Gone.{is_left}
-use Rattle.nf_laws.proofs.InTurn.{deeds_keep, Fit, Joins}
-use Rattle.nf_laws.proofs.Lists.{AreBuilt, IsBuilt}
-use Rattle.nf_laws.proofs.OneRow.{with_all}
+use Rattle.nf_laws.proofs.Contents.{all_have, by_kind, contents_sound, EachHas}
+use Rattle.nf_laws.proofs.Entries.{deeds_known_have, entry_has, tickets_left, tickets_with}
+use Rattle.nf_laws.proofs.InTurn.{deeds_keep}
+use Rattle.nf_laws.proofs.Lists.{AreBuilt, counted_blob, IsBuilt}
+use Rattle.nf_laws.proofs.Naming.{changes_named, deed_named, version_has}
 use Rattle.nf_laws.proofs.Rows.{content_has, found_is, stamped_has}
 use Rattle.nf_laws.specs.Wholes.{BlobsAreNew, Brings, IsGoalHeld, IsHeld, IsThere, StaysWhole, blob_in, blob_under}
-use Rattle.nf_words.specs.Prelude.{access_of, after_mark, allowed_of, altered, AreSound, blob_after, blob_for, blob_of, by_of, Call, call_of, carries, changed, content_in, contents_of, copies, decision_of, deed_done, deleted, done, end_refusal, ends_at, ends_goal, given, goal_at, goal_of, hold_of, IsGoalSound, IsPieceSound, IsSound, IsTicketSound, item_dropped, item_restored, last_name, left_row, listing_of, made_folder, made_or_done, MayAsk, mount_left, mount_renamed, moved, named_row, node_at, own_item, own_mount, people_done, places_of, refilled, refusal_of, served, stamped, State, stored, stored_at, told, transfer_of, trash_done, unless_refused, way_of, with_goal, with_mount_row, without, is_member, joined_by, left_by, membership, mounts_for, mounts_joined, nothing_done, share_told, shared, share_made, offered, share_shown, share_set, perms_after, people_changed, put_mounts, requoted, row_named, same_end, set_row, share_steered, share_ended, until_after, becomes_version, brought_back, charged, charged_to, content_size, copies_settled, drop_version, gone_after, is_same, refills, requoting, settled_by, turned_over, turns_over, version_done, version_row}
+use Rattle.nf_words.specs.Prelude.{assembled, asker_of, chunk_number, chunk_put, chunk_refusal, chunk_row, chunk_sent, chunk_stored, touched_row, upload_done, upload_row, upload_touched, access_of, after_mark, allowed_of, altered, AreSound, blob_after, blob_for, blob_of, by_of, Call, call_of, carries, changed, content_in, contents_of, copies, decision_of, deed_done, deleted, done, end_refusal, ends_at, ends_goal, given, goal_at, goal_of, hold_of, IsGoalSound, IsPieceSound, IsSound, IsTicketSound, item_dropped, item_restored, last_name, left_row, listing_of, made_folder, made_or_done, MayAsk, mount_left, mount_renamed, moved, named_row, node_at, own_item, own_mount, people_done, places_of, refilled, refusal_of, served, stamped, State, stored, stored_at, told, transfer_of, trash_done, unless_refused, way_of, with_goal, with_mount_row, without, is_member, joined_by, left_by, membership, mounts_for, mounts_joined, nothing_done, share_told, shared, share_made, offered, share_shown, share_set, perms_after, people_changed, put_mounts, requoted, row_named, same_end, set_row, share_steered, share_ended, until_after, becomes_version, brought_back, charged, charged_to, content_size, copies_settled, drop_version, gone_after, is_same, refills, requoting, settled_by, turned_over, turns_over, version_done, version_row}
 use Rattle.nf_words.specs.declared.answer.Allowed.{Allowed}
 use Rattle.nf_words.specs.declared.answer.Allowed.TheVariants as allowed
 use Rattle.nf_words.specs.declared.answer.Goal.{Goal}
-use Rattle.nf_words.specs.declared.answer.Goal.TheVariants.{Serve, Store}
+use Rattle.nf_words.specs.declared.answer.Goal.TheVariants.{Chunk, Serve, Store}
 use Rattle.nf_words.specs.declared.history.Entry.{Entry}
 use Rattle.nf_words.specs.declared.history.Mark.{Mark}
 use Rattle.nf_words.specs.declared.history.Ticket.{Ticket}
@@ -71,6 +72,8 @@ use Rattle.nf_base.specs.declared.rows.VersionRow.{VersionRow}
 use Rattle.nf_retention.specs.declared.versions.Version.{Version}
 use Rattle.nf_words.specs.declared.request.VersionAsk.{VersionAsk}
 use Rattle.nf_words.specs.declared.request.VersionAsk.TheVariants as version
+use Rattle.nf_words.specs.declared.request.UploadAsk.{UploadAsk}
+use Rattle.nf_words.specs.declared.request.UploadAsk.TheVariants as upload
 use Rattle.nf_words.specs.Versions.{drop_back, drop_gone, has_already, is_version, put_replaced, stays_version, version_for}
 use Rattle.nf_laws.specs.Acts.{IsOldVersion}
 
@@ -89,6 +92,8 @@ deed_next u (deed.Relink node folder name) = refl
 deed_next u (deed.Join copies) = refl
 deed_next u (deed.Requote row) = refl
 deed_next u (deed.Forget node at) = refl
+deed_next u (deed.Store changes) = counted_blob u.meta changes
+deed_next u (deed.Abandon user dir) = refl
 
 pub altered_next : (t : Tables) (now : ℕ) (act : Allowed) → (altered t now act).meta.next_blob ≡ blob_after t.meta.next_blob (blob_of act)
 altered_next t now (allowed.Deeds deeds report) =
@@ -103,9 +108,10 @@ told_blob t now act known none = refl
 
 -- ---- what an event stores
 
--- a change that may be in a list is of a row without content, or of a node's with that content
+-- a change that may be in a list is of a row without content, or of a node's or a chunk's with that content
 abbrev pub IsOf : List Piece → Change → Type 0
 IsOf content (Put (rows.Node row)) = row.content ≡ content
+IsOf content (Put (rows.Chunk row)) = row.content ≡ content
 IsOf content change = IsBuilt change
 
 abbrev pub AreOf : List Piece → List Change → Type 0
@@ -147,6 +153,7 @@ refilled_of t (Some row) now content =
 
 of_one : (content : List Piece) (change : Change) → IsOf content change → IsBuilt change
 of_one content (Put (rows.Node row)) of = tt
+of_one content (Put (rows.Chunk row)) of = tt
 of_one content change of = of
 
 pub of_nodes : (content : List Piece) (changes : List Change) → AreOf content changes → AreBuilt changes
@@ -169,7 +176,7 @@ abbrev pub StoresBody : Tables → List ℕ → Allowed → Type 0
 StoresBody t body (allowed.Change changes blob report) = StoreBody t body changes blob
 StoresBody t body act = Unit {0}
 
--- what a request that is neither a GET nor about versions may do: nothing that stores or shows a content, or gives a file one
+-- what a request that is neither a GET nor about versions may do: no change that stores or shows a content, or gives a file one
 abbrev pub Alters : Tables → Allowed → Type 0
 Alters t (allowed.Get node content) = ⊥
 Alters t (allowed.List listing) = ⊥
@@ -273,6 +280,15 @@ trash_alters call (trash.Empty user) = tt
 trash_alters call (trash.Restore user item) =
     found_alters call.state.tables (item_restored call.state.tables call.now) (own_item call item) (λ item. tt)
 
+-- an upload that is new, goes or becomes the content of a file stores nothing
+upload_alters : (call : Call) (places : Places) (asked : UploadAsk) → Alters call.state.tables (upload_done call places asked)
+upload_alters call places (upload.New user dir to) = (refl, (tt, tt))
+upload_alters call places (upload.Chunk user dir name to length) =
+    found_alters call.state.tables (chunk_sent (asker_of call) dir length) (chunk_number name) (λ number. tt)
+upload_alters call places (upload.Drop user dir) = tt
+upload_alters call places (upload.Join dir spot total) =
+    either_alters call.state.tables (assembled call.state.tables call.now (last_name spot) (asker_of call) dir) places.target (λ place. tt)
+
 pub given_alters : (call : Call) (places : Places) (asked : Wanted)
     → ((spot : Spot) × (asked ≡ wanted.Get spot))
     ⊎ (((ask : VersionAsk) × (asked ≡ wanted.Version ask)) ⊎ Alters call.state.tables (given (access_of call.state) call places asked))
@@ -301,6 +317,7 @@ given_alters call places (wanted.Share asked) = inr (inr (shared_alters call pla
 given_alters call places (wanted.People asked) = inr (inr (people_alters call asked))
 given_alters call places (wanted.Trash asked) = inr (inr (trash_alters call asked))
 given_alters call places (wanted.Version asked) = inr (inl (asked, refl))
+given_alters call places (wanted.Upload asked) = inr (inr (upload_alters call places asked))
 
 -- so a Begin stores nothing
 alters_stores : (t : Tables) (body : List ℕ) (act : Allowed) → Alters t act → StoresBody t body act
@@ -351,6 +368,26 @@ key_stores : (t : Tables) (now : ℕ) (key : LockKey) (body : List ℕ)
 key_stores t now (Node node) body = inr (refl, refilled_of t (node_row t.nodes node) now _)
 key_stores t now (Slot folder name) body = inr (refl, (refl, drops_of _ _))
 
+-- and so does that of a chunk
+chunk_of : (t : Tables) (now : ℕ) (row : ChunkRow) (o : Option UploadRow)
+    → AreOf row.content (chunk_put t row ++ option_map_or (upload_touched now) o [])
+chunk_of t now row o =
+    append_of row.content (chunk_put t row) (option_map_or (upload_touched now) o [])
+    (cond_both (option_map_or (λ old. content_eq old.content row.content) (chunk_row t.chunks row.user row.dir row.number) false) []
+    (Put (rows.Chunk row) ∷ []) (AreOf row.content) (λ again. tt) (λ other. (refl, tt)))
+    (here o)
+  where
+    here : (o : Option UploadRow) → AreOf row.content (option_map_or (upload_touched now) o [])
+    here None = tt
+    here (Some upload) =
+        cond_both (upload.touched == now) [] (Put (rows.Upload (touched_row now upload)) ∷ []) (AreOf row.content) (λ same. tt) (λ other. (tt, tt))
+
+chunk_stores : (t : Tables) (now user : ℕ) (dir : List ℕ) (number : ℕ) (body : List ℕ)
+    → StoresBody t body (chunk_stored t now user dir number (sha256 body) (length body))
+chunk_stores t now user dir number body =
+    let content = content_in (blob_for t.meta.next_blob (length body)) (sha256 body) (length body) in
+    inr (refl, chunk_of t now (record { user = user; dir = dir; number = number; content = content }) (upload_row t.uploads user dir))
+
 -- a decision stores these bytes, if it stores any
 abbrev pub Decides : Tables → List ℕ → Result Allowed Denial → Type 0
 Decides t body (Ok act) = StoresBody t body act
@@ -365,6 +402,9 @@ goal_stores : (access : Access) (t : Tables) (now : ℕ) (outcome : Outcome) (go
     → Decides t body (ends_goal access t now outcome goal)
 goal_stores access t now (Body digest size) (Store by key wanted) body brings =
     unless_stores t body (end_refusal access t now by key size) (stored_at t now key digest size) (rw (brings.0, brings.1) (key_stores t now key body))
+goal_stores access t now (Body digest size) (Chunk user dir number wanted) body brings =
+    unless_stores t body (chunk_refusal t user dir number size) (chunk_stored t now user dir number digest size)
+    (rw (brings.0, brings.1) (chunk_stores t now user dir number body))
 goal_stores access t now (Body digest size) goal body brings = tt
 goal_stores access t now outcome goal body brings = tt
 
@@ -418,28 +458,6 @@ contents_kept : (t : Tables) (opening : List Row) (start blobs more : Blobs) →
 contents_kept t opening start blobs more keeps sound held = λ k d within.
     pieces_kept t opening start blobs more (get_or (contents_of t) k d) keeps (contents_sound t sound k d within) (held k d within)
 
--- what a node's row names is held
-abbrev IsRowHeld : List Row → Blobs → Blobs → NodeRow → Type 0
-IsRowHeld opening start blobs row = All (IsHeld opening start blobs) row.content
-
--- and what a version's does
-abbrev IsVersionHeld : List Row → Blobs → Blobs → VersionRow → Type 0
-IsVersionHeld opening start blobs row = All (IsHeld opening start blobs) row.content
-
-version_held : (t : Tables) (opening : List Row) (start blobs : Blobs) (node : ℕ) (content : List Piece)
-    → All (IsVersionHeld opening start blobs) t.versions → IsOfVersion t node content → All (IsHeld opening start blobs) content
-version_held t opening start blobs node content versions (version, at, found, same) =
-    subst (All (IsHeld opening start blobs)) (sym same)
-    (found_is (IsVersionHeld opening start blobs) (λ (row : VersionRow). row.node == node && row.at == at) t.versions version versions found).1
-
--- so of what a version was made
-old_held : (t : Tables) (opening : List Row) (start blobs : Blobs) → All (IsRowHeld opening start blobs) t.nodes
-    → All (IsVersionHeld opening start blobs) t.versions → (version : VersionRow) → IsOldVersion t version → IsVersionHeld opening start blobs version
-old_held t opening start blobs nodes versions version (inl among) = All-contains (IsVersionHeld opening start blobs) t.versions version versions among
-old_held t opening start blobs nodes versions version (inr (was, there, same)) =
-    subst (IsVersionHeld opening start blobs) (sym same)
-    (found_is (IsRowHeld opening start blobs) (λ (row : NodeRow). row.id == version.node) t.nodes was nodes there).1
-
 -- ---- what a body brings
 
 brought : (next : ℕ) (opening : List Row) (start blobs : Blobs) (body : List ℕ)
@@ -464,72 +482,66 @@ stored_held : (next : ℕ) (opening : List Row) (start blobs : Blobs) (body : Li
 stored_held next opening start blobs body blob content in_blob in_content =
     rw (in_blob, in_content) (brought next opening start blobs body)
 
--- what the nodes have, and all of that content, the nodes have after changes to it
-one_has : (P : NodeRow → Type 0) (t : Tables) (content : List Piece) (change : Change) → IsOf content change
-    → ((row : NodeRow) → row.content ≡ content → P row) → All P t.nodes → All P (made t change).nodes
-one_has P t content (Put (rows.Node row)) of has all = all_put node_key P row t.nodes (has row of) all
-one_has P t content (Drop (keys.Node node)) of has all = absurd of
-one_has P t content change of has all = all
+-- what nodes and chunks have, and all of that content, they have after changes to it
+module _ (P : List Piece → Type 0) (content : List Piece) (has : P content) where
+  abbrev AllHave : Tables → Type 0
+  AllHave t = All (λ (row : NodeRow). P row.content) t.nodes × All (λ (row : ChunkRow). P row.content) t.chunks
 
-of_have : (P : NodeRow → Type 0) (t : Tables) (content : List Piece) (changes : List Change) → AreOf content changes
-    → ((row : NodeRow) → row.content ≡ content → P row) → All P t.nodes → All P (put_all t changes).nodes
-of_have P t content [] of has all = all
-of_have P t content (change ∷ changes) of has all =
-    of_have P (made t change) content changes of.1 has (one_has P t content change of.0 has all)
+  one_has : (t : Tables) (change : Change) → IsOf content change → AllHave t → AllHave (made t change)
+  one_has t (Put (rows.Node row)) of all =
+      (all_put node_key (λ (row : NodeRow). P row.content) row t.nodes (subst P (sym of) has) all.0, all.1)
+  one_has t (Put (rows.Chunk row)) of all =
+      (all.0, all_put chunk_key (λ (row : ChunkRow). P row.content) row t.chunks (subst P (sym of) has) all.1)
+  one_has t (Drop (keys.Node node)) of all = absurd of
+  one_has t (Drop (keys.Chunk user dir number)) of all = absurd of
+  one_has t change of all = all
 
--- a copy has the content of a node that is there
-copies_held : (u : Tables) (now : ℕ) (copies : List NodeRow) (opening : List Row) (start blobs : Blobs) → Joins u now copies
-    → All (IsRowHeld opening start blobs) u.nodes → All (IsRowHeld opening start blobs) copies
-copies_held u now copies opening start blobs joins kept k d within =
-    let copy = joins.mirrors.each k (get_or copies k d) (slice_get-get_or copies k d within) in
-    subst (All (IsHeld opening start blobs)) (sym copy.content)
-    (found_is (IsRowHeld opening start blobs) (λ row. row.id == copy.node) u.nodes copy.of kept copy.there).1
+  of_have : (t : Tables) (changes : List Change) → AreOf content changes → AllHave t → AllHave (put_all t changes)
+  of_have t [] of all = all
+  of_have t (change ∷ changes) of all = of_have (made t change) changes of.1 (one_has t change of.0 all)
 
--- what is moved, put in the trash or comes back keeps its content
-deed_held : (u : Tables) (now : ℕ) (one : Deed) (opening : List Row) (start blobs : Blobs) → Fit u now one
-    → All (IsRowHeld opening start blobs) u.nodes → All (IsRowHeld opening start blobs) (deed_done u one).nodes
-deed_held u now (deed.Discard item) opening start blobs fit kept =
-    with_all (IsRowHeld opening start blobs) u.nodes item.node trashed (λ row held. held) kept
-deed_held u now (deed.Purge node) opening start blobs fit kept =
-    All-filter (λ row. is_left u.nodes node row.id) (IsRowHeld opening start blobs) u.nodes kept
-deed_held u now (deed.Restore node folder name) opening start blobs fit kept =
-    with_all (IsRowHeld opening start blobs) u.nodes node (relinked folder name) (λ row held. held) kept
-deed_held u now (deed.Relink node folder name) opening start blobs fit kept =
-    with_all (IsRowHeld opening start blobs) u.nodes node (relinked folder name) (λ row held. held) kept
-deed_held u now (deed.Join copies) opening start blobs joins kept =
-    All-append (IsRowHeld opening start blobs) u.nodes copies kept (copies_held u now copies opening start blobs joins kept)
-deed_held u now (deed.Requote row) opening start blobs fit kept = kept
-deed_held u now (deed.Forget node at) opening start blobs fit kept = kept
+-- what rows name is held, told by the kind of the row
+abbrev AllHeld : List Row → Blobs → Blobs → Tables → Type 0
+AllHeld opening start blobs t = EachHas (All (IsHeld opening start blobs)) t
 
--- where the old nodes' pieces are held with the body, the new nodes' are
+-- a version has what its file had, or is one that there was
+old_held : (t : Tables) (opening : List Row) (start blobs : Blobs) → AllHeld opening start blobs t → (version : VersionRow) → IsOldVersion t version
+    → All (IsHeld opening start blobs) version.content
+old_held t opening start blobs held version (inl among) =
+    All-contains (λ (row : VersionRow). All (IsHeld opening start blobs) row.content) t.versions version held.versions among
+old_held t opening start blobs held version (inr (was, there, same)) =
+    subst (λ (row : VersionRow). All (IsHeld opening start blobs) row.content) (sym same)
+    (found_is (λ (row : NodeRow). All (IsHeld opening start blobs) row.content) (λ (row : NodeRow). row.id == version.node) t.nodes was held.nodes there).1
+
+-- where what the old rows name is held with the body, what the new ones name is
 altered_held : (t : Tables) (now : ℕ) (act : Allowed) (opening : List Row) (start blobs : Blobs) (body : List ℕ)
-    → AreSound t → t.meta.last ≤ now → Known t now act
-    → All (IsRowHeld opening start (with_blob blobs (blob_of act) body)) t.nodes
-    → All (IsVersionHeld opening start (with_blob blobs (blob_of act) body)) t.versions → StoresBody t body act
-    → All (IsRowHeld opening start (with_blob blobs (blob_of act) body)) (altered t now act).nodes
-altered_held t now (allowed.Change changes blob report) opening start blobs body sound later known kept versions stores =
-    let more = with_blob blobs blob body in
-    let Held : NodeRow → Type 0 = IsRowHeld opening start more in
+    → AreSound t → t.meta.last ≤ now → Known t now act → AllHeld opening start (with_blob blobs (blob_of act) body) t → StoresBody t body act
+    → AllHeld opening start (with_blob blobs (blob_of act) body) (altered t now act)
+altered_held t now (allowed.Change changes None told) opening start blobs body sound later known held stores =
+    changes_named (IsHeld opening start blobs) t now changes told sound known held
+altered_held t now (allowed.Change changes (Some blob) told) opening start blobs body sound later known held stores =
+    let more = with_blob blobs (Some blob) body in
+    let Held : List Piece → Type 0 = All (IsHeld opening start more) in
+    let content = content_in (blob_for t.meta.next_blob (length body)) (sha256 body) (length body) in
     elim stores [
-      | inl none ↦
-          elim none.1 [
-            | inl empty ↦
-                of_have Held t [] changes empty
-                (λ row is. subst (λ (c : List Piece). All (IsHeld opening start more) c) (sym is) (All-nil (IsHeld opening start more))) kept
-            | inr (node, content, of, are) ↦
-                of_have Held t content changes are
-                (λ row is.
-                subst (λ (c : List Piece). All (IsHeld opening start more) c) (sym is)
-                (version_held t opening start more node content versions of)) kept
-          ]
+      | inl none ↦ let absent = none.0 in absurd (cc)
       | inr some ↦
-          of_have Held t (content_in (blob_for t.meta.next_blob (length body)) (sha256 body) (length body)) changes some.1
-          (λ row is. stored_held t.meta.next_blob opening start blobs body blob row.content some.0 is) kept
+          (let both = of_have Held content (stored_held t.meta.next_blob opening start blobs body (Some blob) content some.0 refl) t changes some.1
+          (held.nodes, held.chunks) in
+          record {
+            nodes = both.0;
+            versions = All-weaker (IsOldVersion t) (λ (row : VersionRow). Held row.content) (old_held t opening start more held)
+                (put_all t changes).versions (altered_old t now (allowed.Change changes (Some blob) told) sound known);
+            chunks = both.1;
+          })
     ]
-altered_held t now (allowed.Deeds deeds report) opening start blobs body sound later known kept versions stores =
-    deeds_known_have (λ (u : Tables). All (IsRowHeld opening start blobs) u.nodes) t now deeds sound later known
-    (λ u one fine at fit. deed_held u now one opening start blobs fit) kept
-altered_held t now act opening start blobs body sound later known kept versions stores = kept
+altered_held t now (allowed.Deeds deeds told) opening start blobs body sound later known held stores =
+    let Q : Piece → Type 0 = IsHeld opening start blobs in
+    let P : Tables → Type 0 = λ u. EachHas (All Q) u in
+    let stamped = deeds_known_have P t now deeds sound later known (λ u one fine at fit. deed_named Q u now one fine at fit)
+    (record { nodes = held.nodes; versions = held.versions; chunks = held.chunks }) in
+    record { nodes = stamped.nodes; versions = stamped.versions; chunks = stamped.chunks }
+altered_held t now act opening start blobs body sound later known held stores = held
 
 changed_held : (t : Tables) (now : ℕ) (act : Allowed) (opening : List Row) (start blobs : Blobs) (body : List ℕ)
     → AreSound t → t.meta.last ≤ now → Known t now act
@@ -538,13 +550,8 @@ changed_held : (t : Tables) (now : ℕ) (act : Allowed) (opening : List Row) (st
 changed_held t now act opening start blobs body sound later known kept stores =
     let more = with_blob blobs (blob_of act) body in
     let Held : List Piece → Type 0 = All (IsHeld opening start more) in
-    let each = by_kind Held t kept in
-    let rest = rest_kept t now act sound known in
     stamped_has (AreHeld opening start more) t (altered t now act) now (told t act) kept
-    (others_have Held t (altered t now act) (ap (λ (u : Tables). u.chunks) rest) each
-    (altered_held t now act opening start blobs body sound later known each.nodes each.versions stores)
-    (All-weaker (IsOldVersion t) (IsVersionHeld opening start more) (old_held t opening start more each.nodes each.versions) (altered t now act).versions
-    (altered_old t now act sound known)))
+    (all_have Held (altered t now act) (altered_held t now act opening start blobs body sound later known (by_kind Held t kept) stores))
 
 -- ---- the tickets
 
@@ -555,6 +562,7 @@ goal_kept : (t : Tables) (opening : List Row) (start blobs more : Blobs) (goal :
     → IsGoalSound t goal → IsGoalHeld opening start blobs goal → IsGoalHeld opening start more goal
 goal_kept t opening start blobs more (Serve content) keeps sound held = pieces_kept t opening start blobs more content keeps sound held
 goal_kept t opening start blobs more (Store by key size) keeps sound held = tt
+goal_kept t opening start blobs more (Chunk user dir number size) keeps sound held = tt
 
 tickets_kept : (t : Tables) (opening : List Row) (start blobs more : Blobs) (tickets : List Ticket) → KeepsGiven t.meta.next_blob blobs more
     → All (IsTicketSound t) tickets → All (HasGoalHeld opening start blobs) tickets → All (HasGoalHeld opening start more) tickets
@@ -567,7 +575,7 @@ granted_held t now (allowed.Get node content) opening start blobs known all =
     let each = by_kind (All (IsHeld opening start blobs)) t all in
     elim known.of_node [
       | inl same ↦ subst (All (IsHeld opening start blobs)) (sym same) (content_has (IsHeld opening start blobs) t.nodes node each.nodes)
-      | inr of ↦ version_held t opening start blobs node content each.versions of
+      | inr of ↦ version_has (IsHeld opening start blobs) t node content each of
     ]
 granted_held t now act opening start blobs known all = tt
 

@@ -13,6 +13,7 @@ use Rattle.nf_defs.specs.Prelude.{climb, is_under, node_row, parent_of, relinked
 use Rattle.nf_laws.proofs.Acted.{Acted, IsNew, join_acted, leave_acted, none_acted, NoNode, relink_acted, IsAway}
 use Rattle.nf_laws.proofs.Copied.{copies_there}
 use Rattle.nf_laws.proofs.Going.{under_is}
+use Rattle.nf_laws.proofs.Each.{discard_none, NoStore, purges_none}
 use Rattle.nf_laws.proofs.InTurn.{Fit, joined_here, joined_into, Joins, joins_here, joins_into, leaving_fit, move_fits, none_replaced, replaced_is}
 use Rattle.nf_laws.proofs.Into.{folder_out, into, known_into, source_out}
 use Rattle.nf_laws.proofs.Left.{discard_left, leaving_left, Left}
@@ -48,6 +49,7 @@ pub record Kind (t : Tables) (now : ℕ) (deeds : List Deed) (leave : List ℕ) 
   pub more : List Deed
   pub gone : List ℕ
   pub are : deeds ≡ one ∷ more ++ purges gone
+  pub none : All NoStore (one ∷ more)
   pub fit : Fit t now one
   pub acted : Acted t (deeds_done t (one ∷ more)) now leave IsPut
   pub put : Put (deeds_done t (one ∷ more))
@@ -71,6 +73,7 @@ NotItem top item = (item.node == top) ≡ false
 
 abbrev MakesNone : ℕ → Deed → Type 0
 MakesNone top (deed.Discard item) = NotItem top item
+MakesNone top (deed.Store changes) = ⊥
 MakesNone top other = Unit {0}
 
 none_made : (top : ℕ) (v : Tables) (one : Deed) → MakesNone top one → All (NotItem top) v.items → All (NotItem top) (deed_done v one).items
@@ -82,6 +85,8 @@ none_made top v (deed.Relink node folder name) is all = all
 none_made top v (deed.Join more) is all = all
 none_made top v (deed.Requote row) is all = all
 none_made top v (deed.Forget node at) is all = all
+none_made top v (deed.Store changes) is all = absurd is
+none_made top v (deed.Abandon user dir) is all = all
 
 all_made : (top : ℕ) (v : Tables) (deeds : List Deed) → All (MakesNone top) deeds → All (NotItem top) v.items → All (NotItem top) (deeds_done v deeds).items
 all_made top v [] is all = all
@@ -129,6 +134,12 @@ Rest t u = u ≡ record t { nodes = u.nodes; shares = u.shares; versions = u.ver
 discard_rest : (t u : Tables) (now : ℕ) (row : NodeRow) → Rest u (deed_done u (discard t now row))
 discard_rest t u now row =
     cond_both (goes_itself t now row) (deed.Purge row.id) (deed.Discard (item_for now row)) (λ (one : Deed). Rest u (deed_done u one)) (λ e. refl) (λ e. refl)
+
+-- none of its deeds stores changes
+pub kind_none : (t : Tables) (now : ℕ) (deeds : List Deed) (leave : List ℕ) (IsPut : ℕ → Type 0) (Put : Tables → Type 0) (meta : MetaRow)
+    → Kind t now deeds leave IsPut Put meta → All NoStore deeds
+kind_none t now deeds leave IsPut Put meta kind =
+    subst (All NoStore) (sym kind.are) (All-append NoStore (kind.one ∷ kind.more) (purges kind.gone) kind.none (purges_none kind.gone))
 
 -- what goes beside a node is of its owner
 rest_beside : (t : Tables) (now : ℕ) (row : NodeRow) (leave : List ℕ) → AreSound t → node_row t.nodes row.id ≡ Some row → Contains leave row.id
@@ -183,6 +194,7 @@ module _ (t : Tables) (now : ℕ) (sound : AreSound t) (at : t.meta.last ≡ now
     more = [];
     gone = rest_of t now row;
     are = refl;
+    none = All-cons NoStore (discard t now row) [] (discard_none t now row) (All-nil NoStore);
     fit = leaving_fit t t now row known;
     acted = left_acted row known;
     put = tt;
@@ -251,6 +263,7 @@ module _ (t : Tables) (now : ℕ) (sound : AreSound t) (at : t.meta.last ≡ now
             more = [];
             gone = [];
             are = refl;
+            none = All-cons NoStore relinks [] tt (All-nil NoStore);
             fit = (own.0, fits);
             acted = relink_acted t t now [] transfer.node transfer.folder name own.0 sound (none_acted t now sound)
                 fits move.known.present (none_under t.nodes transfer.node);
@@ -280,6 +293,7 @@ module _ (t : Tables) (now : ℕ) (sound : AreSound t) (at : t.meta.last ≡ now
             more = relinks ∷ [];
             gone = rest_of t now row;
             are = refl;
+            none = All-cons NoStore (discard t now row) (relinks ∷ []) (discard_none t now row) (All-cons NoStore relinks [] tt (All-nil NoStore));
             fit = leaving_fit t t now row leaves;
             acted = acts;
             put = relinked_there t u transfer name source;
@@ -312,6 +326,7 @@ module _ (t : Tables) (now : ℕ) (sound : AreSound t) (at : t.meta.last ≡ now
             more = [];
             gone = [];
             are = refl;
+            none = All-cons NoStore (deed.Join rows) [] tt (All-nil NoStore);
             fit = joins;
             acted = join_acted t t now [] rows sound refl at (none_acted t now sound) joins;
             put = copies_joined t t now rows sound refl joins;
@@ -333,6 +348,7 @@ module _ (t : Tables) (now : ℕ) (sound : AreSound t) (at : t.meta.last ≡ now
             more = deed.Join rows ∷ [];
             gone = rest_of t now row;
             are = refl;
+            none = All-cons NoStore (discard t now row) (deed.Join rows ∷ []) (discard_none t now row) (All-cons NoStore (deed.Join rows) [] tt (All-nil NoStore));
             fit = leaving_fit t t now row leaves;
             acted = acts;
             put = copies_joined t u now rows left.sound left.meta (joins_into t now transfer name u row.id sound left is known);
@@ -430,6 +446,7 @@ module _ (t : Tables) (now : ℕ) (sound : AreSound t) (at : t.meta.last ≡ now
               more = discard t now from ∷ [];
               gone = rest_of t now from;
               are = refl;
+              none = All-cons NoStore (deed.Join rows) (discard t now from ∷ []) tt (All-cons NoStore (discard t now from) [] (discard_none t now from) (All-nil NoStore));
               fit = joins_here t now transfer name sound none cross.copies;
               acted = is.0;
               put = is.1;
@@ -463,6 +480,7 @@ module _ (t : Tables) (now : ℕ) (sound : AreSound t) (at : t.meta.last ≡ now
               gone = rest_of t now row ++ rest_of t now from;
               are = ap (λ (gone : List Deed). discard t now row ∷ deed.Join rows ∷ discard t now from ∷ gone)
                   (sym (map-append (λ (node : ℕ). deed.Purge node) (rest_of t now row) (rest_of t now from)));
+              none = All-cons NoStore (discard t now row) (deed.Join rows ∷ discard t now from ∷ []) (discard_none t now row) (All-cons NoStore (deed.Join rows) (discard t now from ∷ []) tt (All-cons NoStore (discard t now from) [] (discard_none t now from) (All-nil NoStore)));
               fit = leaving_fit t t now row leaves;
               acted = acts.0;
               put = acts.1;

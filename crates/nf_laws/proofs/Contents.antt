@@ -1,5 +1,5 @@
 -- What the contents of nodes, versions and chunks have, told apart by the kind of their rows and put together.
-use Rattle.std.proofs.Common.{◌≡◌, List, [], ◌∷◌, ◌++◌, map, sym, subst}
+use Rattle.std.proofs.Common.{List, [], ◌∷◌, ◌++◌, map, sym, subst}
 use Rattle.std.specs.List.{All}
 use Rattle.std.proofs.lemmas.List.{append-nil}
 use Rattle.std.proofs.lemmas.List.Elements.{All-append, All-cons, All-head, All-map, All-nil, All-tail, All-weaker}
@@ -80,17 +80,6 @@ module _ (P : List Piece → Type 0) where
         versions = All-nil (λ (row : VersionRow). P row.content);
         chunks = All-nil (λ (row : ChunkRow). P row.content);
       }))
-
-  -- ---- tables whose chunks aren't others
-
-  pub others_have : (t made : Tables) → made.chunks ≡ t.chunks → EachHas t → All (λ (row : NodeRow). P row.content) made.nodes
-      → All (λ (row : VersionRow). P row.content) made.versions → All P (contents_of made)
-  others_have t made chunks each nodes versions =
-      all_have made (record {
-        nodes = nodes;
-        versions = versions;
-        chunks = subst (All (λ (row : ChunkRow). P row.content)) (sym chunks) each.chunks;
-      })
 
 -- ---- sound tables
 

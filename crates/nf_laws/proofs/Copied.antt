@@ -339,6 +339,5 @@ module _ (t : Tables) (now : ℕ) (transfer : Transfer) (name : List ℕ) (rows 
           same_pieces t now transfer name rows mirrors,
           sum_by-append (λ row. length row.content) t.nodes rows,
         );
-        later = sound.later;
         others = others_still t made.meta made.nodes sound up later still;
       }

@@ -3,7 +3,7 @@ use Rattle.std.proofs.Common.{ℕ, ◌≤◌, List, [], ◌∷◌, ◌++◌, ari
 use Rattle.nf_base.specs.declared.rows.MetaRow.{MetaRow}
 use Rattle.nf_defs.specs.Tables.{Tables}
 use Rattle.nf_laws.proofs.Entries.{entry_has}
-use Rattle.nf_laws.proofs.Lists.{raised_higher}
+use Rattle.nf_laws.proofs.Lists.{counted_higher, raised_higher}
 use Rattle.nf_laws.proofs.InTurn.{deeds_keep}
 use Rattle.nf_laws.proofs.Rows.{stamp, stamped_has}
 use Rattle.nf_laws.specs.Numbers.{AreHigher, CountersRise}
@@ -21,7 +21,7 @@ up meta now nodes more = record { users = le_refl _; groups = le_refl _; nodes =
 same : (meta : MetaRow) → AreHigher meta meta
 same meta = up meta meta.last meta.next_node (le_refl _)
 
--- copies alone take numbers of nodes
+-- copies take numbers of nodes, and changes of whatever they put
 deed_up : (first : MetaRow) (now : ℕ) (u : Tables) (one : Deed) → AreHigher first (record u.meta { last = now })
     → AreHigher first (record (deed_done u one).meta { last = now })
 deed_up first now u (deed.Join rows) h =
@@ -32,6 +32,16 @@ deed_up first now u (deed.Restore node folder name) h = h
 deed_up first now u (deed.Relink node folder name) h = h
 deed_up first now u (deed.Requote row) h = h
 deed_up first now u (deed.Forget node at) h = h
+deed_up first now u (deed.Store changes) h =
+    let up = counted_higher u.meta changes in
+    record {
+      users = omega (arith, h.users, up.users);
+      groups = omega (arith, h.groups, up.groups);
+      nodes = omega (arith, h.nodes, up.nodes);
+      shares = omega (arith, h.shares, up.shares);
+      blobs = omega (arith, h.blobs, up.blobs);
+    }
+deed_up first now u (deed.Abandon user dir) h = h
 
 altered_up : (t : Tables) (now : ℕ) (act : Allowed) → AreHigher t.meta (stamp (altered t now act) now).meta
 altered_up t now (allowed.Change changes blob report) = raised_higher t now changes blob

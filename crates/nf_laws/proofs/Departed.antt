@@ -1,13 +1,14 @@
 -- What left its place in a step, and what goes for good beside it, row by row.
 use Rattle.std.proofs.Common.{◌≡◌, ◌≤◌, ℕ, length, length-append, List, ◌∷◌, ◌++◌, get_or, inl, inr, sym, ap, subst, ◌∙◌, arith, flat_map}
 use Rattle.std.specs.List.{All, Contains}
-use Rattle.std.proofs.lemmas.List.Elements.{All-contains, All-contains_itself, All-weaker, All-append}
+use Rattle.std.proofs.lemmas.List.Elements.{All-append, All-contains, All-contains_itself, All-head, All-weaker}
 use Rattle.nf_base.specs.declared.rows.MetaRow.{MetaRow}
 use Rattle.nf_base.specs.declared.rows.ShareRow.{ShareRow}
 use Rattle.nf_defs.specs.Prelude.{node_row, Tables}
 use Rattle.nf_laws.proofs.Acted.{Acted, away_on, IsAway, IsNew, item_left, not_leaving}
 use Rattle.nf_laws.proofs.Carried.{Kind}
 use Rattle.nf_laws.proofs.Discarding.{deed_told}
+use Rattle.nf_laws.proofs.Each.{NoStore}
 use Rattle.nf_laws.proofs.Ended.{are_ended}
 use Rattle.nf_laws.proofs.Going.{ArePurged, items_purged, present_off, purged_rest, shares_purged, under_is}
 use Rattle.nf_laws.proofs.InTurn.{deeds_append}
@@ -143,7 +144,7 @@ kind_some t now deeds leave IsPut Put meta kind =
     (omega (
       arith,
       length-append (told_deed t kind.one) (told_deeds (deed_done t kind.one) (kind.more ++ purges kind.gone)),
-      told_at kind.one (deed_told (stamp t now) now kind.one kind.fit),
+      told_at kind.one (deed_told (stamp t now) now kind.one (All-head NoStore kind.one kind.more kind.none) kind.fit),
     ))
   where
     -- at whatever moment
@@ -155,6 +156,8 @@ kind_some t now deeds leave IsPut Put meta kind =
     told_at (deed.Join rows) some = some
     told_at (deed.Requote row) some = some
     told_at (deed.Forget node at) some = some
+    told_at (deed.Store changes) some = some
+    told_at (deed.Abandon user dir) some = some
 
 -- the tables after a step with such deeds, whose moment is late enough
 pub kind_changed : (t : Tables) (now : ℕ) (deeds : List Deed) (leave : List ℕ) (IsPut : ℕ → Type 0) (Put : Tables → Type 0) (meta : MetaRow)

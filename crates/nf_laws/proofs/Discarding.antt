@@ -1,5 +1,5 @@
 -- That a step with a deed tells something, whose the items are that go for good, and what they leave as it was.
-use Rattle.std.proofs.Common.{ℕ, ◌==◌, ◌≡◌, ◌≢◌, ◌≤◌, not, List, ◌∷◌, get_or, length, length-append, map, refl, sym, ap, ◌∙◌, arith, ◌++◌}
+use Rattle.std.proofs.Common.{ℕ, ◌==◌, ◌≡◌, ◌≢◌, ◌≤◌, not, List, [], ◌∷◌, get_or, length, length-append, map, refl, sym, ap, ◌∙◌, arith, ◌++◌}
 use Rattle.std.specs.Prelude.{is_some}
 use Rattle.std.specs.List.{All, Contains}
 use Rattle.std.specs.Option.{option_and_then}
@@ -16,6 +16,7 @@ use Rattle.nf_defs.proofs.Walks.{climbs_walk}
 use Rattle.nf_defs.specs.Prelude.{folder_of, item_row, node_row, parent_of, Tables, walk_of}
 use Rattle.nf_defs.specs.Tree.{trashed}
 use Rattle.nf_laws.proofs.Climbs.{some_there}
+use Rattle.nf_laws.proofs.Each.{NoStore}
 use Rattle.nf_laws.proofs.Going.{ArePurged, item_is, under_beside}
 use Rattle.nf_laws.proofs.InTurn.{Fit}
 use Rattle.nf_laws.specs.Acts.{IsGoneWith, IsItemOf, IsUnderOne}
@@ -23,7 +24,7 @@ use Rattle.nf_laws.specs.Tree.{Under}
 use Rattle.nf_words.proofs.Known.{IsItem}
 use Rattle.nf_words.proofs.Trashing.{gone_has, of_user}
 use Rattle.nf_words.specs.Others.{IsItemSound}
-use Rattle.nf_words.specs.Prelude.{AreSound, closed_under, deed_done, dropped_under, gone_beside, gone_under, items_but, items_of, quota_of, told_deed, told_deeds, told_item, told_node, forgotten_under}
+use Rattle.nf_words.specs.Prelude.{AreSound, closed_under, deed_done, dropped_under, gone_beside, gone_under, items_but, items_of, quota_of, told_chunks, told_deed, told_deeds, told_item, told_node, forgotten_under}
 use Rattle.nf_words.specs.declared.answer.Deed.{Deed}
 use Rattle.nf_words.specs.declared.answer.Deed.TheVariants as deed
 
@@ -39,35 +40,37 @@ some_told t top =
       (climbs_walk 0 t.nodes top top (omega arith) refl).1,
     )
 
--- of any deed that is known
-pub deed_told : (t : Tables) (now : ℕ) (one : Deed) → Fit t now one → 1 ≤ length (told_deed t one)
-deed_told t now (deed.Discard item) fit =
+-- of any deed that is known, but for one that stores changes, which may be none
+pub deed_told : (t : Tables) (now : ℕ) (one : Deed) → NoStore one → Fit t now one → 1 ≤ length (told_deed t one)
+deed_told t now (deed.Discard item) none fit =
     omega (
       arith,
       length-append (told_node (node_row t.nodes item.node) trashed) (Put (rows.Item item) ∷ closed_under t.nodes t.shares item.node),
     )
-deed_told t now (deed.Purge node) fit =
+deed_told t now (deed.Purge node) none fit =
     omega (
       arith,
       length-append (forgotten_under t.nodes t.versions node) (gone_under t.nodes t.shares node ++ told_item t node),
       length-append (gone_under t.nodes t.shares node) (told_item t node),
       some_told t node,
     )
-deed_told t now (deed.Restore node folder name) fit = omega arith
-deed_told t now (deed.Relink node folder name) fit = rw fit.1.there (omega arith)
-deed_told t now (deed.Join copies) fit =
+deed_told t now (deed.Restore node folder name) none fit = omega arith
+deed_told t now (deed.Relink node folder name) none fit = rw fit.1.there (omega arith)
+deed_told t now (deed.Join copies) none fit =
     omega (
       arith,
       length-map copies (λ row. Put (rows.Node row)),
       fit.mirrors.all,
       (climbs_walk 0 t.nodes fit.transfer.node fit.transfer.node (omega arith) refl).1,
     )
-deed_told t now (deed.Requote row) fit = omega arith
-deed_told t now (deed.Forget node at) fit = omega arith
+deed_told t now (deed.Requote row) none fit = omega arith
+deed_told t now (deed.Forget node at) none fit = omega arith
+deed_told t now (deed.Store changes) none fit = absurd none
+deed_told t now (deed.Abandon user dir) none fit = omega (arith, length-append (told_chunks t user dir) (Drop (keys.Upload user dir) ∷ []))
 
-pub deeds_told : (t : Tables) (now : ℕ) (one : Deed) (deeds : List Deed) → Fit t now one → 1 ≤ length (told_deeds t (one ∷ deeds))
-deeds_told t now one deeds fit =
-    omega (arith, length-append (told_deed t one) (told_deeds (deed_done t one) deeds), deed_told t now one fit)
+pub deeds_told : (t : Tables) (now : ℕ) (one : Deed) (deeds : List Deed) → NoStore one → Fit t now one → 1 ≤ length (told_deeds t (one ∷ deeds))
+deeds_told t now one deeds none fit =
+    omega (arith, length-append (told_deed t one) (told_deeds (deed_done t one) deeds), deed_told t now one none fit)
 
 -- ---- whose the items are that go
 

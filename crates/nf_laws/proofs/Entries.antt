@@ -1,28 +1,19 @@
 -- What a state is after an entry: as before it but for what an event takes, or as an act made it of which its Known is known.
-use Rattle.std.proofs.Common.{ℕ, ◌==◌, ◌≡◌, ◌≤◌, not, List, Option, None, Some, Result, Ok, Err, refl, sym, ap, subst}
+use Rattle.std.proofs.Common.{ℕ, ◌==◌, ◌≡◌, ◌≤◌, not, List, Option, None, Some, Result, Ok, Err, refl, ap, subst}
 use Rattle.std.specs.List.{All}
 use Rattle.std.specs.Option.{IfSome}
 use Rattle.std.proofs.lemmas.List.Elements.{All-filter, All-push}
-use Rattle.nf_base.specs.declared.changes.Change.{Change}
-use Rattle.nf_base.specs.declared.changes.Change.TheVariants.{Drop, Put}
-use Rattle.nf_base.specs.declared.changes.RowKey.TheVariants as keys
-use Rattle.nf_base.specs.declared.rows.Row.TheVariants as rows
-use Rattle.nf_words.proofs.Fits.{IsTurned}
-use Rattle.nf_defs.specs.Prelude.{made, Tables}
-use Rattle.nf_laws.proofs.InTurn.{deeds_have, deeds_keep, Fit}
-use Rattle.nf_laws.proofs.Lists.{changes_have, with_born, with_filled, with_remounted, with_share}
+use Rattle.nf_defs.specs.Prelude.{Tables}
+use Rattle.nf_laws.proofs.InTurn.{deeds_have, Fit}
 use Rattle.nf_laws.proofs.Others.{stamp_sound}
 use Rattle.nf_laws.proofs.Parts.{deeds_stamped, step_turn}
-use Rattle.nf_laws.proofs.Peopled.{people_alone, with_rooted}
 use Rattle.nf_laws.proofs.Rows.{stamp, stamped_has}
 use Rattle.nf_laws.specs.Wholes.{blob_under}
 use Rattle.nf_words.proofs.Ends.{known_change}
 use Rattle.nf_words.proofs.Known.{Known, KnownSettled}
 use Rattle.nf_words.specs.Prelude.{after, after_mark, altered, AreSound, blob_by, blob_of, changed, decided, decision_of, deed_done, deeds_done, goal_of, hold_of, IsSound, MayCome, State, step, ticket_for, told, with_goal, without}
 use Rattle.nf_words.specs.declared.answer.Allowed.{Allowed}
-use Rattle.nf_words.specs.declared.answer.Allowed.TheVariants as allowed
 use Rattle.nf_words.specs.declared.answer.Deed.{Deed}
-use Rattle.nf_words.specs.declared.answer.Deed.TheVariants as deed
 use Rattle.nf_words.specs.declared.answer.Denial.{Denial}
 use Rattle.nf_words.specs.declared.answer.Goal.{Goal}
 use Rattle.nf_words.specs.declared.answer.Hold.{Hold}
@@ -50,7 +41,7 @@ tickets_with P tickets seat (Some goal) hold all one = All-push P tickets _ all 
 -- ---- a step
 
 -- what an event takes is no row
-same_tables : (s : State) (seat : ℕ) (event : Event) → s.tables ≡ (without s seat event).tables
+pub same_tables : (s : State) (seat : ℕ) (event : Event) → s.tables ≡ (without s seat event).tables
 same_tables s seat (Begin words request) = refl
 same_tables s seat (End outcome) = refl
 same_tables s seat Sweep = refl
@@ -107,52 +98,3 @@ after_has P n s e sound may same acts =
     entry_has (λ t tickets blob. P t) s e e.mark same (λ act is.
     stamped_has P s.tables (altered s.tables e.moment act) e.moment (told s.tables act) same
     (acts act (known_change s e.seat e.moment e.event act sound may.asked is)))
-
--- the tables are others in none but the kinds that are built
-abbrev pub RestKept : Tables → Tables → Type 0
-RestKept t u =
-    u ≡ record t {
-      meta = u.meta;
-      users = u.users;
-      tokens = u.tokens;
-      groups = u.groups;
-      members = u.members;
-      nodes = u.nodes;
-      shares = u.shares;
-      mounts = u.mounts;
-      versions = u.versions;
-      items = u.items;
-    }
-
--- no deed makes other rows of other kinds
-rest_done : (t u : Tables) (one : Deed) → RestKept t u → RestKept t (deed_done u one)
-rest_done t u (deed.Discard item) same = ap (λ (v : Tables). deed_done v (deed.Discard item)) same
-rest_done t u (deed.Purge node) same = ap (λ (v : Tables). deed_done v (deed.Purge node)) same
-rest_done t u (deed.Restore node folder name) same = ap (λ (v : Tables). deed_done v (deed.Restore node folder name)) same
-rest_done t u (deed.Relink node folder name) same = ap (λ (v : Tables). deed_done v (deed.Relink node folder name)) same
-rest_done t u (deed.Join rows) same = ap (λ (v : Tables). deed_done v (deed.Join rows)) same
-rest_done t u (deed.Requote row) same = ap (λ (v : Tables). deed_done v (deed.Requote row)) same
-rest_done t u (deed.Forget node at) same = ap (λ (v : Tables). deed_done v (deed.Forget node at)) same
-
--- nor does what becomes of versions
-rest_turned : (t u : Tables) (change : Change) → RestKept t u → IsTurned t u change → RestKept t (made u change)
-rest_turned t u (Put (rows.Version row)) same known = ap (λ (v : Tables). made v (Put (rows.Version row))) same
-rest_turned t u (Drop (keys.Version node at)) same known = ap (λ (v : Tables). made v (Drop (keys.Version node at))) same
-rest_turned t u change same known = absurd known
-
--- nor does any act
-pub rest_kept : (t : Tables) (now : ℕ) (act : Allowed) → AreSound t → Known t now act
-    → RestKept t (altered t now act)
-rest_kept t now (allowed.Change changes blob report) sound known =
-    changes_have (RestKept t) t now changes blob report sound.rising known
-    (λ u row same it. ap (λ (v : Tables). with_born v row) same) (λ u row same it. ap (λ (v : Tables). with_filled v row) same)
-    (λ u row same it. ap (λ (v : Tables). with_remounted v row) same) (λ u row same it. ap (λ (v : Tables). with_share v row) same)
-    (λ u change same it.
-    let by = made u change in
-    subst (RestKept t) (sym (people_alone u change it))
-    (ap (λ (v : Tables). record v { users = by.users; tokens = by.tokens; groups = by.groups; members = by.members }) same))
-    (λ u change same it. rest_turned t u change same it)
-    (λ u row root same it. ap (λ (v : Tables). with_rooted v row root) same) refl
-rest_kept t now (allowed.Deeds deeds report) sound known = deeds_keep (RestKept t) (rest_done t) t deeds refl
-rest_kept t now allowed.Close sound known = refl
-rest_kept t now act sound known = refl

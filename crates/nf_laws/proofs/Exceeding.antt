@@ -5,9 +5,9 @@ use Rattle.std.proofs.lemmas.Bool.{both_ways}
 use Rattle.std.proofs.lemmas.Option.{same_Some}
 use Rattle.nf_defs.specs.Prelude.{Access}
 use Rattle.nf_laws.proofs.Locking.{all_pass, refused}
-use Rattle.nf_laws.specs.Charges.{EndReaches, QuotaExactly, rules_before}
+use Rattle.nf_laws.specs.Charges.{EndReaches, excess_of, QuotaExactly, rules_before}
 use Rattle.nf_words.proofs.Marks.{early, early_pass, end_early, IsEarly, is_later}
-use Rattle.nf_words.specs.Prelude.{access_of, allowed_of, answered_by, asked_by, Call, call_of, earlier_rules, end_lost, end_refusal, end_unallowed, end_unreached, ends_at, exceeded, excess_at, first_that_holds, later_rules, limit_at, limit_rule, locked_rule, node_of_key, Pass, pieces_of, place_of, places_of, quota_rule, refusal_of, room_rule, Rule, State, stored_at, unless_refused}
+use Rattle.nf_words.specs.Prelude.{access_of, allowed_of, answered_by, Call, call_of, earlier_rules, end_lost, end_refusal, end_unallowed, end_unreached, ends_at, excess_at, first_that_holds, later_rules, limit_at, limit_rule, locked_rule, node_of_key, Pass, pieces_of, place_of, quota_rule, refusal_of, room_rule, Rule, State, stored_at, unless_refused}
 use Rattle.nf_words.specs.declared.answer.By.{By}
 use Rattle.nf_words.specs.declared.answer.Denial.{Denial}
 use Rattle.nf_words.specs.declared.answer.Denial.TheVariants as denial
@@ -21,7 +21,7 @@ use Rattle.nf_words.specs.declared.history.Outcome.TheVariants.{Body}
 
 module _ (access : Access) (call : Call) (excess : Excess) where
   abbrev exceeds : Option Excess
-  exceeds = exceeded call.state.tables (places_of call) (asked_by call).makes
+  exceeds = excess_of call
 
   both_pass : (before behind : List Rule) → Pass before access call → Pass behind access call → Pass (before ++ behind) access call
   both_pass [] behind passes more = more

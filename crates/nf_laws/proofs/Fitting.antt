@@ -17,7 +17,7 @@ use Rattle.nf_base.specs.declared.perms.Act.TheVariants as act
 use Rattle.nf_base.specs.declared.rows.MetaRow.{MetaRow}
 use Rattle.nf_base.specs.declared.rows.MountRow.{MountRow}
 use Rattle.nf_base.specs.declared.rows.NodeKind.{NodeKind}
-use Rattle.nf_base.specs.declared.rows.NodeKind.TheVariants.{File, Folder}
+use Rattle.nf_base.specs.declared.rows.NodeKind.TheVariants.{Folder}
 use Rattle.nf_base.specs.declared.rows.NodeRow.{NodeRow}
 use Rattle.nf_base.specs.declared.rows.Place.{Place}
 use Rattle.nf_defs.proofs.Puts.{below_rest, key_total, tail_rising, turned}
@@ -40,7 +40,7 @@ use Rattle.nf_laws.proofs.Reaching.{way_mount}
 use Rattle.nf_laws.proofs.Remaining.{added_present, gone_present, KeepsPresent, filled_present}
 use Rattle.nf_laws.proofs.Rows.{found_is, inside_folder, parent_there, row_id, stamp, stamped_has}
 use Rattle.nf_laws.proofs.Upwards.{climbs_is_under}
-use Rattle.nf_laws.specs.Acts.{IsAdded, IsPut, IsRefilled}
+use Rattle.nf_laws.specs.Acts.{IsAdded, IsRefilled}
 use Rattle.nf_laws.specs.Access.{Follows, IsNeeded, IsOwnPath, ItemsFollow, KeepsShares, Remounts, is_left, is_moved, is_renamed, is_updated}
 use Rattle.nf_laws.specs.Transfers.{replaced_by}
 use Rattle.nf_words.proofs.Begins.{delete_leaves, only_at, places_at, WantedPasses}
@@ -51,12 +51,10 @@ use Rattle.nf_words.proofs.Starts.{IsAsking, itself_seeks}
 use Rattle.nf_words.proofs.Transfers.{copies_known, no_mount, no_starts, transfer_known, transfer_parts}
 use Rattle.nf_words.proofs.Ways.{free_no_mount, slot_known}
 use Rattle.nf_words.specs.Needed.{source_act, target_needs, act_asked, node_asked}
-use Rattle.nf_words.specs.Prelude.{access_of, AreSound, asked_of, asker_of, by_of, beside, Call, carry_limit, changed, copied, copies, copies_to, copy_limit, crosses, crossing, deeds_done, deepest_in, deleted, discard, fault_of_ask, folder_at, found, given, is_itself, is_one, is_start, is_within, last_name, LeadsToRoot, left_row, limited, listing_of, made_folder, made_or_done, mount_for, mount_left, mount_of, mount_renamed, mounted, move_limit, moved, moves, named_row, Need, needed, needed_by, needs, needs_at, needs_between, needs_in, node_at, node_found, own_mount, purges, root_of, row_at, seeker_of, served, shared, stored, told, transfer_of, unfit_between, unreached, Way, way_by, way_of, with_mount_row, forgets, brought_back, refills, settled_by, charged_for, copies_settled, unsettled, purged_by, version_done, version_row, nothing_done}
+use Rattle.nf_words.specs.Prelude.{access_of, AreSound, asked_of, asker_of, by_of, beside, Call, carry_limit, changed, copied, copies, copies_to, copy_limit, crosses, crossing, deeds_done, deepest_in, deleted, discard, fault_of_ask, folder_at, found, given, is_itself, is_one, is_start, is_within, last_name, LeadsToRoot, left_row, limited, listing_of, made_folder, made_or_done, mount_for, mount_left, mount_of, mount_renamed, mounted, move_limit, moved, moves, named_row, Need, needed, needs, needs_at, needs_between, needs_in, node_at, node_found, own_mount, purges, root_of, row_at, seeker_of, served, shared, stored, told, transfer_of, unfit_between, unreached, Way, way_by, way_of, with_mount_row, forgets, brought_back, refills, settled_by, charged_for, copies_settled, unsettled, purged_by, version_done, version_row, nothing_done}
 use Rattle.nf_words.specs.declared.answer.Allowed.TheVariants as allowed
 use Rattle.nf_words.specs.declared.answer.By.{By}
 use Rattle.nf_words.specs.declared.answer.Deed.{Deed}
-use Rattle.nf_words.specs.declared.answer.LockKey.{LockKey}
-use Rattle.nf_words.specs.declared.answer.LockKey.TheVariants.{Node, Slot}
 use Rattle.nf_words.specs.declared.answer.Report.{Report}
 use Rattle.nf_words.specs.declared.answer.Report.TheVariants as report
 use Rattle.nf_words.specs.declared.request.Making.TheVariants as making
@@ -104,13 +102,13 @@ pub record Fits (t : Tables) (now : ℕ) (needs : List Need) (Other : Tables →
 
 -- where a row is another what became of the node follows from what is needed, and what is present and there stays present. The shares of
 -- nodes that are gone end and mounts are as they were, or both are as something else has it
-record FitsAlone (t : Tables) (needs : List Need) (Other : Tables → Type 0) (made : Tables) : Type 0 where
-  follow : AllFollow needs t.nodes made.nodes
-  present : KeepsPresent t.nodes made.nodes
-  others : ((made.shares ≡ shares_gone t.nodes made.nodes t.shares) × (made.mounts ≡ t.mounts)) ⊎ Other made
-  rest : made ≡ record t { meta = made.meta; nodes = made.nodes; shares = made.shares; mounts = made.mounts; versions = made.versions }
+pub record FitsAlone (t : Tables) (needs : List Need) (Other : Tables → Type 0) (made : Tables) : Type 0 where
+  pub follow : AllFollow needs t.nodes made.nodes
+  pub present : KeepsPresent t.nodes made.nodes
+  pub others : ((made.shares ≡ shares_gone t.nodes made.nodes t.shares) × (made.mounts ≡ t.mounts)) ⊎ Other made
+  pub rest : made ≡ record t { meta = made.meta; nodes = made.nodes; shares = made.shares; mounts = made.mounts; versions = made.versions }
 
-alone_fits : (t made : Tables) (now : ℕ) (needs : List Need) (Other : Tables → Type 0) → AreSound t → FitsAlone t needs Other made
+pub alone_fits : (t made : Tables) (now : ℕ) (needs : List Need) (Other : Tables → Type 0) → AreSound t → FitsAlone t needs Other made
     → Fits t now needs Other made
 alone_fits t made now needs Other sound alone = record {
   between = made;
@@ -140,7 +138,7 @@ same_fits t now needs Other sound =
     })
 
 -- where a node is added, or refilled
-added_fits : (t made : Tables) (now folder : ℕ) (name : List ℕ) (kind : NodeKind) (content : List Piece) (needs : List Need)
+pub added_fits : (t made : Tables) (now folder : ℕ) (name : List ℕ) (kind : NodeKind) (content : List Piece) (needs : List Need)
     (Other : Tables → Type 0) → AreSound t → IsAdded t made now folder name kind content → IsNeeded needs act.Create folder
     → Fits t now needs Other made
 added_fits t made now folder name kind content needs Other sound is needed =
@@ -159,7 +157,7 @@ added_fits t made now folder name kind content needs Other sound is needed =
         ]
 
 -- where a file is filled
-filled_fits : (t : Tables) (nodes : List NodeRow) (meta : MetaRow) (versions : List VersionRow) (now node : ℕ) (content : List Piece) (needs : List Need)
+pub filled_fits : (t : Tables) (nodes : List NodeRow) (meta : MetaRow) (versions : List VersionRow) (now node : ℕ) (content : List Piece) (needs : List Need)
     (Other : Tables → Type 0) → AreSound t → IsFilledAt t.nodes nodes now node content → IsNeeded needs act.Update node
     → Fits t now needs Other (record t { meta = meta; nodes = nodes; versions = versions })
 filled_fits t nodes meta versions now node content needs Other sound is needed =
@@ -177,7 +175,7 @@ filled_fits t nodes meta versions now node content needs Other sound is needed =
           | inr differs ↦ ap is_some (is.others other (λ e. both_ways (other == node) differs (eq-eqb other node e))) ∙ there
         ]
 
-refilled_fits : (t made : Tables) (now node : ℕ) (content : List Piece) (needs : List Need) (Other : Tables → Type 0) → AreSound t
+pub refilled_fits : (t made : Tables) (now node : ℕ) (content : List Piece) (needs : List Need) (Other : Tables → Type 0) → AreSound t
     → IsRefilled t made now node content → IsNeeded needs act.Update node → Fits t now needs Other made
 refilled_fits t made now node content needs Other sound is needed =
     let meta = record t.meta { next_blob = t.meta.next_blob + length content; last = made.meta.last } in
@@ -393,11 +391,12 @@ within_owner t transfer row sound there above =
 
 -- ---- a Begin
 
--- something is asked about users, groups, the trash or versions
+-- something is asked about users, groups, the trash, versions or uploads
 abbrev pub is_apart : Wanted → Bool
 is_apart (People asked) = true
 is_apart (Trash asked) = true
 is_apart (want.Version asked) = true
+is_apart (want.Upload asked) = true
 is_apart wanted = false
 
 -- that who is there makes
@@ -757,7 +756,7 @@ module _ (call : Call) (sound : AreSound call.state.tables) (later : call.state.
         })
       ]
 
-  -- what isn't asked about users, groups, the trash and versions
+  -- what isn't asked about users, groups, the trash, versions and uploads
   pub begin_fits : (wanted : Wanted) → call.request.wanted ≡ wanted → is_apart wanted ≡ false → WantedPasses call wanted
       → FitsCall (asked_for wanted) (changed t call.now (given (access_of call.state) call (places_at call wanted) wanted))
   begin_fits (Get spot) asked other p = served_fits (way_of call spot).mount (found call spot) (asked_for (Get spot))
@@ -773,6 +772,7 @@ module _ (call : Call) (sound : AreSound call.state.tables) (later : call.state.
   begin_fits (People asks) asked other p = absurd (false≢true (sym other))
   begin_fits (Trash asks) asked other p = absurd (false≢true (sym other))
   begin_fits (want.Version asks) asked other p = absurd (false≢true (sym other))
+  begin_fits (want.Upload asks) asked other p = absurd (false≢true (sym other))
 
   -- what is asked about versions
   pub versions_fit : (ask : VersionAsk) (needs : List Need) → IsNeeded needs (act_asked ask) (node_asked ask)
@@ -789,14 +789,3 @@ module _ (call : Call) (sound : AreSound call.state.tables) (later : call.state.
       here : (o : Option VersionRow) → FitsCall needs (changed t call.now (option_map_or (brought_back t call.now node) o nothing_done))
       here None = same_fits t call.now needs (OneOther call) sound
       here (Some row) = back_fits t call.now node row needs (OneOther call) sound needed
-
--- ---- an End
-
-pub put_fits : (t made : Tables) (now : ℕ) (by : By) (key : LockKey) (content : List Piece) (Other : Tables → Type 0) → AreSound t
-    → IsPut t made now key content → Fits t now (needed_by by key) Other made
-put_fits t made now by (Node node) content Other sound is =
-    let need = need_of act.Update node by.mount in
-    refilled_fits t made now node content (need ∷ []) Other sound is (first_needed need [])
-put_fits t made now by (Slot folder name) content Other sound is =
-    let need = need_of act.Create folder by.mount in
-    added_fits t made now folder name File content (need ∷ []) Other sound is (first_needed need [])

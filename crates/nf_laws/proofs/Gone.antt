@@ -99,7 +99,6 @@ module _ (t : Tables) (gone : ℕ → Bool) (items : List ItemRow) (sound : AreS
           sum_by-filter_both passes (λ row. not (passes row)) (λ row. refl) (λ row. length row.content) t.nodes,
           sum_by-filter_both is_there (λ row. not (is_there row)) (λ row. refl) (λ row. length row.content) t.versions,
         );
-        later = sound.later;
         others = others_ended t gone made.nodes made.versions items sound
             (λ n row there. was_same t.nodes n row (those_were (stays gone) t.nodes n row there).1)
             (λ n passes up. those_leads (stays gone) t.nodes n closed (ap not passes) up)

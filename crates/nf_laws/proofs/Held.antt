@@ -3,10 +3,11 @@ use Rattle.std.proofs.Common.{◌≡◌, ◌≢◌, inl, inr, ℕ, zero, ◌<◌
 use Rattle.std.specs.Prelude.{find, is_some, option_and_then, option_map}
 use Rattle.std.specs.List.{All}
 use Rattle.std.specs.Option.{option_map_or, option_or}
-use Rattle.std.proofs.lemmas.Bool.{and_parts, both_ways, cond_both, false_from_ne_true, ne_eqb}
-use Rattle.std.proofs.lemmas.List.Elements.{All-append, All-cons, All-filter, All-head, All-map, All-nil, All-tail}
+use Rattle.std.proofs.lemmas.Bool.{and_parts, both_ways, false_from_ne_true, ne_eqb}
+use Rattle.std.proofs.lemmas.List.Elements.{All-append, All-cons, All-filter, All-head, All-nil, All-tail}
 use Rattle.std.proofs.lemmas.List.Folds.{find-append}
 use Rattle.std.proofs.lemmas.Slice.Eq.{bytes_eq-Decides}
+use Rattle.nf_base.specs.declared.changes.Change.{Change}
 use Rattle.nf_base.specs.declared.rows.NodeRow.{NodeRow}
 use Rattle.nf_base.specs.declared.rows.Place.TheVariants.{Inside, Root, Trash}
 use Rattle.nf_defs.proofs.Climbs.{under_climb}
@@ -15,6 +16,7 @@ use Rattle.nf_defs.specs.Prelude.{child_of, climb, filled, folder_of, is_folder_
 use Rattle.nf_defs.specs.Tree.{trashed}
 use Rattle.nf_laws.proofs.Climbs.{climb_on, climb_rest, climb_same, climbs_no_further}
 use Rattle.nf_laws.proofs.Copied.{copy_at}
+use Rattle.nf_laws.proofs.Each.{abandons_each, behind_nodes, crossing_each, forgets_each, leaving_each, NoStore, purges_each, put_each, settled_stores}
 use Rattle.nf_laws.proofs.Gone.{row_left}
 use Rattle.nf_laws.proofs.InTurn.{item_outside}
 use Rattle.nf_laws.proofs.Lists.{nodes_have, with_filled}
@@ -26,21 +28,22 @@ use Rattle.nf_laws.proofs.Rows.{each_fails, finds_none, folder_there, kept_joine
 use Rattle.nf_laws.proofs.Upwards.{never_climbs}
 use Rattle.nf_laws.specs.Locks.{IsFree, KeyStays}
 use Rattle.nf_laws.specs.Transfers.{IsPlacedCopy}
-use Rattle.nf_words.proofs.Fits.{KnownFilled}
+use Rattle.nf_words.proofs.Fits.{KnownChange, KnownFilled}
 use Rattle.nf_words.proofs.Known.{IsItem, Known, KnownDeeds, KnownSettled}
-use Rattle.nf_words.proofs.Known.KnownDeeds.{by_copying, by_crossing, by_going, by_leaving, by_moving, by_requoting, by_restoring}
+use Rattle.nf_words.proofs.Known.KnownDeeds.{by_abandoning, by_copying, by_crossing, by_going, by_joining, by_leaving, by_moving, by_requoting, by_restoring, by_sweeping}
 use Rattle.nf_words.proofs.Spared.{Spares, SparesChange, SparesDeed, SparesRow, SparesUnder}
 use Rattle.nf_words.proofs.Ways.{HasRow, present_row}
-use Rattle.nf_words.specs.Prelude.{altered, AreSound, beside, besides, changed, copies_to, copies_within, deed_done, deeds_done, discard, discards, goes_itself, IsHeld, item_for, LeadsToRoot, node_of_key, purges, row_at, told, forgets}
+use Rattle.nf_words.specs.Prelude.{abandons, altered, AreSound, changed, copies_to, copies_within, deed_done, deeds_done, forgets, IsHeld, LeadsToRoot, node_of_key, purges, replaced, told}
 use Rattle.nf_words.specs.declared.answer.Allowed.{Allowed}
 use Rattle.nf_words.specs.declared.answer.Allowed.TheVariants as allowed
 use Rattle.nf_words.specs.declared.answer.Deed.{Deed}
 use Rattle.nf_words.specs.declared.answer.Deed.TheVariants as deed
 use Rattle.nf_words.specs.declared.answer.Hold.{Hold}
 use Rattle.nf_words.specs.declared.answer.LockKey.{LockKey}
+use Rattle.nf_words.specs.declared.answer.Report.{Report}
+use Rattle.nf_words.specs.declared.answer.Report.TheVariants as report
 use Rattle.nf_words.specs.declared.answer.LockKey.TheVariants.{Node, Slot}
 use Rattle.nf_words.specs.declared.request.Transfer.{Transfer}
-use Rattle.nf_retention.specs.declared.versions.Version.{Version}
 
 -- ---- free names
 
@@ -123,44 +126,24 @@ module _ (t : Tables) (now : ℕ) where
   IsBack (deed.Restore node folder name) = IsItem t node
   IsBack other = Unit {0}
 
-  purges_back : (nodes : List ℕ) → All IsBack (purges nodes)
-  purges_back nodes = All-map IsBack (λ (node : ℕ). deed.Purge node) nodes (λ k d within. tt)
-
-  discard_back : (row : NodeRow) → IsBack (discard t now row)
-  discard_back row =
-      cond_both (goes_itself t now row) (deed.Purge row.id) (deed.Discard (item_for now row)) IsBack (λ e. tt) (λ e. tt)
-
-  -- what leaves its place, and what else goes then, if anything does
-  discards_back : (o : Option NodeRow) → All IsBack (option_map_or (λ row. discard t now row ∷ []) o [])
-  discards_back None = All-nil IsBack
-  discards_back (Some row) = All-cons IsBack (discard t now row) [] (discard_back row) (All-nil IsBack)
-
-  besides_back : (o : Option NodeRow) → All IsBack (option_map_or (beside t now) o [])
-  besides_back None = All-nil IsBack
-  besides_back (Some row) = purges_back _
-
-  put_back : (replaced : Option ℕ) (one : Deed) → IsBack one → All IsBack (discards t now replaced ++ one ∷ besides t now replaced)
-  put_back replaced one back =
-      All-append IsBack (discards t now replaced) (one ∷ besides t now replaced) (discards_back (row_at t replaced))
-      (All-cons IsBack one (besides t now replaced) back (besides_back (row_at t replaced)))
-
   known_back : (deeds : List Deed) → KnownDeeds t now deeds → All IsBack deeds
-  known_back _ (by_going nodes goes) = purges_back nodes
-  known_back _ (by_leaving row known) = All-cons IsBack (discard t now row) (beside t now row) (discard_back row) (purges_back _)
+  known_back _ (by_going nodes goes) = purges_each t now IsBack (λ node. tt) (λ item. tt) nodes
+  known_back _ (by_leaving row known) = leaving_each t now IsBack (λ node. tt) (λ item. tt) row
   known_back _ (by_restoring node folder name gone known goes others) =
-      All-cons IsBack (deed.Restore node folder name) (purges gone) (ap is_some known.there) (purges_back gone)
-  known_back _ (by_requoting row gone known goes) = All-cons IsBack (deed.Requote row) (purges gone) tt (purges_back gone)
-  known_back _ (by_moving transfer name known) = put_back transfer.replaced (deed.Relink transfer.node transfer.folder name) tt
-  known_back _ (by_copying transfer name known) = put_back transfer.replaced (deed.Join (copies_to t now transfer name)) tt
-  known_back _ (by_crossing transfer name known) =
-      let from = Some transfer.node in
-      let rest = besides t now transfer.replaced ++ besides t now from in
-      let join = deed.Join (copies_to t now transfer name) in
-      All-append IsBack (discards t now transfer.replaced) (join ∷ (discards t now from ++ rest)) (discards_back (row_at t transfer.replaced))
-      (All-cons IsBack join (discards t now from ++ rest) tt
-      (All-append IsBack (discards t now from) rest (discards_back (row_at t from))
-      (All-append IsBack (besides t now transfer.replaced) (besides t now from) (besides_back (row_at t transfer.replaced))
-      (besides_back (row_at t from)))))
+      All-cons IsBack (deed.Restore node folder name) (purges gone) (ap is_some known.there) (purges_each t now IsBack (λ node. tt) (λ item. tt) gone)
+  known_back _ (by_requoting row gone known goes) =
+      All-cons IsBack (deed.Requote row) (purges gone) tt (purges_each t now IsBack (λ node. tt) (λ item. tt) gone)
+  known_back _ (by_moving transfer name known) =
+      put_each t now IsBack (λ node. tt) (λ item. tt) transfer.replaced (deed.Relink transfer.node transfer.folder name) tt
+  known_back _ (by_copying transfer name known) =
+      put_each t now IsBack (λ node. tt) (λ item. tt) transfer.replaced (deed.Join (copies_to t now transfer name)) tt
+  known_back _ (by_crossing transfer name known) = crossing_each t now IsBack (λ node. tt) (λ item. tt) transfer name tt
+  known_back _ (by_joining changes user dir known there) =
+      All-cons IsBack (deed.Store changes) (deed.Abandon user dir ∷ []) tt (All-cons IsBack (deed.Abandon user dir) [] tt (All-nil IsBack))
+  known_back _ (by_abandoning user dir there) = All-cons IsBack (deed.Abandon user dir) [] tt (All-nil IsBack)
+  known_back _ (by_sweeping nodes rows goes idle) =
+      All-append IsBack (purges nodes) (abandons rows) (purges_each t now IsBack (λ node. tt) (λ item. tt) nodes)
+      (abandons_each IsBack (λ user dir. tt) rows)
 
 -- ---- what is held stays
 
@@ -331,16 +314,20 @@ module _ (t : Tables) (hold : Hold) (sound : AreSound t) (held : IsHeld t hold.k
     IsApart (deed.Join rows) = All (Spared key) rows
     IsApart (deed.Requote row) = Unit {0}
     IsApart (deed.Forget other at) = Unit {0}
+    IsApart (deed.Store changes) = ⊥
+    IsApart (deed.Abandon user dir) = Unit {0}
 
-    deed_apart : (now : ℕ) (one : Deed) → IsBack t now one → SparesDeed t now key one → IsApart one
-    deed_apart now (deed.Discard item) back spares = spares
-    deed_apart now (deed.Purge top) back (inl item) = item_outside t top node sound item up
-    deed_apart now (deed.Purge top) back (inr outside) = outside
-    deed_apart now (deed.Restore top folder name) item other = (item_outside t top node sound item up, other)
-    deed_apart now (deed.Relink top folder name) back spares = spares
-    deed_apart now (deed.Join rows) back (transfer, name, are, other) = subst (All (Spared key)) (sym are) (copies_spared now transfer name other)
-    deed_apart now (deed.Requote row) back spares = tt
-    deed_apart now (deed.Forget other at) back spares = tt
+    deed_apart : (now : ℕ) (one : Deed) → NoStore one → IsBack t now one → SparesDeed t now key one → IsApart one
+    deed_apart now (deed.Discard item) none back spares = spares
+    deed_apart now (deed.Purge top) none back (inl item) = item_outside t top node sound item up
+    deed_apart now (deed.Purge top) none back (inr outside) = outside
+    deed_apart now (deed.Restore top folder name) none item other = (item_outside t top node sound item up, other)
+    deed_apart now (deed.Relink top folder name) none back spares = spares
+    deed_apart now (deed.Join rows) none back (transfer, name, are, other) = subst (All (Spared key)) (sym are) (copies_spared now transfer name other)
+    deed_apart now (deed.Requote row) none back spares = tt
+    deed_apart now (deed.Forget other at) none back spares = tt
+    deed_apart now (deed.Store changes) none back spares = absurd none
+    deed_apart now (deed.Abandon user dir) none back spares = tt
 
     deed_stands : (u : Tables) (one : Deed) → IsApart one → Stands u.nodes → Stands (deed_done u one).nodes
     deed_stands u (deed.Discard item) outside stands =
@@ -355,34 +342,56 @@ module _ (t : Tables) (hold : Hold) (sound : AreSound t) (held : IsHeld t hold.k
     deed_stands u (deed.Join rows) spared stands = joined_stands u.nodes rows spared stands
     deed_stands u (deed.Requote row) apart stands = stands
     deed_stands u (deed.Forget other at) apart stands = stands
+    deed_stands u (deed.Store changes) apart stands = absurd apart
+    deed_stands u (deed.Abandon user dir) apart stands = stands
 
     deeds_stand : (u : Tables) (deeds : List Deed) → All IsApart deeds → Stands u.nodes → Stands (deeds_done u deeds).nodes
     deeds_stand u [] apart stands = stands
     deeds_stand u (one ∷ deeds) apart stands =
         deeds_stand (deed_done u one) deeds (All-tail IsApart one deeds apart) (deed_stands u one (All-head IsApart one deeds apart) stands)
 
-    step_stands : (now : ℕ) (deeds : List Deed) → KnownSettled t now deeds → All (SparesDeed t now key) deeds → Stands (deeds_done t deeds).nodes
-    step_stands now deeds known spares =
-        deeds_stand t deeds (λ k d within. deed_apart now (get_or deeds k d) (back deeds known k d within) (spares k d within)) first_stands
+    step_stands : (now : ℕ) (deeds : List Deed) → KnownSettled t now deeds → All NoStore deeds → All (SparesDeed t now key) deeds
+        → Stands (deeds_done t deeds).nodes
+    step_stands now deeds known none spares =
+        deeds_stand t deeds (λ k d within. deed_apart now (get_or deeds k d) (none k d within) (back deeds known k d within) (spares k d within)) first_stands
       where
         back : (deeds : List Deed) → KnownSettled t now deeds → All (IsBack t now) deeds
         back deeds known =
             subst (All (IsBack t now)) (sym known.are)
             (All-append (IsBack t now) known.first (forgets known.gone) (known_back t now known.first known.known)
-            (All-map (IsBack t now) (λ (version : Version). deed.Forget version.node version.at) known.gone (λ k d within. tt)))
+            (forgets_each (IsBack t now) (λ other at. tt) known.gone))
+
+  -- what the nodes have after changes or deeds that leave alone what is held
+  deeds_leave : (P : List NodeRow → Type 0) (now : ℕ) (deeds : List Deed) → KnownSettled t now deeds → All (SparesDeed t now key) deeds
+      → (All NoStore deeds → P (deeds_done t deeds).nodes)
+      → ((changes : List Change) → KnownChange t now changes None → All (SparesChange t key) changes → P (replaced t changes).nodes)
+      → P (deeds_done t deeds).nodes
+  deeds_leave P now deeds known spares none stores =
+      elim (settled_stores t now deeds known) [
+        | inl without ↦ none without
+        | inr first ↦
+            (let spared = All-head (SparesDeed t now key) (deed.Store first.changes) first.more (subst (All (SparesDeed t now key)) first.are spares) in
+            subst (λ (deeds : List Deed). P (deeds_done t deeds).nodes) (sym first.are)
+            (subst P (sym (behind_nodes (replaced t first.changes) first.more first.behind)) (stores first.changes first.known spared)))
+      ]
 
   -- ---- every act
 
-  altered_stays : (now : ℕ) (act : Allowed) → Known t now act → Spares t now hold act → LeadsToRoot t.nodes node → Stays (altered t now act).nodes
-  altered_stays now (allowed.Change changes blob report) known spares up =
-      nodes_have Stays (SparesChange t key) t now changes blob report sound.rising known spares
+  changes_stay : (now : ℕ) (changes : List Change) (blob : Option ℕ) (told : Report) → KnownChange t now changes blob → All (SparesChange t key) changes
+      → Stays (altered t now (allowed.Change changes blob told)).nodes
+  changes_stay now changes blob told known spares =
+      nodes_have Stays (SparesChange t key) t now changes blob told sound.rising known spares
       (λ u row stays it is. new_stays u.nodes row stays it.fresh (is.slot it.fresh)) (λ u row stays it is. filled_stays u blob row stays it is)
       (λ u row root stays it. new_stays u.nodes root stays it.2 (λ folder inside. absurd (no_folder folder (sym it.1.place ∙ inside)))) first
     where
       no_folder : (folder : ℕ) → Root ≢ Inside folder
       no_folder folder = λ same. cc
-  altered_stays now (allowed.Deeds deeds report) known spares up =
-      stands_stays up (deeds_done t deeds).nodes (step_stands up now deeds known spares)
+
+  altered_stays : (now : ℕ) (act : Allowed) → Known t now act → Spares t now hold act → LeadsToRoot t.nodes node → Stays (altered t now act).nodes
+  altered_stays now (allowed.Change changes blob told) known spares up = changes_stay now changes blob told known spares
+  altered_stays now (allowed.Deeds deeds told) known spares up =
+      deeds_leave Stays now deeds known spares (λ none. stands_stays up (deeds_done t deeds).nodes (step_stands up now deeds known none spares))
+      (λ changes stored spared. changes_stay now changes None report.Done stored spared)
   altered_stays now act known spares up = first
 
   -- so it does by an act that leaves it alone
@@ -394,15 +403,21 @@ module _ (t : Tables) (hold : Hold) (sound : AreSound t) (held : IsHeld t hold.k
 
   -- ---- what is held and present stays present
 
-  altered_leads : (now : ℕ) (act : Allowed) → Known t now act → Spares t now hold act → LeadsToRoot t.nodes node
-      → LeadsToRoot (altered t now act).nodes node
-  altered_leads now (allowed.Change changes blob report) known spares up =
-      nodes_have (λ (rows : List NodeRow). LeadsToRoot rows node) (λ change. Unit {0}) t now changes blob report sound.rising known (λ k d within. tt)
+  changes_lead : (now : ℕ) (changes : List Change) (blob : Option ℕ) (told : Report) → KnownChange t now changes blob → LeadsToRoot t.nodes node
+      → LeadsToRoot (altered t now (allowed.Change changes blob told)).nodes node
+  changes_lead now changes blob told known up =
+      nodes_have (λ (rows : List NodeRow). LeadsToRoot rows node) (λ change. Unit {0}) t now changes blob told sound.rising known (λ k d within. tt)
       (λ u row h it is. kept_leads u.nodes (u.nodes ++ row ∷ []) node (kept_joined u.nodes (row ∷ [])) h)
       (λ u row h it is. kept_leads u.nodes (with_filled u row).nodes node (kept_replaced u.nodes row.changed row.id row.content) h)
       (λ u row root h it. kept_leads u.nodes (u.nodes ++ root ∷ []) node (kept_joined u.nodes (root ∷ [])) h) up
-  altered_leads now (allowed.Deeds deeds report) known spares up =
-      stands_leads up (deeds_done t deeds).nodes (step_stands up now deeds known spares)
+
+  altered_leads : (now : ℕ) (act : Allowed) → Known t now act → Spares t now hold act → LeadsToRoot t.nodes node
+      → LeadsToRoot (altered t now act).nodes node
+  altered_leads now (allowed.Change changes blob told) known spares up = changes_lead now changes blob told known up
+  altered_leads now (allowed.Deeds deeds told) known spares up =
+      deeds_leave (λ (rows : List NodeRow). LeadsToRoot rows node) now deeds known spares
+      (λ none. stands_leads up (deeds_done t deeds).nodes (step_stands up now deeds known none spares))
+      (λ changes stored spared. changes_lead now changes None report.Done stored up)
   altered_leads now act known spares up = up
 
   pub act_leads : (now : ℕ) (act : Allowed) → t.meta.last ≤ now → Known t now act → Spares t now hold act → LeadsToRoot t.nodes node

@@ -16,11 +16,13 @@ use Rattle.nf_defs.specs.Prelude.{dropped, item_key, content_of, is_under, node_
 use Rattle.nf_laws.proofs.Copied.{joined_sound}
 use Rattle.nf_laws.proofs.Into.{below_out, folder_out, into, known_into, walk_so}
 use Rattle.nf_laws.proofs.Left.{Left}
+use Rattle.nf_laws.proofs.Lists.{changes_sound, counted_last, store_altered}
 use Rattle.nf_laws.proofs.Mirrored.{mirrored}
 use Rattle.nf_laws.proofs.Moved.{deep_below, Fits, relinked_sound}
 use Rattle.nf_laws.proofs.Others.{item_other, items_all}
 use Rattle.nf_laws.proofs.Peopled.{people_sound}
 use Rattle.nf_laws.proofs.Present.{never_trash}
+use Rattle.nf_laws.proofs.Sent.{abandoned_sound}
 use Rattle.nf_laws.proofs.Turned.{forgotten_sound}
 use Rattle.nf_laws.proofs.Trashed.{discarded_sound, Goes, item_top, purged_sound}
 use Rattle.nf_laws.proofs.Walked.{walks_take}
@@ -30,12 +32,14 @@ use Rattle.nf_base.specs.declared.rows.MetaRow.{MetaRow}
 use Rattle.nf_base.specs.declared.rows.Place.TheVariants.{Inside}
 use Rattle.nf_defs.proofs.Climbs.{under_climb}
 use Rattle.nf_defs.proofs.Walks.{walk_climbs}
+use Rattle.nf_words.proofs.Fits.{KnownChange}
 use Rattle.nf_words.proofs.Found.{child_parent, found_passes}
 use Rattle.nf_words.proofs.Known.{IsItem, KnownCopies, KnownLeaving, KnownTransfer}
 use Rattle.nf_words.proofs.Ways.{inside_there}
 use Rattle.nf_words.specs.Prelude.{AreSound, copies, copies_to, deed_done, deeds_done, discard, goes_itself, IsRequoted, item_for, joined, LeadsToRoot, last_number, pieces_in, purged, purges, row_at, stored_pieces}
 use Rattle.nf_words.specs.declared.answer.Deed.{Deed}
 use Rattle.nf_words.specs.declared.answer.Deed.TheVariants as deed
+use Rattle.nf_words.specs.declared.answer.Report.TheVariants as report
 use Rattle.nf_words.specs.declared.request.Transfer.{Transfer}
 
 -- copies of a node where nothing is replaced
@@ -58,6 +62,8 @@ Fit t now (deed.Relink node folder name) = (row : NodeRow) × Fits t t.items nod
 Fit t now (deed.Join copies) = Joins t now copies
 Fit t now (deed.Requote row) = IsRequoted t row
 Fit t now (deed.Forget node at) = Unit {0}
+Fit t now (deed.Store changes) = KnownChange t now changes None
+Fit t now (deed.Abandon user dir) = Unit {0}
 
 abbrev pub InTurn : Tables → ℕ → List Deed → Type 0
 InTurn t now [] = Unit {0}
@@ -72,6 +78,8 @@ deed_moment t (deed.Relink node folder name) = refl
 deed_moment t (deed.Join copies) = refl
 deed_moment t (deed.Requote row) = refl
 deed_moment t (deed.Forget node at) = refl
+deed_moment t (deed.Store changes) = counted_last t.meta changes
+deed_moment t (deed.Abandon user dir) = refl
 
 -- what is done at the moment of sound tables leaves them sound
 pub fit_sound : (t : Tables) (now : ℕ) (one : Deed) → AreSound t → t.meta.last ≡ now → Fit t now one → AreSound (deed_done t one)
@@ -88,6 +96,9 @@ fit_sound t now (deed.Join copies) sound at joins =
     (walks_take.once t joins.transfer.node sound) joins.nodes joins.pieces)
 fit_sound t now (deed.Requote row) sound at known = people_sound t (Put (rows.User row)) sound known
 fit_sound t now (deed.Forget node moment) sound at known = forgotten_sound t node moment sound
+fit_sound t now (deed.Store changes) sound at known =
+    subst AreSound (sym (store_altered t now changes report.Done at)) (changes_sound t now changes None report.Done sound (omega (arith, at)) known)
+fit_sound t now (deed.Abandon user dir) sound at known = abandoned_sound t user dir sound
 
 -- what each deed keeps of a property of sound tables, all of them keep
 pub deeds_have : (P : Tables → Type 0) (now : ℕ)

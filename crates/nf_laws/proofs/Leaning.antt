@@ -1,5 +1,5 @@
 -- A lean list of changed rows that isn't empty makes other tables.
-use Rattle.std.proofs.Common.{◌≡◌, ◌≢◌, inl, inr, ℕ, suc, ◌==◌, ◌&&◌, ◌||◌, ◌<◌, not, Bool, true, false, List, [], ◌∷◌, Option, Some, bytes_eq, filter, find, if◌then◌else◌, option_map, refl, sym, ap, subst, ◌∙◌, arith}
+use Rattle.std.proofs.Common.{◌≡◌, ◌≢◌, ◌⊎◌, inl, inr, ℕ, suc, ◌==◌, ◌&&◌, ◌||◌, ◌<◌, not, Bool, true, false, List, [], ◌∷◌, Option, Some, bytes_eq, filter, find, if◌then◌else◌, option_map, refl, sym, ap, subst, ◌∙◌, arith}
 use Rattle.std.specs.Prelude.{is_some, None}
 use Rattle.std.specs.List.{All, list_any}
 use Rattle.std.proofs.lemmas.Bool.{and_from, and_parts, both_ways, cases_Bool, cond_both, eq-eqb, eqb-true, false_from_ne_true, not_from_false}
@@ -20,17 +20,21 @@ use Rattle.nf_base.specs.declared.rows.NodeRow.{NodeRow}
 use Rattle.nf_base.specs.declared.rows.Row.TheVariants as rows
 use Rattle.nf_base.specs.declared.rows.ShareRow.{ShareRow}
 use Rattle.nf_base.specs.declared.rows.TokenRow.{TokenRow}
+use Rattle.nf_base.specs.declared.rows.ChunkRow.{ChunkRow}
+use Rattle.nf_base.specs.declared.rows.UploadRow.{UploadRow}
 use Rattle.nf_base.specs.declared.rows.UserRow.{UserRow}
-use Rattle.nf_defs.specs.Prelude.{dropped, group_row, made, member_key, node_key, node_row, put, put_all, Tables, token_key, user_row, with_node, by_order, IsRising, key_cmp, version_key}
+use Rattle.nf_defs.specs.Prelude.{chunk_key, dropped, group_row, made, member_key, node_key, node_row, put, put_all, Tables, token_key, upload_key, user_row, with_node, by_order, IsRising, key_cmp, version_key}
 use Rattle.nf_laws.proofs.Lists.{AreBuilt, IsBuilt, IsMounting, KnownShare, Rising, only_built}
 use Rattle.nf_laws.proofs.Puts.{number_found, other_number, put_changed, put_other}
 use Rattle.nf_laws.proofs.Rows.{found_is}
+use Rattle.nf_laws.proofs.Sent.{chunk_again, chunk_keyed, chunk_of, chunk_parts, same_name, upload_of}
 use Rattle.nf_words.proofs.Asks.{share_found}
+use Rattle.nf_words.proofs.Chunked.{chunk_found, upload_found}
 use Rattle.nf_words.proofs.Fits.{KnownRow, KnownRows, no_more, one_more, put_found, user_more}
 use Rattle.nf_words.proofs.Found.{put_is_found, put_leaves}
 use Rattle.nf_words.proofs.Mounting.{mount_found, mount_left_so, not_mount}
 use Rattle.nf_words.proofs.Provided.{none_left}
-use Rattle.nf_words.specs.Prelude.{changed_key, IsLean, IsNewGroup, IsNewUser, IsOfPeople, version_row}
+use Rattle.nf_words.specs.Prelude.{changed_key, chunk_row, is_chunk_of, IsLean, IsNewGroup, IsNewUpload, IsNewUser, IsOfPeople, IsTouched, upload_row, version_row}
 use Rattle.nf_base.specs.declared.rows.VersionRow.{VersionRow}
 use Rattle.nf_defs.proofs.Puts.{below_rest, key_total, tail_rising}
 use Rattle.nf_defs.proofs.Lookups.{equal_bytes}
@@ -181,6 +185,35 @@ member_left group user t (Drop (keys.Member of who)) built differs =
     differs (ap (λ (n : ℕ). keys.Member n user) (sym (two_first keyed)) ∙ ap (keys.Member of) (sym (two_second keyed))))))
 member_left group user t change built differs = refl
 
+-- a row that is there already changes nothing where it is put
+row_again : {R : Type 0} (key : R → List ℕ) (sought : R → Bool) (row : R) (rows : List R) → ((x : R) → sought x ≡ true → key x ≡ key row)
+    → ((x : R) → key x ≡ key row → sought x ≡ true) → IsRising key rows → find sought rows ≡ Some row → put key row rows ≡ rows
+row_again key sought row [] keyed passes rising there = absurd (none-some row there)
+row_again {R = R} key sought row (x ∷ rows) keyed passes rising there =
+    here (key_cmp (key row) (key x)) refl (sought x) refl there
+    (λ found. row_again key sought row rows keyed passes (tail_rising key x rows rising) found)
+  where
+    never : key_cmp (key row) (key x) ≡ Less → ⊥
+    never less =
+        let Above : R → Type 0 = λ y. key_cmp (key row) (key y) ≡ Less in
+        let all : All Above (x ∷ rows) =
+        All-cons Above x rows less
+        (All-weaker (λ (y : R). key_cmp (key x) (key y) ≡ Less) Above (λ y below. key_total.trans (key row) (key x) (key y) less below) rows
+        (below_rest key x rows rising)) in
+        let equal = tied_itself key_total (key row) in
+        let itself = (found_is Above sought (x ∷ rows) row all there).1 in cc
+
+    here : (o : Ordering) → key_cmp (key row) (key x) ≡ o → (b : Bool) → sought x ≡ b → (if b then Some x else find sought rows) ≡ Some row
+        → (find sought rows ≡ Some row → put key row rows ≡ rows)
+        → by_order o (row ∷ x ∷ rows) (row ∷ rows) (x ∷ put key row rows) ≡ x ∷ rows
+    here Less e b is found rest = absurd (never e)
+    here Equal e true is found rest = ap (λ (y : R). y ∷ rows) (sym (same_Some x row found))
+    here Equal e false is found rest =
+        let same : key row ≡ key x = (bytes_eq-Decides (key row) (key x)).0 (equal_bytes (key row) (key x) Equal e) in
+        absurd (both_ways (sought x) is (passes x (sym same)))
+    here Greater e true is found rest = let equal = ap (key_cmp (key row)) (keyed x is) ∙ tied_itself key_total (key row) in absurd (cc)
+    here Greater e false is found rest = ap (λ (all : List R). x ∷ all) (rest found)
+
 -- ---- versions
 
 abbrev is_version_of : ℕ → ℕ → VersionRow → Bool
@@ -215,43 +248,17 @@ version_left node at t (Drop (keys.Version of moment)) built differs =
     differs (ap (λ (n : ℕ). keys.Version n at) (sym (two_first keyed)) ∙ ap (keys.Version of) (sym (two_second keyed))))))
 version_left node at t change built differs = refl
 
--- one that is there already changes nothing where it is put
-version_same : (row : VersionRow) (versions : List VersionRow) → IsRising version_key versions → version_row versions row.node row.at ≡ Some row
+version_again : (row : VersionRow) (versions : List VersionRow) → IsRising version_key versions → version_row versions row.node row.at ≡ Some row
     → put version_key row versions ≡ versions
-version_same row [] rising there = absurd (none-some row there)
-version_same row (x ∷ versions) rising there =
-    here (key_cmp (version_key row) (version_key x)) refl (is_version_of row.node row.at x) refl there
-    (λ found. version_same row versions (tail_rising version_key x versions rising) found)
-  where
-    never : key_cmp (version_key row) (version_key x) ≡ Less → ⊥
-    never less =
-        let Above : VersionRow → Type 0 = λ y. key_cmp (version_key row) (version_key y) ≡ Less in
-        let all : All Above (x ∷ versions) =
-        All-cons Above x versions less
-        (All-weaker (λ (y : VersionRow). key_cmp (version_key x) (version_key y) ≡ Less) Above
-        (λ y below. key_total.trans (version_key row) (version_key x) (version_key y) less below) versions (below_rest version_key x versions rising)) in
-        let equal = tied_itself key_total (version_key row) in
-        let itself = (found_is Above (is_version_of row.node row.at) (x ∷ versions) row all there).1 in cc
-
-    here : (o : Ordering) → key_cmp (version_key row) (version_key x) ≡ o → (b : Bool) → is_version_of row.node row.at x ≡ b
-        → (if b then Some x else version_row versions row.node row.at) ≡ Some row
-        → (version_row versions row.node row.at ≡ Some row → put version_key row versions ≡ versions)
-        → by_order o (row ∷ x ∷ versions) (row ∷ versions) (x ∷ put version_key row versions) ≡ x ∷ versions
-    here Less e b is found rest = absurd (never e)
-    here Equal e true is found rest = ap (λ (y : VersionRow). y ∷ versions) (sym (same_Some x row found))
-    here Equal e false is found rest =
-        let key : version_key row ≡ version_key x = (bytes_eq-Decides (version_key row) (version_key x)).0 (equal_bytes (version_key row) (version_key x) Equal e) in
-        absurd (both_ways (is_version_of row.node row.at x) is
-        (and_from (x.node == row.node) (x.at == row.at) (eq-eqb x.node row.node (sym (two_first key))) (eq-eqb x.at row.at (sym (two_second key)))))
-    here Greater e true is found rest =
-        let equal = ap (key_cmp (version_key row)) (version_keyed x row.node row.at is) ∙ tied_itself key_total (version_key row) in absurd (cc)
-    here Greater e false is found rest = ap (λ (all : List VersionRow). x ∷ all) (rest found)
+version_again row versions =
+    row_again version_key (is_version_of row.node row.at) row versions (λ x passes. version_keyed x row.node row.at passes)
+    (λ x same. and_from (x.node == row.node) (x.at == row.at) (eq-eqb x.node row.node (two_first same)) (eq-eqb x.at row.at (two_second same)))
 
 version_moved : (t : Tables) (row : VersionRow) → IsRising version_key t.versions → made t (Put (rows.Version row)) ≢ t
     → version_row (put version_key row t.versions) row.node row.at ≢ version_row t.versions row.node row.at
 version_moved t row rising differs same =
     differs (ap (λ (all : List VersionRow). record t { versions = all })
-    (version_same row t.versions rising (sym same ∙ version_found row t.versions)))
+    (version_again row t.versions rising (sym same ∙ version_found row t.versions)))
 
 -- where there is none of a key, nothing is dropped
 version_none : (versions : List VersionRow) (node at : ℕ) → version_row versions node at ≡ None
@@ -274,6 +281,49 @@ version_dropped : (t : Tables) (node at : ℕ) → made t (Drop (keys.Version no
 version_dropped t node at differs same =
     differs (ap (λ (all : List VersionRow). record t { versions = all })
     (version_none t.versions node at (sym same ∙ version_gone t.versions node at)))
+
+-- ---- uploads and chunks
+
+upload_left : (user : ℕ) (dir : List ℕ) (t : Tables) (change : Change) → IsBuilt change → keys.Upload user dir ≢ changed_key change
+    → upload_row (made t change).uploads user dir ≡ upload_row t.uploads user dir
+upload_left user dir t (Put (rows.Upload row)) built differs =
+    put_leaves upload_key (λ (x : UploadRow). x.user == user && bytes_eq x.dir dir) row t.uploads (off row refl refl)
+    (λ x same. let of = same_name row.user x.user row.dir x.dir same in off x (sym of.0) (sym of.1))
+  where
+    off : (x : UploadRow) → x.user ≡ row.user → x.dir ≡ row.dir → (x.user == user && bytes_eq x.dir dir) ≡ false
+    off x own named =
+        false_from_ne_true (x.user == user && bytes_eq x.dir dir) (λ is.
+        let of = upload_of user dir x is in
+        differs (ap (λ (n : ℕ). keys.Upload n dir) (sym of.0 ∙ own) ∙ ap (keys.Upload row.user) (sym of.1 ∙ named)))
+upload_left user dir t (Drop (keys.Upload other name)) built differs = absurd built
+upload_left user dir t change built differs = refl
+
+upload_anew : (t : Tables) (row : UploadRow) → IsNewUpload t row ⊎ IsTouched t row → upload_row t.uploads row.user row.dir ≢ Some row
+upload_anew t row (inl is) = λ same. none-some row (sym is.fresh ∙ same)
+upload_anew t row (inr is) = λ same. is.other (same_Some row is.old (sym same ∙ is.there))
+
+chunk_left : (user : ℕ) (dir : List ℕ) (number : ℕ) (t : Tables) (change : Change) → IsBuilt change → keys.Chunk user dir number ≢ changed_key change
+    → chunk_row (made t change).chunks user dir number ≡ chunk_row t.chunks user dir number
+chunk_left user dir number t (Put (rows.Chunk row)) built differs =
+    put_leaves chunk_key (λ (x : ChunkRow). is_chunk_of user dir x && x.number == number) row t.chunks (off row refl)
+    (λ x same. off x (sym same))
+  where
+    off : (x : ChunkRow) → chunk_key x ≡ chunk_key row → (is_chunk_of user dir x && x.number == number) ≡ false
+    off x same =
+        false_from_ne_true (is_chunk_of user dir x && x.number == number) (λ is.
+        let of = chunk_of user dir number x is in
+        let key = chunk_parts x row same in
+        differs (ap (λ (n : ℕ). keys.Chunk n dir number) (sym of.0 ∙ key.0) ∙ ap (λ (name : List ℕ). keys.Chunk row.user name number) (sym of.1.0 ∙ key.1.0)
+        ∙ ap (keys.Chunk row.user row.dir) (sym of.1.1 ∙ key.1.1)))
+chunk_left user dir number t (Drop (keys.Chunk other name at)) built differs = absurd built
+chunk_left user dir number t change built differs = refl
+
+chunk_moved : (t : Tables) (row : ChunkRow) → IsRising chunk_key t.chunks → made t (Put (rows.Chunk row)) ≢ t
+    → chunk_row (put chunk_key row t.chunks) row.user row.dir row.number ≢ chunk_row t.chunks row.user row.dir row.number
+chunk_moved t row rising differs same =
+    differs (ap (λ (all : List ChunkRow). record t { chunks = all })
+    (row_again chunk_key (λ (x : ChunkRow). is_chunk_of row.user row.dir x && x.number == row.number) row t.chunks (λ x passes. chunk_keyed row x passes)
+    (λ x equal. chunk_again row x equal) rising (sym same ∙ chunk_found row t.chunks)))
 
 -- ---- what is known wasn't there so
 
@@ -308,7 +358,8 @@ user_anew t row root is = λ same.
 
 -- ---- a list
 
-module _ (t : Tables) (changes : List Change) (rising : Rising t.nodes) (versions : IsRising version_key t.versions) (built : AreBuilt changes) where
+module _ (t : Tables) (changes : List Change) (rising : Rising t.nodes) (versions : IsRising version_key t.versions)
+    (chunks : IsRising chunk_key t.chunks) (built : AreBuilt changes) where
   abbrev IsMoved : Change → Type 0
   IsMoved change = IsLean t (change ∷ changes) → put_all t (change ∷ changes) ≢ t
 
@@ -352,15 +403,23 @@ module _ (t : Tables) (changes : List Change) (rising : Rising t.nodes) (version
   one_moves blob meta (Drop (keys.Version node at)) known lean =
       seen_moves (λ (u : Tables). version_row u.versions node at) t (Drop (keys.Version node at)) changes (version_left node at) built lean
       (version_dropped t node at (All-head (λ (c : Change). made t c ≢ t) (Drop (keys.Version node at)) changes lean.differ))
+  one_moves blob meta (Put (rows.Upload row)) known lean =
+      seen_moves (λ (u : Tables). upload_row u.uploads row.user row.dir) t (Put (rows.Upload row)) changes (upload_left row.user row.dir) built lean
+      (λ same. upload_anew (record t { meta = meta }) row known (sym same ∙ upload_found row t.uploads))
+  one_moves blob meta (Put (rows.Chunk row)) known lean =
+      seen_moves (λ (u : Tables). chunk_row u.chunks row.user row.dir row.number) t (Put (rows.Chunk row)) changes
+      (chunk_left row.user row.dir row.number) built lean
+      (chunk_moved t row chunks (All-head (λ (c : Change). made t c ≢ t) (Put (rows.Chunk row)) changes lean.differ))
   one_moves blob meta change known lean = people_move meta change known.1 lean
 
 -- so a lean list that isn't empty makes other tables
-pub lean_moves : (t up : Tables) (blob : Option ℕ) (changes : List Change) → Rising t.nodes → IsRising version_key t.versions → up ≡ record t { meta = up.meta }
+pub lean_moves : (t up : Tables) (blob : Option ℕ) (changes : List Change) → Rising t.nodes → IsRising version_key t.versions → IsRising chunk_key t.chunks
+    → up ≡ record t { meta = up.meta }
     → KnownRows t blob up changes → IsLean t changes → changes ≢ [] → put_all t changes ≢ t
-lean_moves t _ blob _ rising versions same (no_more up) lean some = absurd (some refl)
-lean_moves t _ blob _ rising versions same (one_more up change changes known rest) lean some =
-    one_moves t changes rising versions (only_built t blob (made up change) changes rest) blob up.meta change
+lean_moves t _ blob _ rising versions chunks same (no_more up) lean some = absurd (some refl)
+lean_moves t _ blob _ rising versions chunks same (one_more up change changes known rest) lean some =
+    one_moves t changes rising versions chunks (only_built t blob (made up change) changes rest) blob up.meta change
     (subst (λ (u : Tables). KnownRow t blob u change) same known) lean
-lean_moves t _ blob _ rising versions same (user_more up row root changes known rest) lean some =
-    user_moves t (Put (rows.Node root) ∷ changes) rising versions (tt, only_built t blob _ changes rest) row
+lean_moves t _ blob _ rising versions chunks same (user_more up row root changes known rest) lean some =
+    user_moves t (Put (rows.Node root) ∷ changes) rising versions chunks (tt, only_built t blob _ changes rest) row
     (λ there. user_anew up row root known.1 (ap (λ (u : Tables). user_row u.users row.id) same ∙ there)) lean

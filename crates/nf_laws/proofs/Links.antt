@@ -1,25 +1,29 @@
 -- Shares that were there are there, of the same node and of the same kind.
-use Rattle.std.proofs.Common.{◌≡◌, ℕ, ◌==◌, ◌<◌, Bool, inl, inr, List, option_map, arith, refl, sym, ap, subst, ◌∙◌}
+use Rattle.std.proofs.Common.{◌≡◌, ℕ, ◌==◌, ◌<◌, Bool, inl, inr, List, Option, None, option_map, arith, refl, sym, ap, subst, ◌∙◌}
 use Rattle.std.specs.Prelude.{Some}
 use Rattle.std.proofs.lemmas.Bool.{both_ways, cases_Bool, eq-eqb, eqb-true}
 use Rattle.std.proofs.lemmas.Option.{same_Some}
 use Rattle.nf_access.specs.Shares.{is_link_kind, share_row}
+use Rattle.nf_base.specs.declared.changes.Change.{Change}
 use Rattle.nf_base.specs.declared.rows.NodeRow.{NodeRow}
 use Rattle.nf_base.specs.declared.rows.ShareRow.{ShareRow}
 use Rattle.nf_defs.specs.Prelude.{is_under, made, put, share_key, Tables}
-use Rattle.nf_laws.proofs.InTurn.{deeds_keep}
-use Rattle.nf_laws.proofs.Lists.{changes_have, KnownShare, turned_only}
+use Rattle.nf_laws.proofs.Each.{NoStore, settled_keep}
+use Rattle.nf_laws.proofs.Lists.{changes_have, KnownShare, aside_only}
 use Rattle.nf_laws.proofs.Others.{row_ended, same_field, unless_gone}
 use Rattle.nf_laws.proofs.Peopled.{people_shares}
 use Rattle.nf_laws.proofs.Puts.{other_number}
 use Rattle.nf_laws.proofs.Rows.{found_is, stamped_has}
 use Rattle.nf_words.proofs.Asks.{share_found}
+use Rattle.nf_words.proofs.Fits.{KnownChange}
 use Rattle.nf_words.proofs.Known.{Known}
 use Rattle.nf_words.specs.Prelude.{altered, AreSound, changed, deed_done, ended_under, IsLinkTo, IsNewShare, IsOtherShare, told}
 use Rattle.nf_words.specs.declared.answer.Allowed.{Allowed}
 use Rattle.nf_words.specs.declared.answer.Allowed.TheVariants as allowed
 use Rattle.nf_words.specs.declared.answer.Deed.{Deed}
 use Rattle.nf_words.specs.declared.answer.Deed.TheVariants as deed
+use Rattle.nf_words.specs.declared.answer.Report.{Report}
+use Rattle.nf_words.specs.declared.answer.Report.TheVariants as report
 
 -- the share is there, of the node and of the kind of the old one
 pub record IsSameShare (shares : List ShareRow) (id : ℕ) (old : ShareRow) : Type 0 where
@@ -98,28 +102,35 @@ known_share_keeps first t row known = elim known [ inl new ↦ new_share_keeps t
 
 -- ---- every act
 
--- what is put in the trash and what goes for good ends shares, and no other deed changes one
-deed_shares : (t u : Tables) (one : Deed) → KeepsShares t u → KeepsShares t (deed_done u one)
-deed_shares t u (deed.Discard item) keeps =
+-- what is put in the trash and what goes for good ends shares, and of the deeds that store no changes no other changes one
+deed_shares : (t u : Tables) (one : Deed) → NoStore one → KeepsShares t u → KeepsShares t (deed_done u one)
+deed_shares t u (deed.Discard item) none keeps =
     then_shares t.shares u.shares (ended_under u.nodes item.node u.shares) keeps (ended_shares u.nodes item.node u.shares)
-deed_shares t u (deed.Purge node) keeps =
+deed_shares t u (deed.Purge node) none keeps =
     then_shares t.shares u.shares (ended_under u.nodes node u.shares) keeps (ended_shares u.nodes node u.shares)
-deed_shares t u (deed.Restore node folder name) keeps = keeps
-deed_shares t u (deed.Relink node folder name) keeps = keeps
-deed_shares t u (deed.Join rows) keeps = keeps
-deed_shares t u (deed.Requote row) keeps = keeps
-deed_shares t u (deed.Forget node at) keeps = keeps
+deed_shares t u (deed.Restore node folder name) none keeps = keeps
+deed_shares t u (deed.Relink node folder name) none keeps = keeps
+deed_shares t u (deed.Join rows) none keeps = keeps
+deed_shares t u (deed.Requote row) none keeps = keeps
+deed_shares t u (deed.Forget node at) none keeps = keeps
+deed_shares t u (deed.Store changes) none keeps = absurd none
+deed_shares t u (deed.Abandon user dir) none keeps = keeps
 
-altered_shares : (t : Tables) (now : ℕ) (act : Allowed) → AreSound t → Known t now act → KeepsShares t (altered t now act)
-altered_shares t now (allowed.Change changes blob report) sound known =
-    changes_have (KeepsShares t) t now changes blob report sound.rising known (λ u row keeps it. keeps) (λ u row keeps it. keeps)
+changes_shares : (t : Tables) (now : ℕ) (changes : List Change) (blob : Option ℕ) (told : Report) → AreSound t → KnownChange t now changes blob
+    → KeepsShares t (altered t now (allowed.Change changes blob told))
+changes_shares t now changes blob told sound known =
+    changes_have (KeepsShares t) t now changes blob told sound.rising known (λ u row keeps it. keeps) (λ u row keeps it. keeps)
     (λ u row keeps it. keeps)
     (λ u row keeps it. then_shares t.shares u.shares (put share_key row u.shares) keeps (known_share_keeps t u row it))
     (λ u change keeps it. subst (AreSameShares t.shares) (sym (people_shares u change it)) keeps)
-    (λ u change keeps it. subst (AreSameShares t.shares) (sym (ap (λ (v : Tables). v.shares) (turned_only t u change it))) keeps) (λ u row root keeps it. keeps)
+    (λ u change keeps it. subst (AreSameShares t.shares) (sym (ap (λ (v : Tables). v.shares) (aside_only t blob u change it))) keeps) (λ u row root keeps it. keeps)
     (all_shares t.shares)
-altered_shares t now (allowed.Deeds deeds report) sound known =
-    deeds_keep (KeepsShares t) (deed_shares t) t deeds (all_shares t.shares)
+
+altered_shares : (t : Tables) (now : ℕ) (act : Allowed) → AreSound t → Known t now act → KeepsShares t (altered t now act)
+altered_shares t now (allowed.Change changes blob told) sound known = changes_shares t now changes blob told sound known
+altered_shares t now (allowed.Deeds deeds told) sound known =
+    settled_keep (KeepsShares t) t now deeds known (deed_shares t) (λ changes stored. changes_shares t now changes None report.Done sound stored)
+    (all_shares t.shares)
 altered_shares t now act sound known = all_shares t.shares
 
 pub shares_kept : (t : Tables) (now : ℕ) (act : Allowed) → AreSound t → Known t now act → KeepsShares t (changed t now act)

@@ -1,5 +1,5 @@
 -- Lists of changed rows: what each known change keeps, all of them keep. By the kind of the row, whatever the act.
-use Rattle.std.proofs.Common.{◌≡◌, ◌⊎◌, ℕ, ◌<◌, ◌≤◌, inl, inr, List, [], ◌∷◌, ◌++◌, Option, refl, sym, ap, subst, ◌∙◌, arith, le_refl}
+use Rattle.std.proofs.Common.{◌≡◌, ◌⊎◌, ℕ, ◌<◌, ◌≤◌, inl, inr, List, [], ◌∷◌, ◌++◌, Option, None, refl, sym, ap, subst, ◌∙◌, arith, le_refl}
 use Rattle.std.specs.List.{All, AllPairs}
 use Rattle.std.proofs.lemmas.List.Elements.{All-cons, All-head, All-nil, All-tail}
 use Rattle.std.proofs.lemmas.List.Quantifiers.{all_pairs_push}
@@ -9,7 +9,7 @@ use Rattle.nf_base.specs.declared.changes.RowKey.TheVariants as keys
 use Rattle.nf_base.specs.declared.rows.MetaRow.{MetaRow}
 use Rattle.nf_base.specs.declared.rows.MountRow.{MountRow}
 use Rattle.nf_base.specs.declared.rows.NodeRow.{NodeRow}
-use Rattle.nf_base.specs.declared.rows.Row.TheVariants.{Group, Member, Mount, Node, Share, Token, User, Version}
+use Rattle.nf_base.specs.declared.rows.Row.TheVariants.{Chunk, Group, Member, Mount, Node, Share, Token, Upload, User, Version}
 use Rattle.nf_defs.specs.Prelude.{filled, IsDroppable, made, mount_key, node_key, put, put_all, Tables, with_node, share_key}
 use Rattle.nf_laws.proofs.Added.{born_sound}
 use Rattle.nf_laws.proofs.Mounted.{mounted_sound}
@@ -18,13 +18,16 @@ use Rattle.nf_laws.proofs.Puts.{put_changed, put_new}
 use Rattle.nf_laws.proofs.Replaced.{filled_sound}
 use Rattle.nf_laws.proofs.Others.{meta_sound}
 use Rattle.nf_laws.proofs.Rows.{blob_up, row_is}
+use Rattle.nf_laws.proofs.Sent.{chunk_sound, new_upload_sound, touched_sound}
 use Rattle.nf_laws.proofs.Turned.{forgotten_sound, version_sound}
+use Rattle.nf_base.specs.declared.rows.ChunkRow.{ChunkRow}
+use Rattle.nf_base.specs.declared.rows.UploadRow.{UploadRow}
 use Rattle.nf_base.specs.declared.rows.VersionRow.{VersionRow}
 use Rattle.nf_laws.specs.Numbers.{AreHigher}
 use Rattle.nf_laws.proofs.OneRow.{rising_with}
 use Rattle.nf_laws.proofs.Peopled.{new_user_sound, people_nodes, people_sound, rooted_made, with_rooted}
-use Rattle.nf_words.proofs.Fits.{IsTurned, KnownBorn, KnownChange, KnownFilled, KnownRow, KnownRows, KnownUser, KnownVersion, no_more, one_more, user_more, with_user}
-use Rattle.nf_words.specs.Prelude.{above, altered, AreSound, counted, IsBorn, IsFilled, IsNewMount, IsNewShare, IsOfPeople, IsOtherShare, IsRemounted, raised}
+use Rattle.nf_words.proofs.Fits.{IsTurned, KnownBorn, KnownChange, KnownChunk, KnownFilled, KnownRow, KnownRows, KnownUser, KnownVersion, no_more, one_more, user_more, with_user}
+use Rattle.nf_words.specs.Prelude.{above, altered, AreSound, counted, IsBorn, IsFilled, IsNewMount, IsNewShare, IsNewUpload, IsOfPeople, IsOtherShare, IsRemounted, IsTouched, raised, replaced}
 use Rattle.nf_words.specs.declared.answer.Allowed.TheVariants as allowed
 use Rattle.nf_words.specs.declared.answer.Report.{Report}
 use Rattle.nf_base.specs.declared.rows.ShareRow.{ShareRow}
@@ -104,17 +107,33 @@ filled_made t row rising is =
     (ap (λ (r : NodeRow). put node_key r t.nodes) is.same
     ∙ put_changed t.nodes row.id (filled row.content row.changed) is.old refl rising is.there)
 
--- what becomes of versions touches nothing else
-pub turned_only : (first t : Tables) (change : Change) → IsTurned first t change → made t change ≡ record t { versions = (made t change).versions }
-turned_only first t (Put (Version row)) known = refl
-turned_only first t (Drop (keys.Version node at)) known = refl
-turned_only first t change known = absurd known
+-- what becomes of versions, of uploads and of chunks
+abbrev pub IsAside : Tables → Option ℕ → Tables → Change → Type 0
+IsAside first blob t (Put (Upload row)) = IsNewUpload t row ⊎ IsTouched t row
+IsAside first blob t (Put (Chunk row)) = KnownChunk first blob t row
+IsAside first blob t change = IsTurned first t change
+
+-- what is so of each kind of them
+pub aside_each : (Q : Change → Type 0) (first : Tables) (blob : Option ℕ) (t : Tables) (change : Change) → IsAside first blob t change
+    → ((row : VersionRow) → Q (Put (Version row))) → ((node at : ℕ) → Q (Drop (keys.Version node at))) → ((row : UploadRow) → Q (Put (Upload row)))
+    → ((row : ChunkRow) → Q (Put (Chunk row))) → Q change
+aside_each Q first blob t (Put (Version row)) known versions drops uploads chunks = versions row
+aside_each Q first blob t (Drop (keys.Version node at)) known versions drops uploads chunks = drops node at
+aside_each Q first blob t (Put (Upload row)) known versions drops uploads chunks = uploads row
+aside_each Q first blob t (Put (Chunk row)) known versions drops uploads chunks = chunks row
+aside_each Q first blob t change known versions drops uploads chunks = absurd known
+
+-- touches nothing else
+pub aside_only : (first : Tables) (blob : Option ℕ) (t : Tables) (change : Change) → IsAside first blob t change
+    → made t change ≡ record t { versions = (made t change).versions; uploads = (made t change).uploads; chunks = (made t change).chunks }
+aside_only first blob t change known =
+    aside_each
+    (λ (change : Change). made t change ≡ record t { versions = (made t change).versions; uploads = (made t change).uploads; chunks = (made t change).chunks })
+    first blob t change known (λ row. refl) (λ node at. refl) (λ row. refl) (λ row. refl)
 
 -- nor a node
-pub turned_nodes : (first t : Tables) (change : Change) → IsTurned first t change → (made t change).nodes ≡ t.nodes
-turned_nodes first t (Put (Version row)) known = refl
-turned_nodes first t (Drop (keys.Version node at)) known = refl
-turned_nodes first t change known = absurd known
+pub aside_nodes : (first : Tables) (blob : Option ℕ) (t : Tables) (change : Change) → IsAside first blob t change → (made t change).nodes ≡ t.nodes
+aside_nodes first blob t change known = ap (λ (u : Tables). u.nodes) (aside_only first blob t change known)
 
 -- ---- lists of changed rows
 
@@ -128,6 +147,8 @@ IsBuilt (Put (Token row)) = Unit {0}
 IsBuilt (Put (Group row)) = Unit {0}
 IsBuilt (Put (Member row)) = Unit {0}
 IsBuilt (Put (Version row)) = Unit {0}
+IsBuilt (Put (Upload row)) = Unit {0}
+IsBuilt (Put (Chunk row)) = Unit {0}
 IsBuilt (Drop (keys.Member group user)) = Unit {0}
 IsBuilt (Drop (keys.Version node at)) = Unit {0}
 IsBuilt change = ⊥
@@ -137,7 +158,7 @@ AreBuilt [] = Unit {0}
 AreBuilt (change ∷ changes) = IsBuilt change × AreBuilt changes
 
 -- the meta row may be set before or behind them
-meta_one : (t : Tables) (meta : MetaRow) (change : Change) → IsBuilt change
+pub meta_one : (t : Tables) (meta : MetaRow) (change : Change) → IsBuilt change
     → made (record t { meta = meta }) change ≡ record (made t change) { meta = meta }
 meta_one t meta (Put (Node row)) built = refl
 meta_one t meta (Put (Mount row)) built = refl
@@ -147,6 +168,8 @@ meta_one t meta (Put (Token row)) built = refl
 meta_one t meta (Put (Group row)) built = refl
 meta_one t meta (Put (Member row)) built = refl
 meta_one t meta (Put (Version row)) built = refl
+meta_one t meta (Put (Upload row)) built = refl
+meta_one t meta (Put (Chunk row)) built = refl
 meta_one t meta (Drop (keys.Member group user)) built = refl
 meta_one t meta (Drop (keys.Version node at)) built = refl
 meta_one t meta change built = absurd built
@@ -180,7 +203,7 @@ module _ (first : Tables) (blob : Option ℕ) where
       → ((row : NodeRow) → KnownFilled first blob t row → Q (Put (Node row)) → P (with_filled t row))
       → ((row : MountRow) → IsMounting t row → Q (Put (Mount row)) → P (with_remounted t row))
       → ((row : ShareRow) → KnownShare first t row → Q (Put (Share row)) → P (with_share t row))
-      → ((change : Change) → IsOfPeople t change → P (made t change)) → ((change : Change) → IsTurned first t change → P (made t change))
+      → ((change : Change) → IsOfPeople t change → P (made t change)) → ((change : Change) → IsAside first blob t change → P (made t change))
       → Q change → P (made t change)
   row_has P Q t (Put (Node row)) rising known born fills mounts shares people turns has =
       elim known [
@@ -190,6 +213,8 @@ module _ (first : Tables) (blob : Option ℕ) where
   row_has P Q t (Put (Mount row)) rising known born fills mounts shares people turns has = mounts row known.1 has
   row_has P Q t (Put (Share row)) rising known born fills mounts shares people turns has = shares row known.1 has
   row_has P Q t (Put (Version row)) rising known born fills mounts shares people turns has = turns (Put (Version row)) known
+  row_has P Q t (Put (Upload row)) rising known born fills mounts shares people turns has = turns (Put (Upload row)) known
+  row_has P Q t (Put (Chunk row)) rising known born fills mounts shares people turns has = turns (Put (Chunk row)) known
   row_has P Q t (Drop (keys.Version node at)) rising known born fills mounts shares people turns has = turns (Drop (keys.Version node at)) known
   row_has P Q t change rising known born fills mounts shares people turns has = people change known.1
 
@@ -199,7 +224,7 @@ module _ (first : Tables) (blob : Option ℕ) where
       (λ row it any. all_pairs_push (λ (a b : NodeRow). a.id < b.id) t.nodes row rising it.born.newest)
       (λ row it any. rising_with t.nodes row.id (filled row.content row.changed) (λ r. refl) rising) (λ row it any. rising)
       (λ row it any. rising) (λ change is. subst Rising (sym (people_nodes t change is)) rising)
-      (λ change is. subst Rising (sym (turned_nodes first t change is)) rising) tt
+      (λ change is. subst Rising (sym (aside_nodes first blob t change is)) rising) tt
 
   -- and all of them; a new user comes with its root
   rows_have : (P : Tables → Type 0) (Q : Change → Type 0)
@@ -208,7 +233,7 @@ module _ (first : Tables) (blob : Option ℕ) where
       → ((t : Tables) (row : MountRow) → P t → IsMounting t row → Q (Put (Mount row)) → P (with_remounted t row))
       → ((t : Tables) (row : ShareRow) → P t → KnownShare first t row → Q (Put (Share row)) → P (with_share t row))
       → ((t : Tables) (change : Change) → P t → IsOfPeople t change → P (made t change))
-      → ((t : Tables) (change : Change) → P t → IsTurned first t change → P (made t change))
+      → ((t : Tables) (change : Change) → P t → IsAside first blob t change → P (made t change))
       → ((t : Tables) (row : UserRow) (root : NodeRow) → P t → KnownUser first blob t row root → P (with_rooted t row root))
       → (t : Tables) (changes : List Change) → Rising t.nodes → P t → KnownRows first blob t changes → All Q changes → P (put_all t changes)
   rows_have P Q born fills mounts shares people turns users _ _ rising has (no_more t) each = has
@@ -236,6 +261,8 @@ module _ (first : Tables) (blob : Option ℕ) where
   one_built t (Put (Group row)) known = tt
   one_built t (Put (Member row)) known = tt
   one_built t (Put (Version row)) known = tt
+  one_built t (Put (Upload row)) known = tt
+  one_built t (Put (Chunk row)) known = tt
   one_built t (Drop (keys.Member group user)) known = tt
   one_built t (Drop (keys.Version node at)) known = tt
   one_built t change known = absurd known.1
@@ -253,7 +280,7 @@ pub changes_all : (P : Tables → Type 0) (Q : Change → Type 0) (t : Tables) (
     → ((u : Tables) (row : MountRow) → P u → IsMounting u row → Q (Put (Mount row)) → P (with_remounted u row))
     → ((u : Tables) (row : ShareRow) → P u → KnownShare t u row → Q (Put (Share row)) → P (with_share u row))
     → ((u : Tables) (change : Change) → P u → IsOfPeople u change → P (made u change))
-    → ((u : Tables) (change : Change) → P u → IsTurned t u change → P (made u change))
+    → ((u : Tables) (change : Change) → P u → IsAside t blob u change → P (made u change))
     → ((u : Tables) (row : UserRow) (root : NodeRow) → P u → KnownUser t blob u row root → P (with_rooted u row root))
     → P (raised t now changes blob) → P (altered t now (allowed.Change changes blob report))
 changes_all P Q t now changes blob report rising known each born fills mounts shares people turns users has =
@@ -269,7 +296,7 @@ pub changes_have : (P : Tables → Type 0) (t : Tables) (now : ℕ) (changes : L
     → ((u : Tables) (row : MountRow) → P u → IsMounting u row → P (with_remounted u row))
     → ((u : Tables) (row : ShareRow) → P u → KnownShare t u row → P (with_share u row))
     → ((u : Tables) (change : Change) → P u → IsOfPeople u change → P (made u change))
-    → ((u : Tables) (change : Change) → P u → IsTurned t u change → P (made u change))
+    → ((u : Tables) (change : Change) → P u → IsAside t blob u change → P (made u change))
     → ((u : Tables) (row : UserRow) (root : NodeRow) → P u → KnownUser t blob u row root → P (with_rooted u row root))
     → P (raised t now changes blob) → P (altered t now (allowed.Change changes blob report))
 changes_have P t now changes blob report rising known born fills mounts shares people turns users has =
@@ -286,7 +313,7 @@ pub nodes_have : (P : List NodeRow → Type 0) (Q : Change → Type 0) (t : Tabl
     → P t.nodes → P (altered t now (allowed.Change changes blob report)).nodes
 nodes_have P Q t now changes blob report rising known each born fills users has =
     changes_all (λ (u : Tables). P u.nodes) Q t now changes blob report rising known each born fills (λ u row h it is. h) (λ u row h it is. h)
-    (λ u change h is. subst P (sym (people_nodes u change is)) h) (λ u change h is. subst P (sym (turned_nodes t u change is)) h) users has
+    (λ u change h is. subst P (sym (people_nodes u change is)) h) (λ u change h is. subst P (sym (aside_nodes t blob u change is)) h) users has
 
 -- ---- so they stay sound
 
@@ -296,14 +323,17 @@ version_at first u row sound known =
     let is = (row_is first row.node known.was sound known.there).1 in
     subst (λ (n : ℕ). n ≤ first.meta.last) (sym (ap (λ (one : VersionRow). one.at) known.of_was)) is.changed
 
-versions_sound : (first u : Tables) (change : Change) → AreSound first → AreSound u → first.meta.last ≤ u.meta.last → IsTurned first u change
-    → AreSound (made u change)
-versions_sound first u (Put (Version row)) sound fine later known =
+aside_sound : (first : Tables) (blob : Option ℕ) (u : Tables) (change : Change) → AreSound first → AreSound u → first.meta.last ≤ u.meta.last
+    → IsAside first blob u change → AreSound (made u change)
+aside_sound first blob u (Put (Version row)) sound fine later known =
     version_sound first u row fine (omega (arith, version_at first u row sound known, later)) known
-versions_sound first u (Drop (keys.Version node at)) sound fine later known = forgotten_sound u node at fine
-versions_sound first u change sound fine later known = absurd known
+aside_sound first blob u (Drop (keys.Version node at)) sound fine later known = forgotten_sound u node at fine
+aside_sound first blob u (Put (Upload row)) sound fine later known =
+    elim known [ inl new ↦ new_upload_sound u row fine new | inr again ↦ touched_sound u row fine again ]
+aside_sound first blob u (Put (Chunk row)) sound fine later known = chunk_sound u row fine known.chunk
+aside_sound first blob u change sound fine later known = absurd known
 
--- no change of people or versions touches the moment
+-- no change of people touches the moment
 people_last : (u : Tables) (change : Change) → IsOfPeople u change → (made u change).meta ≡ u.meta
 people_last u (Put (User row)) known = refl
 people_last u (Put (Token row)) known = refl
@@ -311,11 +341,6 @@ people_last u (Put (Group row)) known = refl
 people_last u (Put (Member row)) known = refl
 people_last u (Drop (keys.Member group user)) known = refl
 people_last u change known = absurd known
-
-turned_last : (first u : Tables) (change : Change) → IsTurned first u change → (made u change).meta ≡ u.meta
-turned_last first u (Put (Version row)) known = refl
-turned_last first u (Drop (keys.Version node at)) known = refl
-turned_last first u change known = absurd known
 
 pub changes_sound : (t : Tables) (now : ℕ) (changes : List Change) (blob : Option ℕ) (report : Report)
     → AreSound t → t.meta.last ≤ now → KnownChange t now changes blob → AreSound (altered t now (allowed.Change changes blob report))
@@ -332,8 +357,40 @@ changes_sound t now changes blob report sound later known =
     ))
     (λ u change s it. (people_sound u change s.0 it, subst (λ (meta : MetaRow). t.meta.last ≤ meta.last) (sym (people_last u change it)) s.1))
     (λ u change s it. (
-      versions_sound t u change sound s.0 s.1 it,
-      subst (λ (meta : MetaRow). t.meta.last ≤ meta.last) (sym (turned_last t u change it)) s.1,
+      aside_sound t blob u change sound s.0 s.1 it,
+      subst (λ (v : Tables). t.meta.last ≤ v.meta.last) (sym (aside_only t blob u change it)) s.1,
     ))
     (λ u row root s it. (new_user_sound u row root s.0 it.1 (omega (arith, sound.counters.nodes, it.2)), s.1))
     (raised_sound t now changes blob sound later, later)).0
+
+-- ---- a deed that stores changes
+
+above_rest : (meta : MetaRow) (change : Change) → ((above meta change).last ≡ meta.last) × ((above meta change).next_blob ≡ meta.next_blob)
+above_rest meta (Put (User row)) = (refl, refl)
+above_rest meta (Put (Group row)) = (refl, refl)
+above_rest meta (Put (Node row)) = (refl, refl)
+above_rest meta (Put (Share row)) = (refl, refl)
+above_rest meta change = (refl, refl)
+
+-- counting changes leaves the moment, and the number of the next blob
+counted_rest : (meta : MetaRow) (changes : List Change) → ((counted meta changes).last ≡ meta.last) × ((counted meta changes).next_blob ≡ meta.next_blob)
+counted_rest meta [] = (refl, refl)
+counted_rest meta (change ∷ changes) =
+    let first = above_rest meta change in
+    let rest = counted_rest (above meta change) changes in
+    (rest.0 ∙ first.0, rest.1 ∙ first.1)
+
+pub counted_blob : (meta : MetaRow) (changes : List Change) → (counted meta changes).next_blob ≡ meta.next_blob
+counted_blob meta changes = (counted_rest meta changes).1
+
+pub counted_last : (meta : MetaRow) (changes : List Change) → (counted meta changes).last ≡ meta.last
+counted_last meta changes = (counted_rest meta changes).0
+
+-- at the moment of the tables it makes what an act of the changes does
+pub store_altered : (t : Tables) (now : ℕ) (changes : List Change) (report : Report) → t.meta.last ≡ now
+    → replaced t changes ≡ altered t now (allowed.Change changes None report)
+store_altered t now changes report at =
+    let meta = counted t.meta changes in
+    let rest = counted_rest t.meta changes in
+    ap (λ (n : ℕ). record (put_all t changes) { meta = record meta { next_blob = n } }) rest.1
+    ∙ ap (λ (n : ℕ). record (put_all t changes) { meta = record meta { next_blob = t.meta.next_blob; last = n } }) (rest.0 ∙ at)

@@ -18,7 +18,7 @@ use Rattle.nf_words.proofs.Known.{Known}
 use Rattle.nf_words.proofs.Marks.{early, early_pass}
 use Rattle.nf_words.proofs.Spared.{found_apart, holds_turned, least_has, none_least, Spares, step_spares}
 use Rattle.nf_words.proofs.Steps.{other_without}
-use Rattle.nf_words.specs.Prelude.{access_of, allowed_of, answered_by, AreApartHolds, AreSound, asked_by, blocks, Call, call_of, changed, clashes, decision_of, earlier_rules, first_that_holds, IsHeld, IsSound, IsTicketSound, key_in_way, later_rules, LeadsToRoot, least, lesser, limit_by, limit_rule, limited, locked_rule, node_of_key, Pass, places_of, refusal_of, room_rule, Rule, State, ticket_of, Touch, touches, unless_refused, without, quota_rule, exceeded}
+use Rattle.nf_words.specs.Prelude.{access_of, allowed_of, answered_by, AreApartHolds, AreSound, asked_by, blocks, Call, call_of, changed, clashes, decision_of, earlier_rules, first_that_holds, IsHeld, IsSound, IsTicketSound, key_in_way, later_rules, LeadsToRoot, least, lesser, limit_by, limit_rule, limited, locked_rule, node_of_key, Pass, places_of, refusal_of, room_rule, Rule, State, ticket_of, Touch, touches, unless_refused, without, quota_rule, exceeded, assembled_excess}
 use Rattle.nf_words.specs.declared.answer.Allowed.{Allowed}
 use Rattle.nf_words.specs.declared.answer.Denial.{Denial}
 use Rattle.nf_words.specs.declared.answer.Denial.TheVariants as denial
@@ -245,7 +245,8 @@ module _ (call : Call) where
   unfolding locked_rule limit_rule room_rule quota_rule
   locked_is key is =
       let t = call.state.tables in
-      here way (limited t (places_of call) (asked_by call).makes) (limit_by call call.request.wanted) (exceeded t (places_of call) (asked_by call).makes) is
+      here way (limited t (places_of call) (asked_by call).makes) (limit_by call call.request.wanted)
+      (option_or (exceeded t (places_of call) (asked_by call).makes) (assembled_excess call call.request.wanted)) is
     where
       here : (o : Option LockKey) (limit room : Option Limit) (excess : Option Excess)
           → option_or (option_map denial.Locked o) (option_or (option_map denial.Limit limit)

@@ -19,6 +19,7 @@ use Rattle.nf_defs.specs.Prelude.{by_order, key_cmp, mount_key, node_row, put, T
 use Rattle.nf_laws.proofs.Files.{all_files, versions_still}
 use Rattle.nf_laws.proofs.Others.{items_still, kind_still, others_from, trash_kept}
 use Rattle.nf_laws.proofs.Rows.{each_fails, found_is, kept_row, no_value, node_still, row_is}
+use Rattle.nf_laws.proofs.Uploads.{uploads_kept}
 use Rattle.nf_words.proofs.Mounting.{same_key}
 use Rattle.nf_words.specs.Others.{AreMountsApart, IsItemSound, IsMountSound, IsShareSound, AreOthersSound}
 use Rattle.nf_words.specs.Prelude.{AreSound, HasRoot, IsNodeSound, IsPlaceSound, IsRemounted, IsNewMount}
@@ -116,7 +117,6 @@ module _ (t : Tables) (shares : List ShareRow) (mounts : List MountRow) where
     groups_given = sound.groups_given;
     few_nodes = sound.few_nodes;
     few_pieces = sound.few_pieces;
-    later = sound.later;
     others = others;
   }
 
@@ -141,7 +141,7 @@ module _ (t : Tables) (row : MountRow) (sound : AreSound t) where
       → length (put mount_key row t.mounts) ≤ MAX_MOUNTS → AreSound made
   put_sound fine apart few =
       beside_sound t t.shares (put mount_key row t.mounts) sound
-      (others_from made sound.later
+      (others_from made (uploads_kept t made refl refl refl refl sound)
       (All-weaker (IsShareSound t) (IsShareSound made)
       (λ share is. share_beside t t.shares (put mount_key row t.mounts) share is.chained is) t.shares sound.others.shares)
       sound.others.shares_rise sound.others.few_shares

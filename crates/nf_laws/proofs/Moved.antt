@@ -262,7 +262,6 @@ relinked_sound u items node folder name old sound fits =
       groups_given = sound.groups_given;
       few_nodes = omega (arith, counts, sound.few_nodes);
       few_pieces = omega (arith, sound.few_pieces, pieces_with u.nodes node change 0 (λ row is. omega arith));
-      later = sound.later;
       others = others_seen u u.meta made.nodes items sound (none_higher u.meta u.meta.last) (le_refl _)
           (seen_with u node change sound (record {
             id = λ row. refl;

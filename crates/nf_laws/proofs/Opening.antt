@@ -15,7 +15,7 @@ use Rattle.nf_laws.proofs.Contents.{given_have}
 use Rattle.nf_laws.specs.Wholes.{IsGoalHeld, IsHeld, IsNamed, IsThere, IsWhole, OpensWhole}
 use Rattle.nf_words.specs.Prelude.{contents_of, row_content, State}
 use Rattle.nf_words.specs.declared.answer.Goal.{Goal}
-use Rattle.nf_words.specs.declared.answer.Goal.TheVariants.{Serve, Store}
+use Rattle.nf_words.specs.declared.answer.Goal.TheVariants.{Chunk, Serve, Store}
 use Rattle.nf_words.specs.declared.history.Ticket.{Ticket}
 
 -- a piece's bytes are there or they aren't
@@ -57,6 +57,7 @@ held_now rows start blobs piece (inr damaged) = named_held rows blobs piece dama
 goal_now : (rows : List Row) (start blobs : Blobs) (goal : Goal) → IsGoalHeld rows start blobs goal → IsGoalHeld rows blobs blobs goal
 goal_now rows start blobs (Serve content) held = λ k d within. held_now rows start blobs (get_or content k d) (held k d within)
 goal_now rows start blobs (Store by key length) held = tt
+goal_now rows start blobs (Chunk user dir number length) held = tt
 
 pub whole_now : (rows : List Row) (start : Blobs) (s : State) (blobs : Blobs) → IsWhole rows start s blobs → IsWhole rows blobs s blobs
 whole_now rows start s blobs whole = record {

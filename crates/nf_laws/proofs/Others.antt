@@ -31,17 +31,18 @@ use Rattle.nf_laws.proofs.Files.{all_files, AreFiles, files_kept, files_with, ve
 use Rattle.nf_laws.proofs.OneRow.{KeepsId, row_with, with_each}
 use Rattle.nf_laws.proofs.Present.{kept_leads}
 use Rattle.nf_laws.proofs.Rows.{AreKept, counters_up, each_fails, finds_none, found_is, Kept, kept_joined, kept_row, no_value, node_kept, none_higher, root_kept, row_is, row_joined, stamp, with_nodes}
+use Rattle.nf_laws.proofs.Uploads.{AreUploadsSound, uploads_kept, uploads_still}
 use Rattle.nf_laws.specs.Numbers.{AreHigher}
-use Rattle.nf_words.specs.Others.{AreMountsApart, AreOthersSound, IsChunkSound, IsItemSound, IsKindSound, IsMountSound, IsOfNode, IsShareSound, IsUploadSound, IsVersionSound}
-use Rattle.nf_words.specs.Prelude.{AreSound, ended_row, HasNoLater, HasRoot, IsBorn, IsNodeSound, IsPlaceSound, IsUnmounted, LeadsToRoot, versions_there}
+use Rattle.nf_words.specs.Others.{AreMountsApart, AreOthersSound, IsItemSound, IsKindSound, IsMountSound, IsOfNode, IsShareSound, IsVersionSound}
+use Rattle.nf_words.specs.Prelude.{AreSound, ended_row, HasRoot, IsBorn, IsNodeSound, IsPlaceSound, IsUnmounted, LeadsToRoot, versions_there}
 
--- ---- what there is none of keeps its rules
+-- ---- all rules
 
-pub others_from : (t : Tables) → HasNoLater t → All (IsShareSound t) t.shares → IsRising share_key t.shares → length t.shares ≤ MAX_SHARES
+pub others_from : (t : Tables) → AreUploadsSound t → All (IsShareSound t) t.shares → IsRising share_key t.shares → length t.shares ≤ MAX_SHARES
     → All (IsMountSound t) t.mounts → IsRising mount_key t.mounts → AllPairs AreMountsApart t.mounts → length t.mounts ≤ MAX_MOUNTS
     → All (IsVersionSound t) t.versions → IsRising version_key t.versions → length t.versions ≤ MAX_VERSIONS
     → All (IsItemSound t) t.items → IsRising item_key t.items → AreOthersSound t
-others_from t (uploads, (chunks, end)) shares shares_rise few_shares mounts mounts_rise mounts_apart few_mounts versions versions_rise few_versions items items_rise = record {
+others_from t uploads shares shares_rise few_shares mounts mounts_rise mounts_apart few_mounts versions versions_rise few_versions items items_rise = record {
   shares = shares;
   shares_rise = shares_rise;
   few_shares = few_shares;
@@ -54,8 +55,12 @@ others_from t (uploads, (chunks, end)) shares shares_rise few_shares mounts moun
   few_versions = few_versions;
   items = items;
   items_rise = items_rise;
-  uploads = subst (All (IsUploadSound t)) (sym uploads) (All-nil (IsUploadSound t));
-  chunks = subst (All (IsChunkSound t)) (sym chunks) (All-nil (IsChunkSound t));
+  uploads = uploads.uploads;
+  uploads_rise = uploads.uploads_rise;
+  few_uploads = uploads.few_uploads;
+  chunks = uploads.chunks;
+  chunks_rise = uploads.chunks_rise;
+  few_pending = uploads.few_pending;
 }
 
 -- ---- the trash
@@ -345,7 +350,7 @@ pub others_seen : (t : Tables) (meta : MetaRow) (nodes : List NodeRow) (items : 
     → AreOthersSound (with_items t meta nodes items)
 others_seen t meta nodes items sound up later seen fine rise =
     let made = with_items t meta nodes items in
-    others_from made sound.later
+    others_from made (uploads_still t made refl refl (λ user is. is) later up.blobs sound)
     (λ k d within. share_still t meta nodes items (get_or t.shares k d) up.shares up.nodes later (seen.of_shares k d within) (seen.present k d within)
     (sound.others.shares k d within))
     sound.others.shares_rise sound.others.few_shares (mounts_still t made refl up.nodes sound seen.of_mounts seen.off) sound.others.mounts_rise
@@ -548,7 +553,7 @@ pub others_ended : (t : Tables) (gone : ℕ → Bool) (nodes : List NodeRow) (ve
     → All (IsItemSound (ending t gone nodes versions items)) items → IsRising item_key items → AreOthersSound (ending t gone nodes versions items)
 others_ended t gone nodes versions items sound was present off all files versions_rise few_versions fine rise =
     let made = ending t gone nodes versions items in
-    others_from made sound.later
+    others_from made (uploads_kept t made refl refl refl refl sound)
     (All-map (IsShareSound made) (unless_gone gone) t.shares
     (λ k d within.
     let share = get_or t.shares k d in
@@ -580,7 +585,6 @@ meta_sound t meta sound up later =
           (λ row given. omega (arith, given, up.groups)) t.groups sound.groups_given;
       few_nodes = sound.few_nodes;
       few_pieces = sound.few_pieces;
-      later = sound.later;
       others = others_still t meta t.nodes sound up later (still_same t sound);
     }
 

@@ -1,8 +1,9 @@
 -- Who owns a node that is there owned it before.
-use Rattle.std.proofs.Common.{inl, inr, ◌≢◌, ℕ, ◌==◌, ◌≡◌, ◌<◌, ◌≤◌, List, [], ◌∷◌, Some, refl, sym, ap, subst, ◌∙◌, arith, le_refl}
+use Rattle.std.proofs.Common.{inl, inr, ◌≢◌, ℕ, ◌==◌, ◌≡◌, ◌<◌, ◌≤◌, List, [], ◌∷◌, Option, None, Some, refl, sym, ap, subst, ◌∙◌, arith, le_refl}
 use Rattle.std.specs.List.{All}
 use Rattle.std.proofs.lemmas.Bool.{cases_Bool, eqb-true}
 use Rattle.std.proofs.lemmas.List.Elements.{All-cons, All-nil}
+use Rattle.nf_base.specs.declared.changes.Change.{Change}
 use Rattle.nf_base.specs.declared.rows.NodeRow.{NodeRow}
 use Rattle.nf_defs.specs.Prelude.{filled, made, node_row, relinked, Tables, with_node}
 use Rattle.nf_defs.specs.Tree.{trashed}
@@ -11,16 +12,19 @@ use Rattle.nf_laws.proofs.Copied.{copies_numbered, old_joined}
 use Rattle.nf_laws.proofs.Entries.{deeds_known_have}
 use Rattle.nf_laws.proofs.Gone.{kept_left}
 use Rattle.nf_laws.proofs.InTurn.{Fit, Joins}
-use Rattle.nf_laws.proofs.Lists.{changes_have, with_born, with_filled, turned_nodes}
+use Rattle.nf_laws.proofs.Lists.{aside_nodes, changes_have, counted_higher, with_born, with_filled}
 use Rattle.nf_laws.proofs.OneRow.{KeepsId, row_itself, row_other}
 use Rattle.nf_laws.proofs.Peopled.{people_nodes}
 use Rattle.nf_laws.proofs.Rows.{row_joined, stamped_has}
+use Rattle.nf_words.proofs.Fits.{KnownChange}
 use Rattle.nf_words.proofs.Known.{Known}
 use Rattle.nf_words.specs.Prelude.{altered, AreSound, changed, deed_done, purged, told}
 use Rattle.nf_words.specs.declared.answer.Allowed.{Allowed}
 use Rattle.nf_words.specs.declared.answer.Allowed.TheVariants as allowed
 use Rattle.nf_words.specs.declared.answer.Deed.{Deed}
 use Rattle.nf_words.specs.declared.answer.Deed.TheVariants as deed
+use Rattle.nf_words.specs.declared.answer.Report.{Report}
+use Rattle.nf_words.specs.declared.answer.Report.TheVariants as report
 
 -- the row is that of the same owner
 abbrev WasOf : List NodeRow → ℕ → NodeRow → Type 0
@@ -80,34 +84,43 @@ relinked_owners : (t u : Tables) (node : ℕ) (change : NodeRow → NodeRow) →
 relinked_owners t u node change id owner keeps =
     let made = record u { nodes = with_node u.nodes node change } in also_owners t u made keeps (with_owners u made node change id owner refl)
 
+-- what changes put is new, or stays its owner's
+changes_owners : (t u : Tables) (now : ℕ) (changes : List Change) (blob : Option ℕ) (told : Report) → t.meta.next_node ≤ u.meta.next_node → AreSound u
+    → KnownChange u now changes blob → KeepsOwners t u → KeepsOwners t (altered u now (allowed.Change changes blob told))
+changes_owners t u now changes blob told more sound known first =
+    changes_have (KeepsOwners t) u now changes blob told sound.rising known (λ v row keeps it. new_owners t v row keeps (omega (arith, more, it.fresh)))
+    (λ v row keeps it. filled_owners t v row keeps) (λ v row keeps it. keeps) (λ v row keeps it. keeps)
+    (λ v change keeps it. also_owners t v (made v change) keeps
+    (λ node row there. (row, ap (λ (rows : List NodeRow). node_row rows node) (sym (people_nodes v change it)) ∙ there, refl)))
+    (λ v change keeps it. also_owners t v (made v change) keeps
+    (λ node row there. (row, ap (λ (rows : List NodeRow). node_row rows node) (sym (aside_nodes u blob v change it)) ∙ there, refl)))
+    (λ v row root keeps it. new_owners t v root keeps (omega (arith, more, it.2))) first
+
 -- what is moved, put in the trash or comes back stays its owner's, and so does what is left where something goes
-deed_owners : (t u : Tables) (now : ℕ) (one : Deed) → Fit u now one → Owned t u → Owned t (deed_done u one)
-deed_owners t u now (deed.Discard item) fit (more, keeps) = (more, relinked_owners t u item.node trashed (λ row. refl) (λ row. refl) keeps)
-deed_owners t u now (deed.Purge node) fit (more, keeps) =
+deed_owners : (t u : Tables) (now : ℕ) (one : Deed) → AreSound u → Fit u now one → Owned t u → Owned t (deed_done u one)
+deed_owners t u now (deed.Discard item) sound fit (more, keeps) = (more, relinked_owners t u item.node trashed (λ row. refl) (λ row. refl) keeps)
+deed_owners t u now (deed.Purge node) sound fit (more, keeps) =
     (more, also_owners t u (purged u node) keeps (λ other row there. (row, (kept_left u.nodes node other row there).1, refl)))
-deed_owners t u now (deed.Restore node folder name) fit (more, keeps) =
+deed_owners t u now (deed.Restore node folder name) sound fit (more, keeps) =
     (more, relinked_owners t u node (relinked folder name) (λ row. refl) (λ row. refl) keeps)
-deed_owners t u now (deed.Relink node folder name) fit (more, keeps) =
+deed_owners t u now (deed.Relink node folder name) sound fit (more, keeps) =
     (more, relinked_owners t u node (relinked folder name) (λ row. refl) (λ row. refl) keeps)
-deed_owners t u now (deed.Join copies) joins (more, keeps) =
+deed_owners t u now (deed.Join copies) sound joins (more, keeps) =
     let old = old_joined u now joins.transfer joins.name copies joins.mirrors u.nodes in
     (omega (arith, more), λ node row given there. keeps node row given (sym (old node (omega (arith, more, given))) ∙ there))
-deed_owners t u now (deed.Requote row) fit has = has
-deed_owners t u now (deed.Forget node at) fit has = has
+deed_owners t u now (deed.Requote row) sound fit has = has
+deed_owners t u now (deed.Forget node at) sound fit has = has
+deed_owners t u now (deed.Store changes) sound known (more, keeps) =
+    (omega (arith, more, (counted_higher u.meta changes).nodes), changes_owners t u now changes None report.Done more sound known keeps)
+deed_owners t u now (deed.Abandon user dir) sound fit has = has
 
 -- ---- every act
 
 pub altered_owners : (t : Tables) (now : ℕ) (act : Allowed) → AreSound t → t.meta.last ≤ now → Known t now act → KeepsOwners t (altered t now act)
-altered_owners t now (allowed.Change changes blob report) sound later known =
-    changes_have (KeepsOwners t) t now changes blob report sound.rising known (λ u row keeps it. new_owners t u row keeps it.fresh)
-    (λ u row keeps it. filled_owners t u row keeps) (λ u row keeps it. keeps) (λ u row keeps it. keeps)
-    (λ u change keeps it. also_owners t u (made u change) keeps
-    (λ node row there. (row, ap (λ (rows : List NodeRow). node_row rows node) (sym (people_nodes u change it)) ∙ there, refl)))
-    (λ u change keeps it. also_owners t u (made u change) keeps
-    (λ node row there. (row, ap (λ (rows : List NodeRow). node_row rows node) (sym (turned_nodes t u change it)) ∙ there, refl)))
-    (λ u row root keeps it. new_owners t u root keeps it.2) (all_owners t)
-altered_owners t now (allowed.Deeds deeds report) sound later known =
-    (deeds_known_have (Owned t) t now deeds sound later known (λ u one fine at fit. deed_owners t u now one fit) (le_refl _, all_owners t)).1
+altered_owners t now (allowed.Change changes blob told) sound later known =
+    changes_owners t t now changes blob told (le_refl _) sound known (all_owners t)
+altered_owners t now (allowed.Deeds deeds told) sound later known =
+    (deeds_known_have (Owned t) t now deeds sound later known (λ u one fine at fit. deed_owners t u now one fine fit) (le_refl _, all_owners t)).1
 altered_owners t now act sound later known = all_owners t
 
 pub owners_kept : (t : Tables) (now : ℕ) (act : Allowed) → AreSound t → t.meta.last ≤ now → Known t now act → KeepsOwners t (changed t now act)

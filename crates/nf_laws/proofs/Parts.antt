@@ -1,4 +1,4 @@
--- The deeds of a step: first those that act, and then items that go for good.
+-- The deeds of a step: first those that act, and then items and uploads that go for good.
 use Rattle.std.proofs.Common.{◌≡◌, ◌≢◌, ◌≤◌, ℕ, ◌==◌, not, filter, false, List, [], ◌∷◌, ◌++◌, Option, None, Some, get_or, refl, sym, ap, subst, ◌∙◌, arith}
 use Rattle.std.specs.Prelude.{is_some}
 use Rattle.std.specs.List.{All}
@@ -8,8 +8,10 @@ use Rattle.std.proofs.lemmas.List.Elements.{All-append, All-cons, All-nil, All-h
 use Rattle.std.proofs.lemmas.List.Folds.{find-append}
 use Rattle.std.proofs.lemmas.Option.{same_Some}
 use Rattle.nf_base.specs.declared.rows.ItemRow.{ItemRow}
+use Rattle.nf_base.specs.declared.rows.MetaRow.{MetaRow}
 use Rattle.nf_base.specs.declared.rows.NodeRow.{NodeRow}
-use Rattle.nf_defs.specs.Prelude.{item_row, is_root_place, is_under, parent_of, node_row, owner_of, Tables}
+use Rattle.nf_base.specs.declared.rows.UploadRow.{UploadRow}
+use Rattle.nf_defs.specs.Prelude.{item_row, is_root_place, is_under, parent_of, put_all, node_row, owner_of, Tables}
 use Rattle.std.proofs.lemmas.List.{map-append}
 use Rattle.nf_laws.proofs.InTurn.{deeds_sound, Fit, goes_turn, InTurn, item_outside, joins_here, joins_into, leaving_fit, move_fits, none_replaced, replaced_is, turn_append}
 use Rattle.nf_laws.proofs.Into.{folder_out, into, known_into, source_out}
@@ -19,24 +21,25 @@ use Rattle.nf_laws.proofs.Moved.{same_owner}
 use Rattle.nf_laws.proofs.Others.{item_other, stamp_sound}
 use Rattle.nf_laws.proofs.Present.{kept_leads}
 use Rattle.nf_laws.proofs.Rows.{kept_joined, row_is, stamp}
+use Rattle.nf_laws.proofs.Stamping.{change_stamped, counted_stamped, put_met}
 use Rattle.nf_laws.proofs.Trashed.{item_put, restored_fits}
 use Rattle.nf_base.specs.declared.rows.Place.TheVariants.{Inside}
 use Rattle.nf_defs.proofs.Climbs.{climb_under}
 use Rattle.nf_words.proofs.Found.{child_parent, found_passes}
 use Rattle.nf_words.proofs.Known.{IsItem, KnownGoes, KnownCopies, KnownCross, KnownDeeds, KnownLeaving, KnownMove, KnownSettled, KnownTransfer}
 use Rattle.nf_retention.specs.declared.versions.Version.{Version}
-use Rattle.nf_words.proofs.Known.KnownDeeds.{by_copying, by_crossing, by_going, by_leaving, by_moving, by_requoting, by_restoring}
+use Rattle.nf_words.proofs.Known.KnownDeeds.{by_abandoning, by_copying, by_crossing, by_going, by_joining, by_leaving, by_moving, by_requoting, by_restoring, by_sweeping}
 use Rattle.nf_words.proofs.Sweeping.{joined_once, rest_owned}
 use Rattle.nf_words.proofs.Transfers.{replaced_leaves, row_leaves}
 use Rattle.nf_words.proofs.Trashing.{rest_apart, rest_goes}
-use Rattle.nf_words.specs.Prelude.{AreSound, beside, besides, copies, copies_to, crossing, deed_done, deeds_done, discard, discards, forgets, goes_itself, gone_with, IsPlaceSound, item_for, joined, LeadsToRoot, moves, purges, row_at}
+use Rattle.nf_words.specs.Prelude.{abandons, AreSound, beside, besides, copies, copies_to, counted, crossing, deed_done, deeds_done, discard, discards, forgets, goes_itself, gone_with, IsPlaceSound, item_for, joined, LeadsToRoot, moves, purges, row_at}
 use Rattle.nf_words.specs.declared.answer.Deed.{Deed}
 use Rattle.nf_words.specs.declared.answer.Deed.TheVariants as deed
 use Rattle.nf_words.specs.declared.request.Transfer.{Transfer}
 
 -- ---- items
 
--- the deed leaves that item one
+-- the deed leaves that item one; of one that stores changes that isn't told here
 abbrev IsOff : Deed → ℕ → Type 0
 IsOff (deed.Discard item) node = Unit {0}
 IsOff (deed.Purge other) node = node ≢ other
@@ -45,6 +48,8 @@ IsOff (deed.Relink other folder name) node = Unit {0}
 IsOff (deed.Join rows) node = Unit {0}
 IsOff (deed.Requote row) node = Unit {0}
 IsOff (deed.Forget other at) node = Unit {0}
+IsOff (deed.Store changes) node = ⊥
+IsOff (deed.Abandon user dir) node = Unit {0}
 
 item_on : (u : Tables) (one : Deed) (node : ℕ) → IsOff one node → IsItem u node → IsItem (deed_done u one) node
 item_on u (deed.Discard item) node off is = item_put item u.items node is
@@ -54,6 +59,8 @@ item_on u (deed.Relink other folder name) node off is = is
 item_on u (deed.Join rows) node off is = is
 item_on u (deed.Requote row) node off is = is
 item_on u (deed.Forget other at) node off is = is
+item_on u (deed.Store changes) node off is = absurd off
+item_on u (deed.Abandon user dir) node off is = is
 
 items_on : (u : Tables) (deeds : List Deed) (nodes : List ℕ) → All (λ (one : Deed). All (IsOff one) nodes) deeds → All (IsItem u) nodes
     → All (IsItem (deeds_done u deeds)) nodes
@@ -303,24 +310,35 @@ module _ (t : Tables) (now : ℕ) (transfer : Transfer) (name : List ℕ) (sound
 
 -- ---- the deeds of a step
 
-pub parts : (t : Tables) (now : ℕ) (deeds : List Deed) → AreSound t → t.meta.last ≡ now → KnownDeeds t now deeds → Parts t now deeds
-parts t now deeds sound at (by_going nodes goes) = parts_of t now [] nodes tt goes (no_deeds nodes)
-parts t now deeds sound at (by_leaving row known) = leaving_parts t now row sound known
-parts t now deeds sound at (by_restoring node folder name gone known goes others) =
-    let back = deed.Restore node folder name in
-    parts_of t now (back ∷ []) gone (restored_fits t node folder name sound known, tt) goes
-    (one_more back [] gone (λ k d within same. others k d within (sym same)) (no_deeds gone))
-parts t now deeds sound at (by_requoting row gone known goes) =
-    parts_of t now (deed.Requote row ∷ []) gone (known, tt) goes (one_more (deed.Requote row) [] gone (λ k d within. tt) (no_deeds gone))
-parts t now deeds sound at (by_moving transfer name known) = moving_parts t now transfer name sound at known
-parts t now deeds sound at (by_copying transfer name known) = copying_parts t now transfer name sound at known
-parts t now deeds sound at (by_crossing transfer name known) = crossing_parts t now transfer name sound at known
-
-first_turn : (t : Tables) (now : ℕ) (deeds : List Deed) → AreSound t → t.meta.last ≡ now → KnownDeeds t now deeds → InTurn t now deeds
-first_turn t now deeds sound at known =
-    let p = parts t now deeds sound at known in
+parts_turn : (t : Tables) (now : ℕ) (deeds : List Deed) → Parts t now deeds → InTurn t now deeds
+parts_turn t now deeds p =
     subst (InTurn t now) (sym p.are)
     (turn_append t now p.first (purges p.gone) p.turn (goes_turn (deeds_done t p.first) now p.gone p.goes.once p.still))
+
+-- uploads may go wherever they do
+abandons_turn : (t : Tables) (now : ℕ) (rows : List UploadRow) → InTurn t now (abandons rows)
+abandons_turn t now [] = tt
+abandons_turn t now (row ∷ rows) = (tt, abandons_turn (deed_done t (deed.Abandon row.user row.dir)) now rows)
+
+first_turn : (t : Tables) (now : ℕ) (deeds : List Deed) → AreSound t → t.meta.last ≡ now → KnownDeeds t now deeds → InTurn t now deeds
+first_turn t now deeds sound at (by_going nodes goes) = goes_turn t now nodes goes.once goes.items
+first_turn t now deeds sound at (by_leaving row known) = parts_turn t now deeds (leaving_parts t now row sound known)
+first_turn t now deeds sound at (by_restoring node folder name gone known goes others) =
+    let back = deed.Restore node folder name in
+    parts_turn t now deeds
+    (parts_of t now (back ∷ []) gone (restored_fits t node folder name sound known, tt) goes
+    (one_more back [] gone (λ k d within same. others k d within (sym same)) (no_deeds gone)))
+first_turn t now deeds sound at (by_requoting row gone known goes) =
+    parts_turn t now deeds
+    (parts_of t now (deed.Requote row ∷ []) gone (known, tt) goes (one_more (deed.Requote row) [] gone (λ k d within. tt) (no_deeds gone)))
+first_turn t now deeds sound at (by_moving transfer name known) = parts_turn t now deeds (moving_parts t now transfer name sound at known)
+first_turn t now deeds sound at (by_copying transfer name known) = parts_turn t now deeds (copying_parts t now transfer name sound at known)
+first_turn t now deeds sound at (by_crossing transfer name known) = parts_turn t now deeds (crossing_parts t now transfer name sound at known)
+first_turn t now deeds sound at (by_joining changes user dir known there) = (known, (tt, tt))
+first_turn t now deeds sound at (by_abandoning user dir there) = (tt, tt)
+first_turn t now deeds sound at (by_sweeping nodes rows goes idle) =
+    turn_append t now (purges nodes) (abandons rows) (goes_turn t now nodes goes.once goes.items)
+    (abandons_turn (deeds_done t (purges nodes)) now rows)
 
 -- versions may go wherever they do
 pub forgets_turn : (t : Tables) (now : ℕ) (gone : List Version) → InTurn t now (forgets gone)
@@ -386,6 +404,10 @@ known_stamped t now moment deeds (by_moving transfer name k) =
 known_stamped t now moment deeds (by_copying transfer name k) = by_copying transfer name (copies_stamped t moment transfer name k)
 known_stamped t now moment deeds (by_crossing transfer name k) =
     by_crossing transfer name (record { copies = copies_stamped t moment transfer name k.copies; crosses = k.crosses })
+known_stamped t now moment deeds (by_joining changes user dir k there) = by_joining changes user dir (change_stamped t now moment changes k) there
+known_stamped t now moment deeds (by_abandoning user dir there) = by_abandoning user dir there
+known_stamped t now moment deeds (by_sweeping nodes rows goes idle) =
+    by_sweeping nodes rows (goes_stamped t moment nodes goes) (record { there = idle.there; once = idle.once })
 
 pub settled_stamped : (t : Tables) (now moment : ℕ) (deeds : List Deed) → KnownSettled t now deeds → KnownSettled (stamp t moment) now deeds
 settled_stamped t now moment deeds k = record {
@@ -409,6 +431,10 @@ deed_stamped t now (deed.Relink node folder name) = refl
 deed_stamped t now (deed.Join rows) = refl
 deed_stamped t now (deed.Requote row) = refl
 deed_stamped t now (deed.Forget node at) = refl
+deed_stamped t now (deed.Store changes) =
+    put_met t (stamp t now).meta (counted (stamp t now).meta changes) changes
+    ∙ ap (λ (meta : MetaRow). record (put_all t changes) { meta = meta }) (counted_stamped t.meta now changes)
+deed_stamped t now (deed.Abandon user dir) = refl
 
 pub deeds_stamped : (t : Tables) (now : ℕ) (deeds : List Deed) → deeds_done (stamp t now) deeds ≡ stamp (deeds_done t deeds) now
 deeds_stamped t now [] = refl

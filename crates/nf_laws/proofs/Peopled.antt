@@ -40,6 +40,7 @@ use Rattle.nf_laws.proofs.Others.{items_still, others_from, trash_kept}
 use Rattle.nf_laws.proofs.Present.{kept_leads}
 use Rattle.nf_laws.proofs.Puts.{number_found, other_number, put_new}
 use Rattle.nf_laws.proofs.Rows.{AreKept, climb_kept, folder_kept, found_is, kept_joined, kept_row, node_still, or_none, root_still, row_joined, top_kept}
+use Rattle.nf_laws.proofs.Uploads.{uploads_still}
 use Rattle.nf_words.proofs.Fits.{with_user}
 use Rattle.nf_words.specs.Others.{IsKindSound, IsMountSound, IsShareSound}
 use Rattle.nf_words.specs.Prelude.{AreApart, AreSound, HasRoot, IsNewGroup, IsNewMember, IsNewUser, IsNodeSound, IsOfPeople, IsPieceSound, IsPlaceSound, IsRequoted, root_of_user, stored_pieces}
@@ -155,8 +156,7 @@ module _ (t : Tables) (users : List UserRow) (tokens : List TokenRow) (groups : 
     groups_given = groups_given;
     few_nodes = few_nodes;
     few_pieces = few_pieces;
-    later = sound.later;
-    others = others_from after sound.later
+    others = others_from after (uploads_still t after refl refl user_seen (le_refl _) (le_refl _) sound)
         (λ k d within. share_seen _ (seen.of_shares k d within) (sound.others.shares k d within)) sound.others.shares_rise sound.others.few_shares
         (λ k d within. mount_seen _ (seen.of_mounts k d within) (sound.others.mounts k d within)) sound.others.mounts_rise
         sound.others.mounts_apart sound.others.few_mounts (versions_still t after t.versions (le_refl _) (le_refl _) sound.others.versions (files_kept t nodes sound seen.kept)) sound.others.versions_rise sound.others.few_versions

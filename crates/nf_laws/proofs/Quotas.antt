@@ -1,37 +1,38 @@
 -- No act takes a charge beyond its quota.
-use Rattle.std.proofs.Common.{ℕ, ◌+◌, ◌==◌, ◌≡◌, ◌≤◌, ◌⊎◌, Bool, true, false, List, [], ◌∷◌, ◌++◌, Option, None, Some, Result, Ok, if◌then◌else◌, inl, inr, refl, ap, subst, ◌∙◌, arith, le_refl, sym}
+use Rattle.std.proofs.Common.{ℕ, ◌==◌, ◌≡◌, ◌≤◌, ◌⊎◌, List, [], ◌∷◌, ◌++◌, filter, Option, None, Some, Result, Ok, if◌then◌else◌, inl, inr, refl, ap, subst, ◌∙◌, arith, le_refl, sym}
 use Rattle.std.specs.Prelude.{sum_by}
 use Rattle.std.specs.List.{flat_map, All}
+use Rattle.nf_base.specs.declared.rows.ChunkRow.{ChunkRow}
+use Rattle.nf_laws.proofs.Chunking.{chunk_leaves}
 use Rattle.std.specs.Option.{IfSome, option_and_then, option_map_or}
-use Rattle.std.proofs.lemmas.Bool.{cond_both, eqb-true}
+use Rattle.std.proofs.lemmas.Bool.{cond_both}
 use Rattle.std.proofs.lemmas.List.Sums.{sum_by_push}
 use Rattle.nf_base.specs.declared.changes.Change.{Change}
 use Rattle.nf_base.specs.declared.content.Piece.{Piece}
-use Rattle.nf_base.specs.declared.rows.MetaRow.{MetaRow}
 use Rattle.nf_base.specs.declared.rows.NodeRow.{NodeRow}
 use Rattle.nf_defs.specs.Prelude.{Access, filled, node_row, owner_of, Tables, content_of, is_folder, put_all}
 use Rattle.nf_laws.proofs.Affording.{Affords, call_affords}
 use Rattle.nf_laws.proofs.Charging.{alike, charge_beside}
 use Rattle.nf_laws.proofs.Entries.{entry_has}
 use Rattle.nf_laws.proofs.Lists.{nodes_have}
-use Rattle.nf_laws.proofs.Recharged.{fits, KeepsCharge, lower_keeps, purges_lower}
+use Rattle.nf_laws.proofs.Joining.{abandons_lower, Keeps, owner_keeps}
+use Rattle.nf_laws.proofs.Recharged.{KeepsCharge, lower_append, lower_keeps, purges_lower}
 use Rattle.nf_laws.proofs.Rows.{stamp, stamped_has}
 use Rattle.nf_laws.proofs.Stays.{sound_after}
-use Rattle.nf_laws.proofs.Stored.{Comes, end_other, stored_comes, refills_comes}
+use Rattle.nf_laws.proofs.Stored.{end_other, stored_comes, refills_comes}
 use Rattle.nf_laws.proofs.Trashing.{act_kept, all_kept, KeepsTrash, trash_same}
 use Rattle.nf_laws.proofs.Weighing.{row_owned}
-use Rattle.nf_laws.specs.Charges.{bytes_at, bytes_owned, bytes_trashed, owned_bytes, QuotasAreKept}
-use Rattle.nf_words.proofs.Bodies.{IsOfBody}
+use Rattle.nf_laws.specs.Charges.{bytes_at, bytes_owned, owned_bytes, QuotasAreKept}
 use Rattle.nf_words.proofs.Ends.{goal_held, known_change}
 use Rattle.nf_words.proofs.Fits.{KnownChange}
 use Rattle.nf_words.proofs.Known.{Known}
-use Rattle.nf_words.proofs.Passing.{end_passes, not_refused, call_passes, no_excess}
-use Rattle.nf_words.specs.Prelude.{access_of, after, altered, AreSound, blob_for, call_of, charge_of, content_in, decision_of, end_refusal, ends_at, ends_goal, excess, excess_at, goal_at, gone_from, IsHeld, IsSound, IsStorable, MayAsk, node_of_key, owners_of, place_of, purges, quota_of, refilled, State, stored_at, swept, told, asked_of, asked_of_version, back_excess, brought_back, bytes_of, Call, call_decision, charged, content_size, exceeded, given, listing_of, nothing_done, places_of, quota_rule, refills, served, unsettled, version_done, version_row, way_of, node_at, new_node}
+use Rattle.nf_words.proofs.Passing.{end_passes, not_refused, call_passes, quota_passes}
+use Rattle.nf_words.specs.Prelude.{abandons, access_of, after, altered, AreSound, blob_for, call_of, charge_of, chunk_refusal, chunk_stored, content_in, decision_of, end_refusal, ends_at, ends_goal, excess, excess_at, goal_at, gone_from, is_idle, IsHeld, IsSound, IsStorable, MayAsk, node_of_key, owners_of, place_of, purges, quota_of, refilled, State, stored_at, swept, told, asked_of, asked_of_version, back_excess, brought_back, bytes_of, Call, call_decision, charged, content_size, exceeded, given, listing_of, nothing_done, places_of, refills, served, unsettled, version_done, version_row, way_of, node_at, new_node}
 use Rattle.nf_words.specs.declared.answer.Allowed.{Allowed}
 use Rattle.nf_words.specs.declared.answer.Allowed.TheVariants as allowed
 use Rattle.nf_words.specs.declared.answer.Denial.{Denial}
 use Rattle.nf_words.specs.declared.answer.Goal.{Goal}
-use Rattle.nf_words.specs.declared.answer.Goal.TheVariants.{Serve, Store}
+use Rattle.nf_words.specs.declared.answer.Goal.TheVariants.{Chunk, Serve, Store}
 use Rattle.nf_words.specs.declared.answer.LockKey.{LockKey}
 use Rattle.nf_words.specs.declared.answer.LockKey.TheVariants.{Node, Slot}
 use Rattle.nf_words.specs.declared.answer.Report.{Report}
@@ -50,25 +51,6 @@ use Rattle.nf_words.specs.declared.request.Wanted.{Wanted}
 use Rattle.std.proofs.lemmas.List.Elements.{All-cons, All-nil}
 use Rattle.nf_base.specs.declared.rows.NodeKind.TheVariants.{File}
 use Rattle.nf_laws.proofs.Sizes.{weight}
-
--- what is the user's is no more than before, or within the quota beside what was in the trash
-abbrev Keeps : Tables → ℕ → Tables → Type 0
-Keeps t user made =
-    (bytes_owned made.nodes user ≤ bytes_owned t.nodes user) ⊎ (bytes_owned made.nodes user ≤ bytes_trashed t user + quota_of made user)
-
--- what comes for one owner in the place of what goes, where that passes no quota
-owner_keeps : (t made : Tables) (user owner old new : ℕ) → quota_of made user ≡ quota_of t user → excess t owner old new ≡ None
-    → Comes t owner old new made → Keeps t user made
-owner_keeps t made user owner old new quota none comes = here (owner == user) refl (comes user)
-  where
-    here : (own : Bool) → (owner == user) ≡ own
-        → bytes_owned made.nodes user + (if own then old else 0) ≡ bytes_owned t.nodes user + (if own then new else 0) → Keeps t user made
-    here false other sum = inl (omega (arith, sum))
-    here true own sum =
-        elim (fits t user old new (subst (λ (n : ℕ). excess t n old new ≡ None) (eqb-true owner user own) none)) [
-          | inl fewer ↦ inl (omega (arith, sum, fewer))
-          | inr within ↦ inr (omega (arith, sum, within, quota, charge_beside t user))
-        ]
 
 -- ---- an End
 
@@ -107,6 +89,11 @@ goal_keeps access t now user (Body digest size) (Store by key wanted) act sound 
     let h = not_refused (end_refusal access t now by key size) (stored_at t now key digest size) act is in
     subst (λ (a : Allowed). Keeps t user (altered t now a)) h.1
     (stored_keeps t now user key digest size sound held.0 (end_passes access t now by key size h.0).quota)
+goal_keeps access t now user (Body digest size) (Chunk of dir number wanted) act sound held is =
+    let h = not_refused (chunk_refusal t of dir number size) (chunk_stored t now of dir number digest size) act is in
+    let row : ChunkRow = record { user = of; dir = dir; number = number; content = content_in (blob_for t.meta.next_blob size) digest size } in
+    subst (λ (a : Allowed). Keeps t user (altered t now a)) h.1
+    (inl (omega (arith, ap (λ (u : Tables). bytes_owned u.nodes user) (chunk_leaves t row now).rest)))
 goal_keeps access t now user outcome goal act sound held is = closed_keeps t now user act is
 
 end_keeps : (access : Access) (t : Tables) (now user : ℕ) (outcome : Outcome) (goal : Option Goal) (act : Allowed) → AreSound t
@@ -119,16 +106,13 @@ end_keeps access t now user outcome (Some goal) act sound held is = goal_keeps a
 empty_owned : (user : ℕ) (row : NodeRow) → row.content ≡ [] → owned_bytes user row ≡ 0
 empty_owned user row empty = ap (λ (content : List Piece). if row.owner == user then sum_by (λ piece. piece.size) content else 0) empty ∙ alike (row.owner == user) 0
 
-no_body : (meta : MetaRow) (blob : Option ℕ) (content : List Piece) → blob ≡ None → IsOfBody meta blob content → content ≡ []
-no_body meta blob content none of = subst (λ (o : Option ℕ). IsOfBody meta o content) none of
-
 -- where no row has a content, nobody has more
 pub rows_fewer : (t : Tables) (now user : ℕ) (changes : List Change) (blob : Option ℕ) (report : Report) → AreSound t → KnownChange t now changes blob
     → blob ≡ None → AreOf [] changes
     → bytes_owned (altered t now (allowed.Change changes blob report)).nodes user ≤ bytes_owned t.nodes user
 rows_fewer t now user changes blob report sound known none of =
     nodes_have Fewer (IsOf []) t now changes blob report sound.rising known (each_of changes of)
-    (λ u row fewer it any. pushed u.nodes row fewer (no_body t.meta blob row.content none it.body))
+    (λ u row fewer it empty. pushed u.nodes row fewer empty)
     (λ u row fewer it empty.
     let old = it.filled.old in
     let new = filled row.content row.changed old in
@@ -198,13 +182,12 @@ alters_light t now user act alters = tt
 -- so is all that is asked for
 call_light : (call : Call) (user : ℕ) (act : Allowed) → AreSound call.state.tables → call_decision call ≡ Ok act
     → IsLight call.state.tables call.now user act
-unfolding quota_rule
 call_light call user act sound is =
     let h = call_passes call act is in
     let t = call.state.tables in
     let access = access_of call.state in
     let Light : Wanted → Type 0 = λ asked. IsLight t call.now user (given access call (places_of call) asked) in
-    let none = no_excess _ h.0.quota in
+    let none = (quota_passes access call h.0.quota).0 in
     subst (IsLight t call.now user) h.1
     (elim (given_alters call (places_of call) call.request.wanted) [
       | inl get ↦ subst Light (sym get.1) (served_light access call call.now user (way_of call get.0).mount (node_at (places_of call).source))
@@ -250,8 +233,11 @@ act_keeps s seat now user (End outcome) act sound later asked is =
 act_keeps s seat now user Sweep act sound later asked is =
     let t = s.tables in
     let gone = flat_map (gone_from t now) (owners_of t.items) in
+    let idle = filter (is_idle now) t.uploads in
     let same : swept t now ≡ act = cc in
-    subst (λ (a : Allowed). AllKept t user (stamp (altered t now a) now)) same (inr (lower_keeps t user (purges gone) (purges_lower gone)))
+    subst (λ (a : Allowed). AllKept t user (stamp (altered t now a) now)) same
+    (inr (lower_keeps t user (purges gone ++ abandons idle)
+    (lower_append (purges gone) (abandons idle) (purges_lower gone) (abandons_lower idle))))
 
 pub quotas_kept : QuotasAreKept
 quotas_kept n s e user sound may =

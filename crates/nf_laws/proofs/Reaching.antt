@@ -25,7 +25,7 @@ use Rattle.nf_words.proofs.Passing.{Passes, call_passes, if_none, MayDo, version
 use Rattle.nf_words.proofs.Starts.{has_asker}
 use Rattle.nf_words.proofs.Steps.{ok_reply, reports_nothing}
 use Rattle.nf_words.proofs.Ways.{bounded, way_there}
-use Rattle.nf_words.specs.Prelude.{access_of, allowed_of, answered_by, AreSound, behind, broken_by, by_of, Call, call_decision, call_of, copied, deleted, done, found, given, item_dropped, item_restored, last_name, listing_of, made_folder, may_by, MayWant, mount_left, mount_of, mount_renamed, moved, Need, node_at, node_found, nothing_done, offered, own_item, people_done, perms_after, reported, requoted, root_of, row_named, seeker_of, served, share_ended, share_made, share_set, share_shown, share_steered, until_after, share_told, shared, stored, transfer_of, trash_done, unreached, way_by, way_of, charged_to, requoting, settled_by, version_done, version_row, brought_back, mount_by, needed_for, asker_of}
+use Rattle.nf_words.specs.Prelude.{access_of, allowed_of, answered_by, AreSound, behind, broken_by, by_of, Call, call_decision, call_of, copied, deleted, done, found, given, item_dropped, item_restored, last_name, listing_of, made_folder, may_by, MayWant, mount_left, mount_of, mount_renamed, moved, Need, node_at, node_found, nothing_done, offered, own_item, people_done, perms_after, reported, requoted, root_of, row_named, seeker_of, served, share_ended, share_made, share_set, share_shown, share_steered, until_after, share_told, shared, stored, transfer_of, trash_done, unreached, way_by, way_of, charged_to, requoting, settled_by, version_done, version_row, brought_back, mount_by, needed_for, asker_of, assembled, chunk_number, chunk_sent, upload_done}
 use Rattle.nf_words.specs.declared.answer.Allowed.{Allowed}
 use Rattle.nf_words.specs.declared.answer.Allowed.TheVariants as allowed
 use Rattle.nf_words.specs.declared.answer.Report.TheVariants as report
@@ -49,6 +49,8 @@ use Rattle.nf_words.specs.declared.request.Wanted.TheVariants.{Get, Put, Mkcol, 
 use Rattle.nf_words.specs.declared.request.Wanted.TheVariants as want
 use Rattle.nf_words.specs.declared.request.VersionAsk.{VersionAsk}
 use Rattle.nf_words.specs.declared.request.VersionAsk.TheVariants as version
+use Rattle.nf_words.specs.declared.request.UploadAsk.{UploadAsk}
+use Rattle.nf_words.specs.declared.request.UploadAsk.TheVariants as upload
 use Rattle.nf_base.specs.declared.rows.VersionRow.{VersionRow}
 use Rattle.nf_words.proofs.Versioned.{named_present, no_folder}
 
@@ -143,6 +145,20 @@ trash_hides call (trash.Drop user item) = found_hides (item_dropped call.state.t
 trash_hides call (trash.Empty user) = refl
 trash_hides call (trash.Restore user item) = found_hides (item_restored call.state.tables call.now) (own_item call item) (λ row. refl)
 
+-- and what is asked about uploads
+assembled_hides : (t : Tables) (now user : ℕ) (name dir : List ℕ) (o : Option Found)
+    → is_shown (option_map_or (assembled t now name user dir) o allowed.Close) ≡ false
+assembled_hides t now user name dir None = refl
+assembled_hides t now user name dir (Some place) = refl
+
+upload_hides : (call : Call) (places : Places) (asked : UploadAsk) → is_shown (upload_done call places asked) ≡ false
+upload_hides call places (upload.New user dir to) = refl
+upload_hides call places (upload.Chunk user dir name to length) =
+    found_hides (chunk_sent (asker_of call) dir length) (chunk_number name) (λ number. refl)
+upload_hides call places (upload.Drop user dir) = refl
+upload_hides call places (upload.Join dir spot total) =
+    assembled_hides call.state.tables call.now (asker_of call) (last_name spot) dir places.target
+
 -- an act that a GET asks for, whose place leads there
 abbrev pub ShowsPlace : Call → Allowed → Type 0
 ShowsPlace call act =
@@ -193,6 +209,8 @@ asked call act is shown = here call.request.wanted refl is
         (shared_hides call (places_at call (Share ask)) ask) is)
     here (People ask) e is = absurd (none (people_done t call.now ask) (people_hides t call.now ask) is)
     here (Trash ask) e is = absurd (none (trash_done call ask) (trash_hides call ask) is)
+    here (want.Upload ask) e is =
+        let places = places_at call (want.Upload ask) in absurd (none (upload_done call places ask) (upload_hides call places ask) is)
 
 -- which lists no folder
 version_lists_none : (t : Tables) (now : ℕ) (ask : VersionAsk) (listing : List ListingLine) → version_done t now ask ≡ allowed.List listing → ⊥

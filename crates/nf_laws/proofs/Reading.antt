@@ -38,7 +38,7 @@ use Rattle.nf_words.proofs.Orders.{none_of}
 use Rattle.nf_words.proofs.Passing.{Passes, in_order}
 use Rattle.nf_words.proofs.Starts.{by_link, by_user, has_asker, IsAsking, link_mount, link_seeks, user_no_link, user_seeks}
 use Rattle.nf_words.proofs.Ways.{bounded}
-use Rattle.nf_words.specs.Prelude.{access_of, acts_rule, after, after_mark, allowed_of, answered_by, AreSound, asker_of, blob_for, broken_by, Call, call_decision, call_of, caller_row, changed, content_in, decision_of, end_refusal, ends_at, exists_rule, found, IsSound, IsHeld, IsStorable, is_by_link, is_owner, limit_rule, link_of, linked_of, may_by, mount_for, mount_of, mounted, new_node, overwrite_rule, place_rule, refilled, replay, root_of, rules, seeker_of, shown, State, stored_at, stores, target_rule, unless_refused, unreached, way_of, AreApartHolds, HoldsFor, IsTicketSound, step, ticket_of, without_ticket, Way, way_by, named_rule, sharing_rule, room_rule, quota_rule, is_same, stored_new, charged, content_size, unsettled, version_rule}
+use Rattle.nf_words.specs.Prelude.{access_of, acts_rule, after, after_mark, allowed_of, answered_by, AreSound, asker_of, blob_for, broken_by, Call, call_decision, call_of, caller_row, changed, content_in, decision_of, end_refusal, ends_at, exists_rule, found, IsSound, IsHeld, IsStorable, is_by_link, is_owner, limit_rule, link_of, linked_of, may_by, mount_for, mount_of, mounted, new_node, overwrite_rule, place_rule, refilled, replay, root_of, rules, seeker_of, shown, State, stored_at, stores, target_rule, upload_rule, unless_refused, unreached, way_of, AreApartHolds, HoldsFor, IsTicketSound, step, ticket_of, without_ticket, Way, way_by, named_rule, sharing_rule, room_rule, quota_rule, is_same, stored_new, charged, content_size, unsettled, version_rule}
 use Rattle.nf_words.specs.declared.answer.Allowed.{Allowed}
 use Rattle.nf_words.specs.declared.answer.Allowed.TheVariants as allowed
 use Rattle.nf_words.specs.declared.answer.Denial.{Denial}
@@ -298,7 +298,7 @@ led_shown call spot node row sound asked reads led there = here (has_asker call 
 -- a call of a GET that the rules of who asks, of names and of access pass is shown what its path leads to
 pub shows : (call : Call) (spot : Spot) (node : ℕ) → call.request.wanted ≡ Get spot → found call spot ≡ At node → IsWellAsked call
     → IsLet call spot node → (is_folder call.state.tables.nodes node ≡ false → IsFreeToRead call.state call.seat node) → call_decision call ≡ Ok (shown (access_of call.state) call (way_of call spot).mount node)
-unfolding place_rule named_rule acts_rule version_rule exists_rule target_rule overwrite_rule sharing_rule limit_rule room_rule quota_rule
+unfolding place_rule named_rule acts_rule version_rule exists_rule target_rule overwrite_rule sharing_rule upload_rule limit_rule room_rule quota_rule
 shows call spot node wanted at asked lets free =
     let access = access_of call.state in
     let passes : Passes access call = record {
@@ -313,6 +313,7 @@ shows call spot node wanted at asked lets free =
       target = rw wanted refl;
       overwrite = rw wanted refl;
       sharing = rw wanted refl;
+      upload = rw wanted refl;
       locked = free_unlocked call spot node wanted at free;
       limit = rw wanted refl;
       room = rw wanted refl;

@@ -100,7 +100,6 @@ filled_sound t row sound is =
                   omega (arith, counts)),
             )
       ];
-      later = sound.later;
       others = others_seen t t.meta made.nodes t.items sound (none_higher t.meta t.meta.last) (le_refl _)
           (seen_with t row.id change sound (record {
             id = λ row. refl;

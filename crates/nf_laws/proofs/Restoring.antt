@@ -3,7 +3,7 @@ use Rattle.std.proofs.Common.{ℕ, zero, suc, ◌==◌, ◌≡◌, ◌≢◌, tr
 use Rattle.std.specs.Prelude.{is_some}
 use Rattle.std.specs.List.{All, Contains}
 use Rattle.std.proofs.lemmas.Bool.{cases_Bool, cond_both, eq-eqb, eqb-true, ne_eqb}
-use Rattle.std.proofs.lemmas.List.Elements.{All-head}
+use Rattle.std.proofs.lemmas.List.Elements.{All-cons, All-head}
 use Rattle.std.proofs.lemmas.Option.{none-some, option_and_then_some, same_Some}
 use Rattle.nf_base.specs.declared.rows.ItemRow.{ItemRow}
 use Rattle.nf_base.specs.declared.rows.NodeRow.{NodeRow}
@@ -11,6 +11,7 @@ use Rattle.nf_base.specs.declared.rows.Place.TheVariants.{Trash}
 use Rattle.nf_defs.proofs.Climbs.{climb_under}
 use Rattle.nf_defs.specs.Prelude.{dropped, item_key, item_row, node_row, relinked, Tables}
 use Rattle.nf_laws.proofs.Discarding.{AreGoneBeside, deeds_told, goes_beside, items_are}
+use Rattle.nf_laws.proofs.Each.{NoStore, purges_none}
 use Rattle.nf_laws.proofs.Going.{ArePurged, item_is, items_purged, present_off, purged_rest, shares_purged}
 use Rattle.nf_laws.proofs.Moved.{Fits}
 use Rattle.nf_laws.proofs.OneRow.{row_itself, row_other}
@@ -32,38 +33,37 @@ use Rattle.nf_laws.proofs.Turning.{purges_keep, versions_left, deeds_fewer}
 
 -- ---- what of a user's trash goes for good
 
--- those items are taken
+-- those items are taken, at whatever moment
+pub taken_at : (t : Tables) (tops : List ℕ) (moment : ℕ) → AreSound t → KnownGoes t tops → AreTaken t (stamp (deeds_done t (purges tops)) moment) tops
+taken_at t tops moment sound goes =
+    let h = items_purged t tops sound goes.items goes.once in
+    record {
+      gone = h.gone;
+      none = h.none;
+      others = h.others;
+      items = h.items;
+      versions = versions_left t (purges tops) sound (purges_keep tops);
+      rest = ap (λ (u : Tables). stamp u moment) (purged_rest t tops)
+          ∙ (λ i. record t {
+            meta = record t.meta { last = moment };
+            nodes = (deeds_done t (purges tops)).nodes;
+            shares = shares_purged t tops sound goes.items goes.once i;
+            versions = (deeds_done t (purges tops)).versions;
+            items = (deeds_done t (purges tops)).items;
+          });
+    }
+
 pub taken_rows : (t : Tables) (now : ℕ) (tops : List ℕ) (report : Report) → AreSound t → KnownGoes t tops
     → AreTaken t (changed t now (allowed.Deeds (purges tops) report)) tops
 taken_rows t now tops report sound goes = here tops goes
   where
-    -- at whatever moment
-    without : (tops : List ℕ) (moment : ℕ) → KnownGoes t tops → AreTaken t (stamp (deeds_done t (purges tops)) moment) tops
-    without tops moment goes =
-        let h = items_purged t tops sound goes.items goes.once in
-        record {
-          gone = h.gone;
-          none = h.none;
-          others = h.others;
-          items = h.items;
-          versions = versions_left t (purges tops) sound (purges_keep tops);
-          rest = ap (λ (u : Tables). stamp u moment) (purged_rest t tops)
-              ∙ (λ i. record t {
-                meta = record t.meta { last = moment };
-                nodes = (deeds_done t (purges tops)).nodes;
-                shares = shares_purged t tops sound goes.items goes.once i;
-                versions = (deeds_done t (purges tops)).versions;
-                items = (deeds_done t (purges tops)).items;
-              });
-        }
-
     here : (tops : List ℕ) → KnownGoes t tops → AreTaken t (changed t now (allowed.Deeds (purges tops) report)) tops
-    here [] goes = without [] t.meta.last goes
+    here [] goes = taken_at t [] t.meta.last sound goes
     here (top ∷ rest) goes =
         subst (λ (made : Tables). AreTaken t made (top ∷ rest))
         (sym (stamped_some t (deeds_done t (purges (top ∷ rest))) now (told t (allowed.Deeds (purges (top ∷ rest)) report))
-        (deeds_told t now (deed.Purge top) (purges rest) (inl (All-head (IsItem t) top rest goes.items)))))
-        (without (top ∷ rest) now goes)
+        (deeds_told t now (deed.Purge top) (purges rest) tt (inl (All-head (IsItem t) top rest goes.items)))))
+        (taken_at t (top ∷ rest) now sound goes)
 
 -- each item of a user's is among them all
 pub node_among : (user : ℕ) (items : List ItemRow) (item : ItemRow) → Contains items item → item.owner ≡ user
@@ -172,7 +172,8 @@ restored_rows call item gone sound there known own theirs others once = record {
   emptied = record { items = theirs; gone = beside.gone; none = purge.none };
   others = beside.others;
   items = λ other differs off. purge.items other off ∙ item_other item.node other t.items differs;
-  versions = deeds_fewer t (deed.Restore item.node (home_of t item) (name_back t item) ∷ purges gone);
+  versions = deeds_fewer t (deed.Restore item.node (home_of t item) (name_back t item) ∷ purges gone)
+      (All-cons NoStore (deed.Restore item.node (home_of t item) (name_back t item)) (purges gone) tt (purges_none gone));
   rest = ap (λ (made : Tables). stamp made call.now) (purged_rest u gone)
       ∙ (λ i. record t {
         meta = record t.meta { last = call.now };

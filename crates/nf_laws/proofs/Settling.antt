@@ -1,13 +1,16 @@
 -- What goes for good in a step is of trashes that are settled: what is asked about the trash, and a sweep.
-use Rattle.std.proofs.Common.{ℕ, ◌==◌, ◌≡◌, ◌⊎◌, Bool, true, false, not, List, [], ◌∷◌, ◌++◌, Option, None, Some, map, if◌then◌else◌, refl, sym, ap, subst, ◌∙◌, inl, inr}
+use Rattle.std.proofs.Common.{ℕ, ◌==◌, ◌≡◌, ◌⊎◌, Bool, true, false, not, filter, List, [], ◌∷◌, ◌++◌, Option, None, Some, map, if◌then◌else◌, refl, sym, ap, subst, ◌∙◌, inl, inr}
 use Rattle.std.specs.List.{All, flat_map}
 use Rattle.std.specs.Option.{option_and_then, option_map_or}
 use Rattle.std.proofs.lemmas.Bool.{eqb-true, false≢true}
 use Rattle.std.proofs.lemmas.List.{map-id, append-nil}
-use Rattle.std.proofs.lemmas.List.Elements.{All-cons, All-filter, All-map, All-nil}
+use Rattle.std.proofs.lemmas.List.Elements.{All-cons, All-filter, All-map, All-nil, filter_passes}
 use Rattle.std.proofs.lemmas.Option.{none-some}
 use Rattle.nf_base.specs.declared.rows.ItemRow.{ItemRow}
+use Rattle.nf_base.specs.declared.rows.MetaRow.{MetaRow}
+use Rattle.nf_base.specs.declared.rows.UploadRow.{UploadRow}
 use Rattle.nf_defs.specs.Prelude.{item_row, Tables}
+use Rattle.nf_laws.proofs.Chunking.{abandons_leave, among_has, is_among, LeavesOthers, only_these}
 use Rattle.nf_laws.proofs.Climbs.{some_there}
 use Rattle.nf_laws.proofs.Going.{item_is}
 use Rattle.nf_laws.proofs.Leaving.{IsBesideOne, same_items}
@@ -15,11 +18,11 @@ use Rattle.nf_laws.proofs.Parts.{deeds_stamped}
 use Rattle.nf_laws.proofs.Remaining.{shares_present}
 use Rattle.nf_laws.proofs.Rows.{stamp, stamped_has}
 use Rattle.nf_laws.proofs.Trashed.{home_fits}
-use Rattle.nf_laws.specs.Access.{by_asking, by_delete, by_sweep, ChangesAllowed, IsItemSettled, IsProviding, IsRestoring, IsSettled, needs_of, NodesAllowed, Settles, shares_without}
+use Rattle.nf_laws.specs.Access.{by_asking, by_delete, by_sweep, ChangesAllowed, IsItemSettled, IsProviding, IsRestoring, IsSettled, is_same, is_swept, IsIdleUpload, needs_of, NodesAllowed, Settles, shares_without, UploadsFollow}
 use Rattle.nf_laws.specs.Acts.{IsItemOf}
-use Rattle.nf_words.proofs.Sweeping.{owned, swept_goes}
+use Rattle.nf_words.proofs.Sweeping.{owned, swept_goes, swept_idle}
 use Rattle.nf_words.proofs.Trashing.{gone_has, own_there}
-use Rattle.nf_words.specs.Prelude.{AreSound, asker_of, Call, call_of, changed, deed_done, deeds_done, gone_beside, gone_from, gone_of, home_of, IsSound, item_dropped, item_if_of, item_restored, items_but, items_of, name_back, Need, nothing_done, own_item, owners_of, purges, quota_of, restored, State, swept, told, trash_done, forgets, unsettled, charged, item_size, purged_by, restoring}
+use Rattle.nf_words.specs.Prelude.{abandons, AreSound, asker_of, Call, call_of, changed, deed_done, deeds_done, gone_beside, gone_from, gone_of, home_of, is_idle, IsSound, item_dropped, item_if_of, item_restored, items_but, items_of, name_back, Need, nothing_done, own_item, owners_of, purges, quota_of, restored, State, swept, told, trash_done, upload_row, forgets, unsettled, charged, item_size, purged_by, restoring}
 use Rattle.nf_words.specs.declared.answer.Allowed.TheVariants as allowed
 use Rattle.nf_words.specs.declared.answer.Deed.{Deed}
 use Rattle.nf_words.specs.declared.answer.Deed.TheVariants as deed
@@ -65,6 +68,15 @@ module _ (t : Tables) (sound : AreSound t) where
 done_append : (t : Tables) (xs ys : List Deed) → deeds_done t (xs ++ ys) ≡ deeds_done (deeds_done t xs) ys
 done_append t [] ys = refl
 done_append t (x ∷ xs) ys = done_append (deed_done t x) xs ys
+
+-- the moment is no row of an upload
+pub dated_leaves : (before : Tables) (now : ℕ) (after : Tables) (is_one : ℕ → List ℕ → Bool) → LeavesOthers before after is_one
+    → LeavesOthers (stamp before now) (stamp after now) is_one
+dated_leaves before now after is_one leaves = record {
+  uploads = leaves.uploads;
+  chunks = leaves.chunks;
+  rest = ap (λ (u : Tables). stamp u now) leaves.rest;
+}
 
 -- nothing goes
 pub none_settled : (s : State) (e : Entry) (made : Tables) → IsSettled s e made made
@@ -125,16 +137,23 @@ module _ (s : State) (e : Entry) (sound : IsSound s) where
     rest = refl;
   }
 
-  stamped_nodes : NodesAllowed s e (stamp t now)
-  stamped_nodes = record {
+  -- whatever the meta row is
+  pub meta_nodes : (meta : MetaRow) → NodesAllowed s e (record t { meta = meta })
+  meta_nodes meta = record {
     nodes = λ node differs. absurd (differs refl);
     others = inl (record { shares = same_shares t sound.rows; mounts = refl });
     items = same_items needs now t.items;
     rest = refl;
   }
 
+  -- then just uploads and chunks are others
+  pub uploads_allowed : (meta : MetaRow) (made : Tables) → UploadsFollow s e (record t { meta = meta }) made → IsAllowed made
+  uploads_allowed meta made uploads =
+      let dated = record t { meta = meta } in
+      record { between = dated; allowed = inl (meta_nodes meta); behind = dated; settled = none_settled s e dated; uploads = uploads }
+
   pub same_allowed : IsAllowed t
-  same_allowed = record { between = t; allowed = inl same_nodes; settled = none_settled s e t }
+  same_allowed = uploads_allowed t.meta t (is_same refl)
 
   -- ---- deeds that act, and then items that go
 
@@ -150,6 +169,8 @@ module _ (s : State) (e : Entry) (sound : IsSound s) where
       (record {
         between = stamp made now;
         allowed = acts;
+        behind = stamp (deeds_done t deeds) now;
+        uploads = is_same refl;
         settled = subst (λ (u : Tables). IsSettled s e (stamp made now) (stamp u now)) (sym (done_append t first more))
             (items_settled s e made gone versions items);
       })
@@ -158,15 +179,36 @@ module _ (s : State) (e : Entry) (sound : IsSound s) where
   purges_allowed : (gone : List ℕ) (report : Report) → All (IsItemSettled s e) gone → IsAllowed (changed t now (allowed.Deeds (purges gone) report))
   purges_allowed gone report items =
       subst (λ (deeds : List Deed). IsAllowed (changed t now (allowed.Deeds deeds report))) (append-nil (purges gone))
-      (deeds_allowed [] gone [] report (inl stamped_nodes) items)
+      (deeds_allowed [] gone [] report (inl (meta_nodes (stamp t now).meta)) items)
 
   -- ---- a sweep
 
   pub sweep_allowed : e.event ≡ Sweep → IsAllowed (changed t now (swept t now))
   sweep_allowed sweeps =
-      purges_allowed (flat_map (gone_from t now) (owners_of t.items)) report.Plain (λ k d within.
-      let item = some_there (item_row t.items _) ((swept_goes t sound.rows now).items k d within) in
-      (item.0, item.1, by_sweep item.0.owner sweeps))
+      let gone = flat_map (gone_from t now) (owners_of t.items) in
+      let idle = filter (is_idle now) t.uploads in
+      let made = deeds_done t (purges gone) in
+      let items : All (IsItemSettled s e) gone = λ k d within.
+      let item = some_there (item_row t.items _) ((swept_goes t sound.rows now).items k d within) in (item.0, item.1, by_sweep item.0.owner sweeps) in
+      stamped_has IsAllowed t (deeds_done t (purges gone ++ abandons idle)) now (told t (swept t now)) same_allowed
+      (record {
+        between = stamp t now;
+        allowed = inl (meta_nodes (stamp t now).meta);
+        behind = stamp made now;
+        settled = subst (λ (deeds : List Deed). IsSettled s e (stamp t now) (stamp (deeds_done t deeds) now)) (append-nil (purges gone))
+            (items_settled s e t gone [] items);
+        uploads = subst (λ (u : Tables). UploadsFollow s e (stamp made now) (stamp u now)) (sym (done_append t (purges gone) (abandons idle)))
+            (is_swept sweeps (only_these (stamp made now) (stamp (deeds_done made (abandons idle)) now) (is_among idle) (IsIdleUpload s now)
+            (dated_leaves made now (deeds_done made (abandons idle)) (is_among idle) (abandons_leave made idle)) (λ user dir is.
+            let one = among_has IsIdle idle user dir all_idle is in
+            (one.0, (λ i. upload_row t.uploads (one.2.0 i) (one.2.1 i)) ∙ one.1.0, one.1.1))));
+      })
+    where
+      IsIdle : UploadRow → Type 0
+      IsIdle row = (upload_row t.uploads row.user row.dir ≡ Some row) × (is_idle now row ≡ true)
+
+      all_idle : All IsIdle (filter (is_idle now) t.uploads)
+      all_idle k d within = ((swept_idle t sound.rows now).there k d within, filter_passes (is_idle now) t.uploads k d within)
 
   -- ---- what is asked about the trash
 

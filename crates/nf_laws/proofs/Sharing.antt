@@ -20,6 +20,7 @@ use Rattle.nf_laws.proofs.Others.{kind_still, others_from}
 use Rattle.nf_laws.proofs.Puts.{other_number}
 use Rattle.nf_words.proofs.Found.{put_length_over}
 use Rattle.nf_laws.proofs.Rows.{found_is, row_is}
+use Rattle.nf_laws.proofs.Uploads.{uploads_kept}
 use Rattle.nf_laws.proofs.Upwards.{owners_there}
 use Rattle.nf_words.proofs.Asks.{share_found}
 use Rattle.nf_words.specs.Others.{IsMountSound, IsOfNode, IsShareSound}
@@ -59,7 +60,7 @@ module _ (t : Tables) (row : ShareRow) where
   with_sound : AreSound t → AreLinked t.shares others → IsShareSound made row → length others ≤ MAX_SHARES → AreSound made
   with_sound sound linked fine few =
       beside_sound t others t.mounts sound
-      (others_from made sound.later
+      (others_from made (uploads_kept t made refl refl refl refl sound)
       (all_put share_key (IsShareSound made) row t.shares fine
       (All-weaker (IsShareSound t) (IsShareSound made)
       (λ share is. share_beside t others t.mounts share (still_chained MAX_CHAIN t.shares others share.id linked is.chained) is) t.shares

@@ -22,7 +22,7 @@ use Rattle.nf_words.specs.Sound.{MayStoreBy}
 use Rattle.nf_words.specs.declared.answer.Allowed.{Allowed}
 use Rattle.nf_words.specs.declared.answer.Allowed.TheVariants as allowed
 use Rattle.nf_words.specs.declared.answer.Goal.{Goal}
-use Rattle.nf_words.specs.declared.answer.Goal.TheVariants.{Serve, Store}
+use Rattle.nf_words.specs.declared.answer.Goal.TheVariants.{Chunk, Serve, Store}
 use Rattle.nf_words.specs.declared.answer.Hold.{Hold}
 use Rattle.nf_words.specs.declared.history.Entry.{Entry}
 use Rattle.nf_words.specs.declared.history.Event.{Event}
@@ -51,6 +51,7 @@ altered_sound t now act sound before known = stamp_sound t now sound before
 goal_stays : (t made : Tables) (goal : Goal) → t.meta.next_node ≤ made.meta.next_node → t.meta.next_blob ≤ made.meta.next_blob
     → KeepsOwners t made → KeepsShares t made → IsGoalSound t goal → IsGoalSound made goal
 goal_stays t made (Serve content) nodes blobs owners shares h = pieces_kept t made content blobs h
+goal_stays t made (Chunk user dir number length) nodes blobs owners shares h = h
 goal_stays t made (Store by key length) nodes blobs owners shares h = (h.0, may_store by.seeker by.mount h.1)
   where
     may_store : (who : Seeker) (mount : Option ℕ) → MayStoreBy t who mount (node_of_key key) → MayStoreBy made who mount (node_of_key key)
@@ -73,12 +74,14 @@ granted_sound t now (allowed.Get node content) sound known =
           (found_is (IsVersionSound t) (λ (row : VersionRow). row.node == node && row.at == at) t.versions version sound.others.versions found).1.pieces
     ]
 granted_sound t now (allowed.Put by key length) sound known = (known.short, known.storer)
+granted_sound t now (allowed.Chunk user dir number length) sound known = (known.short, (known.some, known.few))
 granted_sound t now act sound known = tt
 
 -- what it holds is what its goal needs
 granted_holds : (act : Allowed) → IfSome (goal_of act) (λ (goal : Goal). HoldsFor goal (hold_of act))
 granted_holds (allowed.Get node content) = (node, refl)
 granted_holds (allowed.Put by key length) = refl
+granted_holds (allowed.Chunk user dir number length) = refl
 granted_holds act = tt
 
 -- what is there and no folder is a file

@@ -25,12 +25,12 @@ use Rattle.nf_words.proofs.Bodies.{content_decides}
 use Rattle.nf_words.proofs.Ends.{goal_held}
 use Rattle.nf_words.proofs.Fits.{newest}
 use Rattle.nf_words.proofs.Passing.{not_refused}
-use Rattle.nf_words.specs.Prelude.{access_of, after, after_mark, altered, answer_at, answered_by, AreSound, blob_for, changed, content_in, decision_of, end_refusal, ends_at, ends_goal, goal_at, IsHeld, IsStorable, new_node, node_of_key, refilled, stored_at, stores, charged, content_size, drop_version, is_same, unsettled}
+use Rattle.nf_words.specs.Prelude.{access_of, after, after_mark, altered, answer_at, answered_by, AreSound, blob_for, changed, chunk_refusal, chunk_stored, content_in, decision_of, end_refusal, ends_at, ends_goal, goal_at, IsHeld, IsStorable, new_node, node_of_key, refilled, stored_at, stores, charged, content_size, drop_version, is_same, unsettled}
 use Rattle.nf_words.specs.declared.answer.Allowed.{Allowed}
 use Rattle.nf_words.specs.declared.answer.Allowed.TheVariants as allowed
 use Rattle.nf_words.specs.declared.answer.Denial.{Denial}
 use Rattle.nf_words.specs.declared.answer.Goal.{Goal}
-use Rattle.nf_words.specs.declared.answer.Goal.TheVariants.{Serve, Store}
+use Rattle.nf_words.specs.declared.answer.Goal.TheVariants.{Chunk, Serve, Store}
 use Rattle.nf_words.specs.declared.answer.LockKey.{LockKey}
 use Rattle.nf_words.specs.declared.answer.LockKey.TheVariants.{Node, Slot}
 use Rattle.nf_words.specs.declared.answer.Report.{Report}
@@ -88,7 +88,7 @@ filled_comes t now node size content blob row sound there weighs =
     (ap (λ (u : Tables). u.nodes) (refilled_made t now content row))
 
 -- and a new file is that of its folder's
-born_comes : (t : Tables) (now folder size : ℕ) (name : List ℕ) (content : List Piece) (blob : Option ℕ) (gone : List Version) → AreSound t
+pub born_comes : (t : Tables) (now folder size : ℕ) (name : List ℕ) (content : List Piece) (blob : Option ℕ) (gone : List Version) → AreSound t
     → sum_by (λ piece. piece.size) content ≡ size
     → Comes t (owner_of t.nodes folder) 0 size
     (altered t now (allowed.Change (Put (rows.Node (new_node t now folder name File content)) ∷ map drop_version gone) blob Made))
@@ -132,6 +132,8 @@ goal_other : (access : Access) (t : Tables) (now : ℕ) (outcome : Outcome) (goa
 goal_other access t now (Body digest size) (Serve content) act is = closed_other act is
 goal_other access t now (Body digest size) (Store by key wanted) act is =
     subst IsOther (not_refused (end_refusal access t now by key size) (stored_at t now key digest size) act is).1 (stores_other t now key digest size)
+goal_other access t now (Body digest size) (Chunk user dir number wanted) act is =
+    subst IsOther (not_refused (chunk_refusal t user dir number size) (chunk_stored t now user dir number digest size) act is).1 tt
 goal_other access t now outcome goal act is = closed_other act is
 
 pub end_other : (access : Access) (t : Tables) (now : ℕ) (outcome : Outcome) (goal : Option Goal) (act : Allowed) → ends_at access t now outcome goal ≡ Ok act
@@ -155,7 +157,7 @@ stored_nodes t now (Node node) digest size =
 stored_nodes t now (Slot folder name) digest size = refl
 
 -- what comes is charged, where the trash stays as it is
-comes_charged : (t made : Tables) (owner old new : ℕ) → ((user : ℕ) → bytes_trashed made user ≡ bytes_trashed t user) → Comes t owner old new made
+pub comes_charged : (t made : Tables) (owner old new : ℕ) → ((user : ℕ) → bytes_trashed made user ≡ bytes_trashed t user) → Comes t owner old new made
     → IsCharged t made owner old new
 comes_charged t made owner old new trash comes = record {
   owned = omega (

@@ -1,16 +1,19 @@
 -- What a step changes, told as a list, and the tables that it makes.
-use Rattle.std.proofs.Common.{inl, inr, ◌⊎◌, ℕ, zero, suc, ◌+◌, ◌==◌, ◌≡◌, ◌≢◌, ◌<◌, true, false, List, [], ◌∷◌, ◌++◌, Option, None, Some, length, get_or, refl, sym, ap, subst, ◌∙◌, arith, length-append, Result, Ok, Err, map}
+use Rattle.std.proofs.Common.{inl, inr, ◌⊎◌, ℕ, zero, suc, ◌+◌, ◌==◌, ◌≡◌, ◌≢◌, ◌<◌, Bool, true, false, List, [], ◌∷◌, ◌++◌, Option, None, Some, length, get_or, refl, sym, ap, subst, ◌∙◌, arith, length-append, Result, Ok, Err, map, append_assoc, if◌then◌else◌}
 use Rattle.std.specs.List.{All}
 use Rattle.std.specs.Option.{option_and_then, option_map_or, option_or}
 use Rattle.std.specs.Prelude.{is_some}
 use Rattle.std.proofs.lemmas.Bool.{and_parts, both_ways, cond_both, eq-eqb, eqb-true, ne_eqb}
 use Rattle.std.proofs.lemmas.List.{get_or-append-add, map-append}
-use Rattle.std.proofs.lemmas.List.Elements.{All-append, All-cons, All-head, All-nil, All-weaker}
+use Rattle.std.proofs.lemmas.List.Elements.{All-append, All-cons, All-head, All-nil, All-tail, All-weaker}
 use Rattle.std.proofs.lemmas.List.Folds.{find-append}
 use Rattle.std.proofs.lemmas.Option.{none-some, option_and_then_some, same_Some}
 use Rattle.nf_base.specs.declared.changes.Change.{Change}
 use Rattle.nf_base.specs.declared.changes.Change.TheVariants.{Put}
+use Rattle.nf_base.specs.Content.{content_eq}
+use Rattle.nf_base.specs.declared.rows.ChunkRow.{ChunkRow}
 use Rattle.nf_base.specs.declared.rows.ItemRow.{ItemRow}
+use Rattle.nf_base.specs.declared.rows.UploadRow.{UploadRow}
 use Rattle.nf_base.specs.declared.rows.MetaRow.{MetaRow}
 use Rattle.nf_base.specs.declared.rows.NodeRow.{NodeRow}
 use Rattle.nf_base.specs.declared.rows.Place.TheVariants.{Inside}
@@ -19,6 +22,7 @@ use Rattle.nf_base.specs.declared.rows.UserRow.{UserRow}
 use Rattle.nf_defs.proofs.Climbs.{climb_under}
 use Rattle.nf_defs.specs.Prelude.{Access, child_of, climb, content_of, dropped, folder_of, is_folder, is_root, is_under, IsDroppable, item_key, node_row, parent_of, put_all, relinked, Tables}
 use Rattle.nf_defs.specs.Tree.{trashed}
+use Rattle.nf_laws.proofs.Abandoning.{abandoned_differs, abandoned_put, chunks_there, Differs, WereChunks}
 use Rattle.nf_laws.proofs.Blobs.{Alters, given_alters, of_nodes, refilled_of, StoresBody, version_stores}
 use Rattle.nf_laws.proofs.Climbs.{node_row_each, parent_at, row_there, some_there}
 use Rattle.nf_laws.proofs.Copied.{copy_at, walk_first}
@@ -37,7 +41,8 @@ use Rattle.nf_laws.proofs.Present.{never_trash, root_ends, root_so}
 use Rattle.nf_laws.proofs.Puts.{other_number}
 use Rattle.nf_laws.proofs.Rows.{found_is, kept_joined, row_id, stamp}
 use Rattle.nf_laws.proofs.Sources.{was_given}
-use Rattle.nf_laws.proofs.Told.{apart_fewer, apart_old, back_other, deeds_differ, deeds_droppable, deeds_put, Differs, discard_fewer, discard_next, discarded_fewer, done_rise, IsTold, items_tell, items_told, leaving_here, leaving_tells, leaving_told, never_same, NewApart, purged_fewer, purged_lost, purges_other, Rise, sound_rise, Tells, turned_lost, turned_there, Turns, user_differs, AreOther, forgets_other, forgets_told, forgotten_lost, told_append}
+use Rattle.nf_laws.proofs.Plain.{decided_plain, filing_chunks, IsFiling, IsPlain, IsPlainAct}
+use Rattle.nf_laws.proofs.Told.{abandoned_lost, abandons_other, abandons_told, apart_fewer, apart_old, back_other, deeds_differ, deeds_droppable, deeds_put, discard_fewer, discard_next, discarded_fewer, done_rise, IsTold, items_tell, items_told, leaving_here, leaving_tells, leaving_told, never_same, NewApart, purged_fewer, purged_lost, purges_other, Rise, sound_rise, Tells, turned_lost, turned_there, Turns, user_differs, AreOther, forgets_other, forgets_told, forgotten_lost, told_append}
 use Rattle.nf_laws.proofs.Trashed.{discarded_leads, item_top}
 use Rattle.nf_laws.proofs.Upwards.{never_climbs, no_rings}
 use Rattle.nf_laws.specs.Tells.{ChangesTell}
@@ -45,8 +50,8 @@ use Rattle.nf_laws.specs.Transfers.{IsCopyOf, Mirrors}
 use Rattle.nf_words.proofs.Ends.{known_change}
 use Rattle.nf_words.proofs.Fits.{KnownChange}
 use Rattle.nf_words.proofs.Found.{child_parent}
-use Rattle.nf_words.proofs.Known.{IsItem, Known, KnownDeeds, KnownGoes, KnownLeaving, KnownRestore, KnownTransfer, KnownSettled}
-use Rattle.nf_words.proofs.Known.KnownDeeds.{by_copying, by_crossing, by_going, by_leaving, by_moving, by_requoting, by_restoring}
+use Rattle.nf_words.proofs.Known.{IsItem, Known, KnownDeeds, KnownGoes, KnownIdle, KnownLeaving, KnownRestore, KnownTransfer, KnownSettled}
+use Rattle.nf_words.proofs.Known.KnownDeeds.{by_abandoning, by_copying, by_crossing, by_going, by_joining, by_leaving, by_moving, by_requoting, by_restoring, by_sweeping}
 use Rattle.nf_words.proofs.Transfers.{replaced_leaves, row_leaves}
 use Rattle.nf_words.proofs.Trashing.{rest_goes}
 use Rattle.nf_words.proofs.Ways.{HasRow}
@@ -57,18 +62,18 @@ use Rattle.nf_words.specs.declared.answer.Deed.{Deed}
 use Rattle.nf_words.specs.declared.answer.Deed.TheVariants as deed
 use Rattle.nf_words.specs.declared.answer.Denial.{Denial}
 use Rattle.nf_words.specs.declared.answer.Goal.{Goal}
-use Rattle.nf_words.specs.declared.answer.Goal.TheVariants.{Store}
+use Rattle.nf_words.specs.declared.answer.Goal.TheVariants.{Chunk, Serve, Store}
 use Rattle.nf_words.specs.declared.answer.LockKey.{LockKey}
 use Rattle.nf_words.specs.declared.answer.LockKey.TheVariants.{Node, Slot}
 use Rattle.nf_words.specs.declared.answer.Report.{Report}
 use Rattle.nf_words.specs.declared.history.Event.{Event}
 use Rattle.nf_words.specs.declared.history.Event.TheVariants.{Begin, End, Sweep}
 use Rattle.nf_words.specs.declared.history.Outcome.{Outcome}
-use Rattle.nf_words.specs.declared.history.Outcome.TheVariants.{Body}
+use Rattle.nf_words.specs.declared.history.Outcome.TheVariants.{Body, Gone, Sent}
 use Rattle.nf_words.specs.declared.request.Transfer.{Transfer}
 use Rattle.nf_words.specs.declared.request.Wanted.{Wanted}
-use Rattle.nf_words.specs.Prelude.{access_of, allowed_of, AreSound, beside, besides, Call, call_of, changed, changes_by, changes_of, changes_to, copies, copies_to, crossing, decision_of, deed_done, deeds_done, discard, discards, end_refusal, ends_at, ends_goal, given, goal_at, goes_itself, IsRequoted, IsSound, item_for, joined, LeadsToRoot, listing_of, MayAsk, meta_after, moves, node_at, places_of, purged, purges, raised, refilled, refusal_of, row_at, served, stamped, State, step, stored_at, told, told_deeds, unless_refused, way_of, with_meta, forgets, drop_version, version_done}
-use Rattle.nf_words.proofs.Forgetting.{IsVersion, rows_there}
+use Rattle.nf_words.specs.Prelude.{abandoned, abandons, access_of, allowed_of, AreSound, beside, besides, Call, call_of, changed, changes_by, changes_of, changes_to, chunk_refusal, chunk_row, chunk_stored, content_in, blob_for, copies, copies_to, crossing, decision_of, deed_done, deeds_done, discard, discards, end_refusal, ends_at, ends_goal, forgotten, given, goal_at, goes_itself, IsRequoted, IsSound, item_for, joined, LeadsToRoot, listing_of, MayAsk, meta_after, moves, node_at, places_of, purged, purges, raised, refilled, refusal_of, replaced, row_at, served, stamped, State, step, stored_at, told, told_deed, told_deeds, touched_row, upload_row, upload_touched, unless_refused, way_of, with_meta, forgets, drop_version, version_done}
+use Rattle.nf_words.proofs.Forgetting.{drop_differs, IsVersion, rows_there}
 use Rattle.nf_retention.specs.declared.versions.Version.{Version}
 
 -- ---- what comes back, and another quota
@@ -374,37 +379,105 @@ going_tells t node gone sound items =
       purges_other t (purged t node) gone (inl (purged_lost t node top.0 top.1)),
     )
 
--- none, or some that make other tables
-known_tells : (t : Tables) (now : ℕ) (deeds : List Deed) → AreSound t → KnownDeeds t now deeds → (deeds ≡ []) ⊎ Tells t t deeds
+-- a sweep
+sweeping_tells : (t : Tables) (nodes : List ℕ) (rows : List UploadRow) → AreSound t → KnownGoes t nodes → KnownIdle t rows
+    → (purges nodes ++ abandons rows ≡ []) ⊎ Tells t t (purges nodes ++ abandons rows)
+sweeping_tells t nodes rows sound goes idle = here nodes rows goes.items there
+  where
+    There : UploadRow → Type 0
+    There row = is_some (upload_row t.uploads row.user row.dir) ≡ true
+
+    there : All There rows
+    there k d within = ap is_some (idle.there k d within)
+
+    here : (nodes : List ℕ) (rows : List UploadRow) → All (IsItem t) nodes → All There rows
+        → (purges nodes ++ abandons rows ≡ []) ⊎ Tells t t (purges nodes ++ abandons rows)
+    here [] [] items there = inl refl
+    here [] (row ∷ rows) items there = inr (
+      abandons_told t t (row ∷ rows) there,
+      abandons_other t (abandoned t row.user row.dir) rows (abandoned_lost t t row.user row.dir (All-head There row rows there)),
+    )
+    here (node ∷ nodes) rows items there =
+        let gone = purges (node ∷ nodes) in
+        let tells = going_tells t node nodes sound items in
+        inr (
+          told_append t t gone (abandons rows) tells.0 (abandons_told t (deeds_done t gone) rows there),
+          subst (AreOther t) (sym (deeds_append t gone (abandons rows))) (abandons_other t (deeds_done t gone) rows tells.1),
+        )
+
+-- changes are stored, and then an upload and versions go
+record IsJoin (t : Tables) (now : ℕ) (deeds : List Deed) : Type 0 where
+  changes : List Change
+  user : ℕ
+  dir : List ℕ
+  gone : List Version
+  are : deeds ≡ deed.Store changes ∷ deed.Abandon user dir ∷ forgets gone
+  known : KnownChange t now changes None
+  opened : is_some (upload_row t.uploads user dir) ≡ true
+  there : All (IsVersion t) gone
+
+-- none, or some that make other tables, unless they store changes
+abbrev TellsSo : Tables → ℕ → List Deed → Type 0
+TellsSo t now deeds = (deeds ≡ []) ⊎ (Tells t t deeds ⊎ IsJoin t now deeds)
+
+known_tells : (t : Tables) (now : ℕ) (deeds : List Deed) → AreSound t → KnownDeeds t now deeds → TellsSo t now deeds
 known_tells t now deeds sound (by_going [] goes) = inl refl
-known_tells t now deeds sound (by_going (node ∷ gone) goes) = inr (going_tells t node gone sound goes.items)
-known_tells t now deeds sound (by_leaving row known) = inr (leaving_tells t now row sound known)
-known_tells t now deeds sound (by_restoring node folder name gone known goes others) = inr (restoring_tells t node folder name gone sound known goes)
-known_tells t now deeds sound (by_requoting row gone known goes) = inr (requoting_tells t row gone sound known goes)
-known_tells t now deeds sound (by_moving transfer name known) = inr (moving_tells t now transfer name sound known.known)
-known_tells t now deeds sound (by_copying transfer name known) = inr (copying_tells t now transfer name sound known.known)
-known_tells t now deeds sound (by_crossing transfer name known) = inr (crossing_tells t now transfer name sound known.copies.known)
+known_tells t now deeds sound (by_going (node ∷ gone) goes) = inr (inl (going_tells t node gone sound goes.items))
+known_tells t now deeds sound (by_leaving row known) = inr (inl (leaving_tells t now row sound known))
+known_tells t now deeds sound (by_restoring node folder name gone known goes others) =
+    inr (inl (restoring_tells t node folder name gone sound known goes))
+known_tells t now deeds sound (by_requoting row gone known goes) = inr (inl (requoting_tells t row gone sound known goes))
+known_tells t now deeds sound (by_moving transfer name known) = inr (inl (moving_tells t now transfer name sound known.known))
+known_tells t now deeds sound (by_copying transfer name known) = inr (inl (copying_tells t now transfer name sound known.known))
+known_tells t now deeds sound (by_crossing transfer name known) = inr (inl (crossing_tells t now transfer name sound known.copies.known))
+known_tells t now deeds sound (by_joining changes user dir known opened) = inr (inr (record {
+  changes = changes;
+  user = user;
+  dir = dir;
+  gone = [];
+  are = refl;
+  known = known;
+  opened = opened;
+  there = All-nil (IsVersion t);
+}))
+known_tells t now deeds sound (by_abandoning user dir opened) = inr (inl ((opened, tt), abandoned_lost t t user dir opened))
+known_tells t now deeds sound (by_sweeping nodes rows goes idle) =
+    elim (sweeping_tells t nodes rows sound goes idle) [ inl none ↦ inl none | inr tells ↦ inr (inl tells) ]
 
 -- so with versions that go behind them
-settled_tells : (t : Tables) (now : ℕ) (deeds : List Deed) → AreSound t → KnownSettled t now deeds → (deeds ≡ []) ⊎ Tells t t deeds
+settled_tells : (t : Tables) (now : ℕ) (deeds : List Deed) → AreSound t → KnownSettled t now deeds → TellsSo t now deeds
 settled_tells t now deeds sound k =
     elim (known_tells t now k.first sound k.known) [
       | inl none ↦ alone k.gone k.there (k.are ∙ ap (λ (first : List Deed). first ++ forgets k.gone) none)
-      | inr tells ↦
-          inr (subst (Tells t t) (sym k.are) (
-            told_append t t k.first (forgets k.gone) tells.0 (forgets_told t (deeds_done t k.first) k.gone k.there),
-            subst (AreOther t) (sym (deeds_append t k.first (forgets k.gone))) (forgets_other t (deeds_done t k.first) k.gone tells.1),
-          ))
+      | inr more ↦ elim more [
+        | inl tells ↦
+            inr (inl (subst (Tells t t) (sym k.are) (
+              told_append t t k.first (forgets k.gone) tells.0 (forgets_told t (deeds_done t k.first) k.gone k.there),
+              subst (AreOther t) (sym (deeds_append t k.first (forgets k.gone))) (forgets_other t (deeds_done t k.first) k.gone tells.1),
+            )))
+        | inr join ↦ inr (inr (record {
+          changes = join.changes;
+          user = join.user;
+          dir = join.dir;
+          gone = join.gone ++ k.gone;
+          are = k.are ∙ ap (λ (first : List Deed). first ++ forgets k.gone) join.are
+              ∙ ap (λ (rest : List Deed). deed.Store join.changes ∷ deed.Abandon join.user join.dir ∷ rest)
+              (sym (map-append (λ (version : Version). deed.Forget version.node version.at) join.gone k.gone));
+          known = join.known;
+          opened = join.opened;
+          there = All-append (IsVersion t) join.gone k.gone join.there k.there;
+        }))
+      ]
     ]
   where
-    alone : (gone : List Version) → All (IsVersion t) gone → deeds ≡ forgets gone → (deeds ≡ []) ⊎ Tells t t deeds
+    alone : (gone : List Version) → All (IsVersion t) gone → deeds ≡ forgets gone → TellsSo t now deeds
     alone [] there are = inl are
     alone (version ∷ gone) there are =
-        inr (subst (Tells t t) (sym are) (
+        inr (inl (subst (Tells t t) (sym are) (
           forgets_told t t (version ∷ gone) there,
           forgets_other t (deed_done t (deed.Forget version.node version.at)) gone
               (forgotten_lost t t version (All-head (IsVersion t) version gone there)),
-        ))
+        )))
 
 -- what is told of them makes the tables after them, each change is one, and where there is one the tables are others
 record DeedsTell (t : Tables) (now : ℕ) (deeds : List Deed) : Type 0 where
@@ -412,18 +485,65 @@ record DeedsTell (t : Tables) (now : ℕ) (deeds : List Deed) : Type 0 where
   differ : All (Differs t) (told_deeds t deeds)
   moves : told_deeds t deeds ≢ [] → stamp (deeds_done t deeds) now ≢ t
 
-deeds_tell : (t : Tables) (now : ℕ) (deeds : List Deed) → AreSound t → KnownSettled t now deeds → DeedsTell t now deeds
-deeds_tell t now deeds sound known =
+forgets_put : (meta : MetaRow) (u : Tables) (gone : List Version) (rest : List Change)
+    → put_all (record u { meta = meta }) (told_deeds u (forgets gone) ++ rest) ≡ put_all (record (deeds_done u (forgets gone)) { meta = meta }) rest
+forgets_put meta u [] rest = refl
+forgets_put meta u (version ∷ gone) rest = forgets_put meta (forgotten u version.node version.at) gone rest
+
+forgets_differ : (t u : Tables) (gone : List Version) → All (IsVersion t) gone → All (Differs t) (told_deeds u (forgets gone))
+forgets_differ t u [] there = All-nil (Differs t)
+forgets_differ t u (version ∷ gone) there =
+    All-cons (Differs t) (drop_version version) (told_deeds (forgotten u version.node version.at) (forgets gone))
+    (drop_differs t version (All-head (IsVersion t) version gone there))
+    (forgets_differ t (forgotten u version.node version.at) gone (All-tail (IsVersion t) version gone there))
+
+-- where a file is stored, and then an upload and versions go
+join_tells : (t : Tables) (now : ℕ) (changes : List Change) (user : ℕ) (dir : List ℕ) (gone : List Version) → KnownChange t now changes None
+    → is_some (upload_row t.uploads user dir) ≡ true → All (IsVersion t) gone → All IsFiling changes
+    → DeedsTell t now (deed.Store changes ∷ deed.Abandon user dir ∷ forgets gone)
+join_tells t now changes user dir gone known opened there filing = record {
+  put = λ rest.
+      ap (put_all t) (append_assoc changes (told_deeds w more) rest)
+      ∙ put_more t changes (told_deeds w more ++ rest)
+      ∙ ap (λ (u : Tables). put_all u (told_deeds w more ++ rest))
+      (meta_first t t.meta changes (only_built t None (raised t now changes None) changes known.rows))
+      ∙ ap (put_all (record w { meta = t.meta })) (append_assoc (told_deed w (deed.Abandon user dir)) (told_deeds left (forgets gone)) rest)
+      ∙ abandoned_put (record w { meta = t.meta }) user dir (told_deeds left (forgets gone) ++ rest)
+      ∙ forgets_put t.meta left gone rest;
+  differ = All-append (Differs t) changes (told_deeds w more) known.lean.differ
+      (All-append (Differs t) (told_deed w (deed.Abandon user dir)) (told_deeds left (forgets gone))
+      (abandoned_differs t w user dir (subst (WereChunks t) (sym (filing_chunks t changes filing)) (chunks_there t.chunks)) opened)
+      (forgets_differ t left gone there));
+  moves = λ some. never_same t (deeds_done left (forgets gone)) now (forgets_other t left gone (abandoned_lost t w user dir opened));
+}
+  where
+    w : Tables
+    w = replaced t changes
+
+    more : List Deed
+    more = deed.Abandon user dir ∷ forgets gone
+
+    left : Tables
+    left = abandoned w user dir
+
+deeds_tell : (t : Tables) (now : ℕ) (deeds : List Deed) → AreSound t → KnownSettled t now deeds → All IsPlain deeds → DeedsTell t now deeds
+deeds_tell t now deeds sound known plain =
     elim (settled_tells t now deeds sound known) [
       | inl none ↦
           subst (DeedsTell t now) (sym none)
           (record { put = λ rest. refl; differ = All-nil (Differs t); moves = λ some. absurd (some refl) })
-      | inr tells ↦
-          record {
-            put = λ rest. deeds_put t t t.meta deeds rest tells.0 (sound_rise t sound);
-            differ = deeds_differ t t deeds sound tells.0 (sound_rise t sound) (λ id share is unended. is) (rows_there t.versions);
-            moves = λ some. never_same t (deeds_done t deeds) now tells.1;
-          }
+      | inr more ↦ elim more [
+        | inl tells ↦
+            record {
+              put = λ rest. deeds_put t t t.meta deeds rest tells.0 (sound_rise t sound);
+              differ = deeds_differ t t deeds sound tells.0 (sound_rise t sound) (λ id share is unended. is) (rows_there t.versions, chunks_there t.chunks);
+              moves = λ some. never_same t (deeds_done t deeds) now tells.1;
+            }
+        | inr join ↦
+            subst (DeedsTell t now) (sym join.are)
+            (join_tells t now join.changes join.user join.dir join.gone join.known join.opened join.there
+            (All-head IsPlain (deed.Store join.changes) (deed.Abandon join.user join.dir ∷ forgets join.gone) (subst (All IsPlain) join.are plain)))
+      ]
     ]
 
 -- ---- the meta row
@@ -499,13 +619,13 @@ changes_told t now changes blob report sound known =
     let alone : rows ≡ record rows { meta = t.meta } = meta_first t t.meta changes (only_built t blob up changes known.rows) in
     rows_told t now (record rows { meta = up.meta }) changes (λ rest. put_more t changes rest ∙ ap (λ (u : Tables). put_all u rest) alone) known.lean.differ
     (λ some same.
-    lean_moves t up blob changes sound.rising sound.others.versions_rise refl known.rows known.lean some (alone ∙ ap (λ (u : Tables). record u { meta = t.meta }) same))
+    lean_moves t up blob changes sound.rising sound.others.versions_rise sound.others.chunks_rise refl known.rows known.lean some (alone ∙ ap (λ (u : Tables). record u { meta = t.meta }) same))
 
-act_told : (t : Tables) (now : ℕ) (act : Allowed) → AreSound t → Known t now act → TellsAct t now act
-act_told t now (allowed.Change changes blob report) sound known = changes_told t now changes blob report sound known
-act_told t now (allowed.Deeds deeds report) sound known =
-    let tell = deeds_tell t now deeds sound known in rows_told t now (deeds_done t deeds) (told_deeds t deeds) tell.put tell.differ tell.moves
-act_told t now act sound known = nothing_told t
+act_told : (t : Tables) (now : ℕ) (act : Allowed) → AreSound t → Known t now act → IsPlainAct act → TellsAct t now act
+act_told t now (allowed.Change changes blob report) sound known plain = changes_told t now changes blob report sound known
+act_told t now (allowed.Deeds deeds report) sound known plain =
+    let tell = deeds_tell t now deeds sound known plain in rows_told t now (deeds_done t deeds) (told_deeds t deeds) tell.put tell.differ tell.moves
+act_told t now act sound known plain = nothing_told t
 
 -- ---- each step
 
@@ -513,7 +633,7 @@ step_told : (s : State) (seat now : ℕ) (event : Event) → IsSound s → MayAs
     → Tell s.tables (step s seat now event).tables (changes_to s seat now event)
 step_told s seat now event sound asked =
     step_has (λ t tickets decision. Tell s.tables t (changes_by s.tables now decision)) s seat now event (λ refusal. nothing_told s.tables)
-    (λ act is. act_told s.tables now act sound.rows (known_change s seat now event act sound asked is))
+    (λ act is. act_told s.tables now act sound.rows (known_change s seat now event act sound asked is) (decided_plain s seat now event act is))
 
 -- ---- the meta row is never dropped
 
@@ -522,10 +642,10 @@ abbrev IsBuilt : Allowed → Type 0
 IsBuilt (allowed.Change changes blob report) = AreBuilt changes
 IsBuilt act = Unit {0}
 
-told_droppable : (t : Tables) (act : Allowed) → IsBuilt act → All IsDroppable (told t act)
-told_droppable t (allowed.Change changes blob report) nodes = built_droppable changes nodes
-told_droppable t (allowed.Deeds deeds report) nodes = deeds_droppable t deeds
-told_droppable t act nodes = All-nil IsDroppable
+told_droppable : (t : Tables) (act : Allowed) → IsBuilt act → IsPlainAct act → All IsDroppable (told t act)
+told_droppable t (allowed.Change changes blob report) nodes plain = built_droppable changes nodes
+told_droppable t (allowed.Deeds deeds report) nodes plain = deeds_droppable t deeds plain
+told_droppable t act nodes plain = All-nil IsDroppable
 
 with_meta_droppable : (old meta : MetaRow) (changes : List Change) → All IsDroppable changes → All IsDroppable (with_meta old meta changes)
 with_meta_droppable old meta [] all = all
@@ -584,7 +704,23 @@ stored_nodes t now (Slot folder name) digest size = (tt, drops_built _)
 goal_nodes : (access : Access) (t : Tables) (now : ℕ) (outcome : Outcome) (goal : Goal) → DecidesBuilt (ends_goal access t now outcome goal)
 goal_nodes access t now (Body digest size) (Store by key wanted) =
     unless_nodes (end_refusal access t now by key size) (stored_at t now key digest size) (stored_nodes t now key digest size)
-goal_nodes access t now outcome goal = tt
+goal_nodes access t now (Body digest size) (Chunk user dir number wanted) =
+    let row : ChunkRow = record { user = user; dir = dir; number = number; content = content_in (blob_for t.meta.next_blob size) digest size } in
+    unless_nodes (chunk_refusal t user dir number size) (chunk_stored t now user dir number digest size)
+    (chunk_nodes (option_map_or (λ (old : ChunkRow). content_eq old.content row.content) (chunk_row t.chunks user dir number) false) row
+    (option_map_or (upload_touched now) (upload_row t.uploads user dir) []) (touched_nodes (upload_row t.uploads user dir)))
+  where
+    touched_nodes : (o : Option UploadRow) → AreBuilt (option_map_or (upload_touched now) o [])
+    touched_nodes None = tt
+    touched_nodes (Some row) =
+        cond_both (row.touched == now) [] (Put (rows.Upload (touched_row now row)) ∷ []) AreBuilt (λ e. tt) (λ e. (tt, tt))
+
+    chunk_nodes : (again : Bool) (row : ChunkRow) (more : List Change) → AreBuilt more → AreBuilt ((if again then [] else Put (rows.Chunk row) ∷ []) ++ more)
+    chunk_nodes true row more built = built
+    chunk_nodes false row more built = (tt, built)
+goal_nodes access t now (Body digest size) (Serve content) = tt
+goal_nodes access t now Sent goal = tt
+goal_nodes access t now Gone goal = tt
 
 at_nodes : (access : Access) (t : Tables) (now : ℕ) (outcome : Outcome) (goal : Option Goal) → DecidesBuilt (ends_at access t now outcome goal)
 at_nodes access t now outcome None = tt
@@ -597,9 +733,10 @@ decision_nodes s seat now (Begin words request) =
 decision_nodes s seat now (End outcome) = at_nodes (access_of s) s.tables now outcome (goal_at s seat)
 decision_nodes s seat now Sweep = tt
 
-decided_droppable : (t : Tables) (now : ℕ) (decision : Result Allowed Denial) → DecidesBuilt decision → All IsDroppable (changes_by t now decision)
-decided_droppable t now (Ok act) nodes = with_meta_droppable t.meta (meta_after t now act) (told t act) (told_droppable t act nodes)
-decided_droppable t now (Err refusal) nodes = All-nil IsDroppable
+decided_droppable : (t : Tables) (now : ℕ) (decision : Result Allowed Denial) → DecidesBuilt decision
+    → ((act : Allowed) → decision ≡ Ok act → IsPlainAct act) → All IsDroppable (changes_by t now decision)
+decided_droppable t now (Ok act) nodes plain = with_meta_droppable t.meta (meta_after t now act) (told t act) (told_droppable t act nodes (plain act refl))
+decided_droppable t now (Err refusal) nodes plain = All-nil IsDroppable
 
 pub changes_tell : ChangesTell
 changes_tell = record {
@@ -610,5 +747,5 @@ changes_tell = record {
         λ nothing. sym tell.put ∙ ap (put_all s.tables) nothing,
         tell.none,
       );
-  droppable = λ s seat now event. decided_droppable s.tables now (decision_of s seat now event) (decision_nodes s seat now event);
+  droppable = λ s seat now event. decided_droppable s.tables now (decision_of s seat now event) (decision_nodes s seat now event) (decided_plain s seat now event);
 }

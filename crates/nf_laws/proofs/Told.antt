@@ -17,16 +17,20 @@ use Rattle.nf_base.specs.declared.rows.MetaRow.{MetaRow}
 use Rattle.nf_base.specs.declared.rows.NodeRow.{NodeRow}
 use Rattle.nf_base.specs.declared.rows.Place.TheVariants.{Inside, Trash}
 use Rattle.nf_base.specs.declared.rows.Row.TheVariants as rows
+use Rattle.nf_base.specs.declared.rows.ChunkRow.{ChunkRow}
 use Rattle.nf_base.specs.declared.rows.ShareRow.{ShareRow}
+use Rattle.nf_base.specs.declared.rows.UploadRow.{UploadRow}
 use Rattle.nf_base.specs.declared.rows.UserRow.{UserRow}
 use Rattle.nf_defs.proofs.Climbs.{climb_under, under_climb}
-use Rattle.nf_defs.specs.Prelude.{climb, dropped, folder_of, is_under, IsDroppable, IsRising, item_key, item_row, made, node_row, parent_of, put, put_all, relinked, share_key, Tables, user_row, walk_of, with_node, version_key, without_under}
+use Rattle.nf_defs.specs.Prelude.{climb, dropped, folder_of, is_under, IsDroppable, IsRising, item_key, item_row, node_row, parent_of, put, put_all, relinked, share_key, Tables, user_row, walk_of, with_node, version_key, without_under}
 use Rattle.nf_defs.specs.Tree.{trashed}
+use Rattle.nf_laws.proofs.Abandoning.{abandoned_differs, abandoned_droppable, abandoned_put, Differs, upload_gone, upload_lost, WereChunks}
 use Rattle.nf_laws.proofs.Climbs.{map_some, some_there}
 use Rattle.nf_laws.proofs.Gone.{kept_left, row_gone}
 use Rattle.nf_laws.proofs.OneRow.{KeepsId, rising_with, row_itself, row_with}
 use Rattle.nf_laws.proofs.Others.{ended_rising, item_gone, row_ended, unless_gone}
 use Rattle.nf_laws.proofs.Parts.{rest_of}
+use Rattle.nf_laws.proofs.Plain.{filings_droppable, IsPlain}
 use Rattle.nf_laws.proofs.Present.{never_trash}
 use Rattle.nf_laws.proofs.Purged.{purged_keeps}
 use Rattle.nf_laws.proofs.Puts.{AreNumbered, another, closes, fewer, goes_put, number_found, put_changed, put_new, puts_new, under_there, walk_under}
@@ -36,7 +40,7 @@ use Rattle.nf_laws.proofs.Walked.{AllPairs-append}
 use Rattle.nf_words.proofs.Known.{IsItem, KnownLeaving}
 use Rattle.nf_words.proofs.Trashing.{rest_goes}
 use Rattle.nf_words.proofs.Ways.{HasRow, inside_there}
-use Rattle.nf_words.specs.Prelude.{AreSound, beside, closed_under, deed_done, deeds_done, discard, discarded, dropped_under, ended_row, goes_itself, gone_under, is_closing, IsRequoted, item_for, LeadsToRoot, purged, purges, told_deed, told_deeds, told_item, told_node, forgets, forgotten, forgotten_of, forgotten_under, held, version_row, versions_of}
+use Rattle.nf_words.specs.Prelude.{abandoned, abandons, AreSound, beside, chunk_row, closed_under, deed_done, deeds_done, discard, discarded, dropped_under, ended_row, goes_itself, gone_under, is_chunk_of, is_closing, IsRequoted, item_for, LeadsToRoot, purged, purges, told_deed, told_deeds, told_item, told_node, forgets, forgotten, forgotten_of, forgotten_under, held, upload_row, version_row, versions_of}
 use Rattle.nf_words.specs.declared.answer.Deed.{Deed}
 use Rattle.nf_words.specs.declared.answer.Deed.TheVariants as deed
 use Rattle.nf_base.specs.declared.rows.VersionRow.{VersionRow}
@@ -45,10 +49,6 @@ use Rattle.nf_laws.proofs.Files.{file_row}
 use Rattle.nf_words.proofs.Forgetting.{drop_differs, IsVersion, version_gone}
 use Rattle.std.proofs.lemmas.List.Folds.{find-append}
 use Rattle.std.proofs.lemmas.List.Concat.{flat_map-cons}
-
--- a change that makes other tables
-abbrev pub Differs : Tables → Change → Type 0
-Differs t change = made t change ≢ t
 
 -- ---- what is known of each deed of a step, for what it is told as
 
@@ -63,7 +63,7 @@ pub record Turns (t u : Tables) (node : ℕ) (change : NodeRow → NodeRow) : Ty
 abbrev pub IsOld : Tables → Tables → ℕ → Type 0
 IsOld t u top = (node : ℕ) → is_under u.nodes node top ≡ true → HasRow t.nodes node
 
--- a deed that is done in some tables of a step which began in others
+-- a deed that is done in some tables of a step which began in others, unless it stores changes
 abbrev pub IsTold : Tables → Tables → Deed → Type 0
 IsTold t u (deed.Discard item) = Turns t u item.node trashed × (IsItem t item.node → ⊥)
 IsTold t u (deed.Purge node) = IsOld t u node × (IsItem u node → IsItem t node)
@@ -72,6 +72,8 @@ IsTold t u (deed.Relink node folder name) = Turns t u node (relinked folder name
 IsTold t u (deed.Join rows) = All (λ (row : NodeRow). row.id < t.meta.next_node) u.nodes × AreNumbered t.meta.next_node rows
 IsTold t u (deed.Requote row) = IsRequoted t row
 IsTold t u (deed.Forget node at) = is_some (version_row t.versions node at) ≡ true
+IsTold t u (deed.Store changes) = ⊥
+IsTold t u (deed.Abandon user dir) = is_some (upload_row t.uploads user dir) ≡ true
 
 -- each in the tables after those before it
 abbrev pub AreTold : Tables → Tables → List Deed → Type 0
@@ -156,6 +158,8 @@ done_rise t u (deed.Forget node at) told rise = record {
   versions = All-filter (λ (version : VersionRow). not (bytes_eq (node ∷ at ∷ []) (version_key version)))
       (λ (version : VersionRow). is_some (node_row u.nodes version.node) ≡ true) u.versions rise.versions;
 }
+done_rise t u (deed.Store changes) told rise = absurd told
+done_rise t u (deed.Abandon user dir) told rise = record { nodes = rise.nodes; shares = rise.shares; versions = rise.versions }
 
 -- a share that isn't ended is as it was
 abbrev pub Unended : Tables → Tables → Type 0
@@ -173,34 +177,46 @@ unended_was gone shares id share is unended =
     here old false same = same
 
 -- no deed changes it but by ending it
-done_unended : (t u : Tables) (one : Deed) → Unended t u → Unended t (deed_done u one)
-done_unended t u (deed.Discard item) was = λ id share is unended.
+done_unended : (t u : Tables) (one : Deed) → IsTold t u one → Unended t u → Unended t (deed_done u one)
+done_unended t u (deed.Discard item) told was = λ id share is unended.
     was id share (unended_was (λ node. is_under u.nodes node item.node) u.shares id share is unended) unended
-done_unended t u (deed.Purge top) was = λ id share is unended.
+done_unended t u (deed.Purge top) told was = λ id share is unended.
     was id share (unended_was (λ node. is_under u.nodes node top) u.shares id share is unended) unended
-done_unended t u (deed.Restore node folder name) was = was
-done_unended t u (deed.Relink node folder name) was = was
-done_unended t u (deed.Join rows) was = was
-done_unended t u (deed.Requote row) was = was
-done_unended t u (deed.Forget node at) was = was
+done_unended t u (deed.Restore node folder name) told was = was
+done_unended t u (deed.Relink node folder name) told was = was
+done_unended t u (deed.Join rows) told was = was
+done_unended t u (deed.Requote row) told was = was
+done_unended t u (deed.Forget node at) told was = was
+done_unended t u (deed.Store changes) told was = absurd told
+done_unended t u (deed.Abandon user dir) told was = was
 
--- each version was one before the step
+-- each version and each chunk was one before the step
 abbrev pub Were : Tables → Tables → Type 0
-Were t u = All (λ (version : VersionRow). is_some (version_row t.versions version.node version.at) ≡ true) u.versions
+Were t u = All (λ (version : VersionRow). is_some (version_row t.versions version.node version.at) ≡ true) u.versions × WereChunks t u.chunks
 
 -- no deed makes one
-done_were : (t u : Tables) (one : Deed) → Were t u → Were t (deed_done u one)
-done_were t u (deed.Discard item) were = were
-done_were t u (deed.Purge top) were =
-    All-filter (λ (version : VersionRow). is_some (node_row (without_under u.nodes top) version.node))
-    (λ (version : VersionRow). is_some (version_row t.versions version.node version.at) ≡ true) u.versions were
-done_were t u (deed.Restore node folder name) were = were
-done_were t u (deed.Relink node folder name) were = were
-done_were t u (deed.Join rows) were = were
-done_were t u (deed.Requote row) were = were
-done_were t u (deed.Forget node at) were =
-    All-filter (λ (version : VersionRow). not (bytes_eq (node ∷ at ∷ []) (version_key version)))
-    (λ (version : VersionRow). is_some (version_row t.versions version.node version.at) ≡ true) u.versions were
+done_were : (t u : Tables) (one : Deed) → IsTold t u one → Were t u → Were t (deed_done u one)
+done_were t u (deed.Discard item) told were = were
+done_were t u (deed.Purge top) told were = (
+  All-filter (λ (version : VersionRow). is_some (node_row (without_under u.nodes top) version.node))
+      (λ (version : VersionRow). is_some (version_row t.versions version.node version.at) ≡ true) u.versions were.0,
+  were.1,
+)
+done_were t u (deed.Restore node folder name) told were = were
+done_were t u (deed.Relink node folder name) told were = were
+done_were t u (deed.Join rows) told were = were
+done_were t u (deed.Requote row) told were = were
+done_were t u (deed.Forget node at) told were = (
+  All-filter (λ (version : VersionRow). not (bytes_eq (node ∷ at ∷ []) (version_key version)))
+      (λ (version : VersionRow). is_some (version_row t.versions version.node version.at) ≡ true) u.versions were.0,
+  were.1,
+)
+done_were t u (deed.Store changes) told were = absurd told
+done_were t u (deed.Abandon user dir) told were = (
+  were.0,
+  All-filter (λ (row : ChunkRow). not (is_chunk_of user dir row))
+      (λ (row : ChunkRow). is_some (chunk_row t.chunks row.user row.dir row.number) ≡ true) u.chunks were.1,
+)
 
 -- ---- the tables with the changes put into them
 
@@ -235,6 +251,8 @@ deed_put t u meta (deed.Relink node folder name) rest turns rise =
 deed_put t u meta (deed.Join rows) rest (below, numbered) rise = puts_new (at_meta meta u) u.nodes rows rest t.meta.next_node below numbered
 deed_put t u meta (deed.Requote row) rest told rise = refl
 deed_put t u meta (deed.Forget node at) rest told rise = refl
+deed_put t u meta (deed.Store changes) rest told rise = absurd told
+deed_put t u meta (deed.Abandon user dir) rest told rise = abandoned_put (at_meta meta u) user dir rest
 
 -- and one after the other
 pub deeds_put : (t u : Tables) (meta : MetaRow) (deeds : List Deed) (rest : List Change) → AreTold t u deeds → Rise u
@@ -348,7 +366,7 @@ deed_differs t u (deed.Discard item) sound (turns, none) rise was were =
     (closed_differ t u item.node rise was))
 deed_differs t u (deed.Purge node) sound (old, item) rise was were =
     All-append (Differs t) (forgotten_under u.nodes u.versions node) (gone_under u.nodes u.shares node ++ told_item u node)
-    (forgotten_differ t u.versions (walk_of u.nodes node) were)
+    (forgotten_differ t u.versions (walk_of u.nodes node) were.0)
     (All-append (Differs t) (gone_under u.nodes u.shares node) (told_item u node)
     (All-append (Differs t) (dropped_under u.nodes node) (closed_under u.nodes u.shares node) (under_differ t u node rise old)
     (closed_differ t u node rise was))
@@ -365,6 +383,8 @@ deed_differs t u (deed.Requote row) sound is rise was were =
     All-cons (Differs t) (Put (rows.User row)) [] (user_differs t row is) (All-nil (Differs t))
 deed_differs t u (deed.Forget node at) sound is rise was were =
     All-cons (Differs t) (Drop (keys.Version node at)) [] (drop_differs t (record { node = node; at = at; size = 0 }) is) (All-nil (Differs t))
+deed_differs t u (deed.Store changes) sound told rise was were = absurd told
+deed_differs t u (deed.Abandon user dir) sound told rise was were = abandoned_differs t u user dir were.1 told
 
 -- and so is each of the deeds in turn
 pub deeds_differ : (t u : Tables) (deeds : List Deed) → AreSound t → AreTold t u deeds → Rise u → Unended t u → Were t u
@@ -372,7 +392,7 @@ pub deeds_differ : (t u : Tables) (deeds : List Deed) → AreSound t → AreTold
 deeds_differ t u [] sound told rise was were = All-nil (Differs t)
 deeds_differ t u (one ∷ deeds) sound told rise was were =
     All-append (Differs t) (told_deed u one) (told_deeds (deed_done u one) deeds) (deed_differs t u one sound told.0 rise was were)
-    (deeds_differ t (deed_done u one) deeds sound told.1 (done_rise t u one told.0 rise) (done_unended t u one was) (done_were t u one were))
+    (deeds_differ t (deed_done u one) deeds sound told.1 (done_rise t u one told.0 rise) (done_unended t u one told.0 was) (done_were t u one told.0 were))
 
 -- ---- tables that are others
 
@@ -390,17 +410,27 @@ pub record LostVersion (t u : Tables) : Type 0 where
   pub was : is_some (version_row t.versions node at) ≡ true
   pub lost : version_row u.versions node at ≡ None
 
+-- or an upload
+pub record LostUpload (t u : Tables) : Type 0 where
+  pub user : ℕ
+  pub dir : List ℕ
+  pub was : is_some (upload_row t.uploads user dir) ≡ true
+  pub lost : upload_row u.uploads user dir ≡ None
+
 abbrev pub AreOther : Tables → Tables → Type 0
-AreOther t u = Lost t u ⊎ ((u.users ≢ t.users) ⊎ ((u.meta.next_node ≢ t.meta.next_node) ⊎ LostVersion t u))
+AreOther t u = Lost t u ⊎ ((u.users ≢ t.users) ⊎ ((u.meta.next_node ≢ t.meta.next_node) ⊎ (LostVersion t u ⊎ LostUpload t u)))
 
 -- they are so at whatever moment
 pub never_same : (t u : Tables) (now : ℕ) → AreOther t u → stamp u now ≢ t
 never_same t u now (inl lost) = λ same. lost.lost (ap (λ (v : Tables). node_row v.nodes lost.node) same ∙ lost.was)
 never_same t u now (inr (inl other)) = λ same. other (ap (λ (v : Tables). v.users) same)
 never_same t u now (inr (inr (inl other))) = λ same. other (ap (λ (v : Tables). v.meta.next_node) same)
-never_same t u now (inr (inr (inr gone))) = λ same.
+never_same t u now (inr (inr (inr (inl gone)))) = λ same.
     both_ways (is_some (version_row t.versions gone.node gone.at))
     (ap (λ (v : Tables). is_some (version_row v.versions gone.node gone.at)) (sym same) ∙ ap is_some gone.lost) gone.was
+never_same t u now (inr (inr (inr (inr gone)))) = λ same.
+    both_ways (is_some (upload_row t.uploads gone.user gone.dir))
+    (ap (λ (v : Tables). is_some (upload_row v.uploads gone.user gone.dir)) (sym same) ∙ ap is_some gone.lost) gone.was
 
 -- a version that is gone is gone where others go
 lost_filter : (test : VersionRow → Bool) (versions : List VersionRow) (node at : ℕ) → version_row versions node at ≡ None
@@ -420,24 +450,28 @@ purged_other t u top (inl lost) = inl (record {
 })
 purged_other t u top (inr (inl other)) = inr (inl other)
 purged_other t u top (inr (inr (inl other))) = inr (inr (inl other))
-purged_other t u top (inr (inr (inr gone))) = inr (inr (inr (record {
+purged_other t u top (inr (inr (inr (inl gone)))) = inr (inr (inr (inl (record {
   node = gone.node;
   at = gone.at;
   was = gone.was;
   lost = lost_filter (λ version. is_some (node_row (without_under u.nodes top) version.node)) u.versions gone.node gone.at gone.lost;
-})))
+}))))
+purged_other t u top (inr (inr (inr (inr gone)))) =
+    inr (inr (inr (inr (record { user = gone.user; dir = gone.dir; was = gone.was; lost = gone.lost }))))
 
 -- nor does a version that goes
 pub forgotten_other : (t u : Tables) (node at : ℕ) → AreOther t u → AreOther t (forgotten u node at)
 forgotten_other t u node at (inl lost) = inl (record { node = lost.node; row = lost.row; was = lost.was; lost = lost.lost })
 forgotten_other t u node at (inr (inl other)) = inr (inl other)
 forgotten_other t u node at (inr (inr (inl other))) = inr (inr (inl other))
-forgotten_other t u node at (inr (inr (inr gone))) = inr (inr (inr (record {
+forgotten_other t u node at (inr (inr (inr (inl gone)))) = inr (inr (inr (inl (record {
   node = gone.node;
   at = gone.at;
   was = gone.was;
   lost = lost_filter (λ version. not (bytes_eq (node ∷ at ∷ []) (version_key version))) u.versions gone.node gone.at gone.lost;
-})))
+}))))
+forgotten_other t u node at (inr (inr (inr (inr gone)))) =
+    inr (inr (inr (inr (record { user = gone.user; dir = gone.dir; was = gone.was; lost = gone.lost }))))
 
 pub forgets_other : (t u : Tables) (gone : List Version) → AreOther t u → AreOther t (deeds_done u (forgets gone))
 forgets_other t u [] other = other
@@ -446,12 +480,47 @@ forgets_other t u (version ∷ gone) other =
 
 -- and it makes other tables
 pub forgotten_lost : (t u : Tables) (version : Version) → IsVersion t version → AreOther t (forgotten u version.node version.at)
-forgotten_lost t u version there = inr (inr (inr (record {
+forgotten_lost t u version there = inr (inr (inr (inl (record {
   node = version.node;
   at = version.at;
   was = there;
   lost = version_gone u.versions version.node version.at;
-})))
+}))))
+
+-- nor does an upload that goes
+abandoned_other : (t u : Tables) (user : ℕ) (dir : List ℕ) → AreOther t u → AreOther t (abandoned u user dir)
+abandoned_other t u user dir (inl lost) = inl (record { node = lost.node; row = lost.row; was = lost.was; lost = lost.lost })
+abandoned_other t u user dir (inr (inl other)) = inr (inl other)
+abandoned_other t u user dir (inr (inr (inl other))) = inr (inr (inl other))
+abandoned_other t u user dir (inr (inr (inr (inl gone)))) =
+    inr (inr (inr (inl (record { node = gone.node; at = gone.at; was = gone.was; lost = gone.lost }))))
+abandoned_other t u user dir (inr (inr (inr (inr gone)))) = inr (inr (inr (inr (record {
+  user = gone.user;
+  dir = gone.dir;
+  was = gone.was;
+  lost = upload_lost u.uploads (user ∷ length dir ∷ dir) gone.user gone.dir gone.lost;
+}))))
+
+pub abandons_other : (t u : Tables) (gone : List UploadRow) → AreOther t u → AreOther t (deeds_done u (abandons gone))
+abandons_other t u [] other = other
+abandons_other t u (row ∷ gone) other =
+    abandons_other t (abandoned u row.user row.dir) gone (abandoned_other t u row.user row.dir other)
+
+-- and it makes other tables
+pub abandoned_lost : (t u : Tables) (user : ℕ) (dir : List ℕ) → is_some (upload_row t.uploads user dir) ≡ true → AreOther t (abandoned u user dir)
+abandoned_lost t u user dir there = inr (inr (inr (inr (record {
+  user = user;
+  dir = dir;
+  was = there;
+  lost = upload_gone u.uploads user dir;
+}))))
+
+pub abandons_told : (t u : Tables) (gone : List UploadRow) → All (λ (row : UploadRow). is_some (upload_row t.uploads row.user row.dir) ≡ true) gone
+    → AreTold t u (abandons gone)
+abandons_told t u [] there = tt
+abandons_told t u (row ∷ gone) there =
+    let There : UploadRow → Type 0 = λ row. is_some (upload_row t.uploads row.user row.dir) ≡ true in
+    (All-head There row gone there, abandons_told t (abandoned u row.user row.dir) gone (All-tail There row gone there))
 
 -- ---- versions that go behind other deeds
 
@@ -671,12 +740,12 @@ forgotten_droppable versions (node ∷ nodes) =
     (forgotten_droppable versions nodes))
 
 -- by no deed
-deed_droppable : (t : Tables) (one : Deed) → All IsDroppable (told_deed t one)
-deed_droppable t (deed.Discard item) =
+deed_droppable : (t : Tables) (one : Deed) → IsPlain one → All IsDroppable (told_deed t one)
+deed_droppable t (deed.Discard item) plain =
     All-append IsDroppable (told_node (node_row t.nodes item.node) trashed) (Put (rows.Item item) ∷ closed_under t.nodes t.shares item.node)
     (row_droppable (node_row t.nodes item.node) trashed)
     (All-cons IsDroppable (Put (rows.Item item)) (closed_under t.nodes t.shares item.node) tt (closed_droppable t.nodes t.shares item.node))
-deed_droppable t (deed.Purge node) =
+deed_droppable t (deed.Purge node) plain =
     All-append IsDroppable (forgotten_under t.nodes t.versions node) (gone_under t.nodes t.shares node ++ told_item t node)
     (forgotten_droppable t.versions (walk_of t.nodes node))
     (All-append IsDroppable (gone_under t.nodes t.shares node) (told_item t node)
@@ -684,16 +753,19 @@ deed_droppable t (deed.Purge node) =
     (All-map IsDroppable (λ node. Drop (keys.Node node)) (walk_of t.nodes node) (λ k d within is. cc)) (closed_droppable t.nodes t.shares node))
     (cond_both (is_some (item_row t.items node)) (Drop (keys.Item node) ∷ []) [] (All IsDroppable)
     (λ e. All-cons IsDroppable (Drop (keys.Item node)) [] (λ is. cc) (All-nil IsDroppable)) (λ e. All-nil IsDroppable)))
-deed_droppable t (deed.Restore node folder name) =
+deed_droppable t (deed.Restore node folder name) plain =
     All-cons IsDroppable (Drop (keys.Item node)) (told_node (node_row t.nodes node) (relinked folder name)) (λ is. cc)
     (row_droppable (node_row t.nodes node) (relinked folder name))
-deed_droppable t (deed.Relink node folder name) = row_droppable (node_row t.nodes node) (relinked folder name)
-deed_droppable t (deed.Join copies) = All-map IsDroppable (λ row. Put (rows.Node row)) copies (λ k d within. tt)
-deed_droppable t (deed.Requote row) = All-cons IsDroppable (Put (rows.User row)) [] tt (All-nil IsDroppable)
-deed_droppable t (deed.Forget node at) = All-cons IsDroppable (Drop (keys.Version node at)) [] (λ is. cc) (All-nil IsDroppable)
+deed_droppable t (deed.Relink node folder name) plain = row_droppable (node_row t.nodes node) (relinked folder name)
+deed_droppable t (deed.Join copies) plain = All-map IsDroppable (λ row. Put (rows.Node row)) copies (λ k d within. tt)
+deed_droppable t (deed.Requote row) plain = All-cons IsDroppable (Put (rows.User row)) [] tt (All-nil IsDroppable)
+deed_droppable t (deed.Forget node at) plain = All-cons IsDroppable (Drop (keys.Version node at)) [] (λ is. cc) (All-nil IsDroppable)
+deed_droppable t (deed.Store changes) plain = filings_droppable changes plain
+deed_droppable t (deed.Abandon user dir) plain = abandoned_droppable t user dir
 
 -- nor by those after it
-pub deeds_droppable : (t : Tables) (deeds : List Deed) → All IsDroppable (told_deeds t deeds)
-deeds_droppable t [] = All-nil IsDroppable
-deeds_droppable t (one ∷ deeds) =
-    All-append IsDroppable (told_deed t one) (told_deeds (deed_done t one) deeds) (deed_droppable t one) (deeds_droppable (deed_done t one) deeds)
+pub deeds_droppable : (t : Tables) (deeds : List Deed) → All IsPlain deeds → All IsDroppable (told_deeds t deeds)
+deeds_droppable t [] plain = All-nil IsDroppable
+deeds_droppable t (one ∷ deeds) plain =
+    All-append IsDroppable (told_deed t one) (told_deeds (deed_done t one) deeds) (deed_droppable t one (All-head IsPlain one deeds plain))
+    (deeds_droppable (deed_done t one) deeds (All-tail IsPlain one deeds plain))

@@ -11,8 +11,9 @@ use Rattle.nf_defs.specs.declared.Found.{Found}
 use Rattle.nf_defs.specs.declared.Found.TheVariants.{At, Free, Missing}
 use Rattle.nf_laws.proofs.Acted.{given_below, IsNew}
 use Rattle.nf_laws.proofs.Acting.{accepted, frees_by, given_for, leads_by, there_at}
-use Rattle.nf_laws.proofs.Carried.{AreJoined, copying_kind, crossing_kind, IsRelinked, Kind, meta_with, moving_kind, source_apart}
+use Rattle.nf_laws.proofs.Carried.{AreJoined, copying_kind, crossing_kind, IsRelinked, Kind, kind_none, meta_with, moving_kind, source_apart}
 use Rattle.nf_laws.proofs.Departed.{below_after, below_off, have_left, kind_changed, new_after, others_after, present_after, rest_after, unstamped, kind_some}
+use Rattle.nf_laws.proofs.Each.{forgets_none, NoStore}
 use Rattle.nf_laws.proofs.Entries.{step_changed}
 use Rattle.nf_laws.proofs.Mirrored.{mirrored}
 use Rattle.nf_laws.proofs.Others.{stamp_sound}
@@ -112,7 +113,7 @@ copied_rows t now transfer name deeds leave report sound later known kind =
       left = unstamped t made now now leave kind.gone (have_left all now deeds _ _ _ _ fine kind);
       others = λ node old. others_after all now deeds _ _ _ _ fine kind node (λ new. absurd (omega (arith, old, new)));
       versions = subst (AreVersionsFewer all) (ap (deeds_done all) kind.are ∙ deeds_append all (kind.one ∷ kind.more) (purges kind.gone))
-          (deeds_fewer all deeds);
+          (deeds_fewer all deeds (kind_none all now deeds _ _ _ _ kind));
       rest = rest_after all now deeds _ _ _ _ fine kind;
     })
   where
@@ -142,7 +143,8 @@ copied_settled t now transfer name deeds leave gone report sound later known kin
     subst (λ (made : Tables). AreCopied t made now transfer name leave)
     (sym (behind_changed t now deeds gone report (kind_some t now deeds _ _ _ _ kind)))
     (copied_behind t (changed t now (done deeds report)) versions now transfer name leave
-    (copied_rows t now transfer name deeds leave report sound later known kind) (deeds_fewer t (deeds ++ forgets gone)))
+    (copied_rows t now transfer name deeds leave report sound later known kind) (deeds_fewer t (deeds ++ forgets gone)
+    (All-append NoStore deeds (forgets gone) (kind_none (stamp t now) now deeds _ _ _ _ kind) (forgets_none gone))))
 
 -- nothing that is under what is present is under what goes beside what left
 tops_apart : (t after : Tables) (now : ℕ) (leave tops : List ℕ) (mid node : ℕ) → AreSound t → HaveLeft t after now leave tops → LeadsToRoot t.nodes mid

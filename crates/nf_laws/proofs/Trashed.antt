@@ -185,7 +185,6 @@ module _ (t : Tables) (item : ItemRow) (row : NodeRow) (folder : ℕ) (sound : A
         groups_given = sound.groups_given;
         few_nodes = omega (arith, counts, sound.few_nodes);
         few_pieces = omega (arith, sound.few_pieces, pieces_with t.nodes top trashed 0 (λ row is. omega arith));
-        later = sound.later;
         others = others_ended t (λ n. is_under t.nodes n top) binned.nodes t.versions binned.items sound (was_with t top trashed seen_trashed)
             (λ n stays up. discarded_leads t item n sound stays up)
             (off_with t top trashed sound seen_trashed)

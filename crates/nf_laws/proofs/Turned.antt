@@ -1,32 +1,33 @@
--- The tables with other versions are sound.
-use Rattle.std.proofs.Common.{Bool, ℕ, ◌≤◌, ◌+◌, not, List, [], ◌∷◌, length, sum_by, refl, arith, le_refl}
+-- The tables with other versions, uploads and chunks are sound.
+use Rattle.std.proofs.Common.{Bool, ℕ, ◌≤◌, not, List, [], ◌∷◌, length, refl, arith, le_refl}
 use Rattle.std.specs.Prelude.{bytes_eq}
 use Rattle.std.specs.List.{All}
-use Rattle.std.specs.declared.cmp.Ordering.{Ordering}
-use Rattle.std.specs.declared.cmp.Ordering.TheVariants.{Equal, Greater, Less}
 use Rattle.std.proofs.lemmas.List.Elements.{All-filter, All-weaker}
 use Rattle.std.proofs.lemmas.List.Filters.{sum_by-filter_both}
-use Rattle.std.proofs.lemmas.List.Sums.{sum_by-cons}
 use Rattle.nf_base.specs.declared.limits.TheConstants.{MAX_STORED_PIECES, MAX_VERSIONS}
 use Rattle.nf_base.specs.declared.rows.MountRow.{MountRow}
 use Rattle.nf_base.specs.declared.rows.NodeRow.{NodeRow}
 use Rattle.nf_base.specs.declared.rows.Place.{Place}
 use Rattle.nf_base.specs.declared.rows.Place.TheVariants.{Inside, Root, Trash}
 use Rattle.nf_base.specs.declared.rows.ShareRow.{ShareRow}
+use Rattle.nf_base.specs.declared.rows.ChunkRow.{ChunkRow}
+use Rattle.nf_base.specs.declared.rows.UploadRow.{UploadRow}
 use Rattle.nf_base.specs.declared.rows.VersionRow.{VersionRow}
 use Rattle.nf_defs.proofs.Puts.{all_put, dropped_length, dropped_rising, put_length, put_rising}
-use Rattle.nf_defs.specs.Prelude.{by_order, dropped, IsRising, key_cmp, put, Tables, version_key}
+use Rattle.nf_defs.specs.Prelude.{dropped, IsRising, put, Tables, version_key}
 use Rattle.nf_laws.proofs.Others.{items_still, kind_still, others_from, trash_kept}
 use Rattle.nf_laws.proofs.Rows.{kept_row, node_still}
+use Rattle.nf_laws.proofs.Sums.{put_sum}
+use Rattle.nf_laws.proofs.Uploads.{AreUploadsSound, uploads_kept}
 use Rattle.nf_words.proofs.Fits.{KnownVersion}
 use Rattle.nf_words.specs.Others.{IsMountSound, IsShareSound, IsVersionSound}
 use Rattle.nf_words.specs.Prelude.{AreSound, forgotten, HasRoot, IsNodeSound, IsPlaceSound, stored_pieces}
 
--- ---- whatever the versions are
+-- ---- whatever they are
 
-module _ (t : Tables) (versions : List VersionRow) where
+module _ (t : Tables) (versions : List VersionRow) (uploads : List UploadRow) (chunks : List ChunkRow) where
   abbrev pub turned : Tables
-  turned = record t { versions = versions }
+  turned = record t { versions = versions; uploads = uploads; chunks = chunks }
 
   mount_turned : (mount : MountRow) → IsMountSound t mount → IsMountSound turned mount
   mount_turned mount fine = record { user = fine.user; node = fine.node; others = fine.others; free = fine.free }
@@ -57,8 +58,8 @@ module _ (t : Tables) (versions : List VersionRow) where
       (record { steps = fine.steps; shallow = fine.shallow; top = fine.top; climbs = fine.climbs; ends = fine.ends })
 
   pub turned_sound : AreSound t → All (IsVersionSound t) versions → IsRising version_key versions → length versions ≤ MAX_VERSIONS
-      → stored_pieces turned ≤ MAX_STORED_PIECES → AreSound turned
-  turned_sound sound fine rise few pieces = record {
+      → AreUploadsSound turned → stored_pieces turned ≤ MAX_STORED_PIECES → AreSound turned
+  turned_sound sound fine rise few sent pieces = record {
     counters = sound.counters;
     rising = sound.rising;
     nodes = All-weaker (IsNodeSound t) (IsNodeSound turned) node_turned t.nodes sound.nodes;
@@ -71,8 +72,7 @@ module _ (t : Tables) (versions : List VersionRow) where
     groups_given = sound.groups_given;
     few_nodes = sound.few_nodes;
     few_pieces = pieces;
-    later = sound.later;
-    others = others_from turned sound.later (All-weaker (IsShareSound t) (IsShareSound turned) share_turned t.shares sound.others.shares)
+    others = others_from turned sent (All-weaker (IsShareSound t) (IsShareSound turned) share_turned t.shares sound.others.shares)
         sound.others.shares_rise sound.others.few_shares
         (All-weaker (IsMountSound t) (IsMountSound turned) mount_turned t.mounts sound.others.mounts) sound.others.mounts_rise
         sound.others.mounts_apart sound.others.few_mounts
@@ -93,9 +93,10 @@ pub forgotten_sound : (t : Tables) (node at : ℕ) → AreSound t → AreSound (
 forgotten_sound t node at sound =
     let others : VersionRow → Bool = λ row. not (bytes_eq (node ∷ at ∷ []) (version_key row)) in
     let versions = dropped version_key (node ∷ at ∷ []) t.versions in
-    turned_sound t versions sound (All-filter others (IsVersionSound t) t.versions sound.others.versions)
+    turned_sound t versions t.uploads t.chunks sound (All-filter others (IsVersionSound t) t.versions sound.others.versions)
     (dropped_rising version_key (node ∷ at ∷ []) t.versions sound.others.versions_rise)
     (omega (arith, sound.others.few_versions, dropped_length version_key (node ∷ at ∷ []) t.versions))
+    (uploads_kept t (forgotten t node at) refl refl refl refl sound)
     (omega (
       arith,
       sound.few_pieces,
@@ -104,26 +105,13 @@ forgotten_sound t node at sound =
 
 -- ---- a version that is put
 
-put_pieces : (row : VersionRow) (rows : List VersionRow)
-    → sum_by (λ (one : VersionRow). length one.content) (put version_key row rows) ≤ sum_by (λ (one : VersionRow). length one.content) rows + length row.content
-put_pieces row [] = omega (arith, sum_by-cons (λ (one : VersionRow). length one.content) row [])
-put_pieces row (x ∷ rows) = here (key_cmp (version_key row) (version_key x)) (put_pieces row rows)
-  where
-    pieces : VersionRow → ℕ
-    pieces one = length one.content
-
-    here : (o : Ordering) → sum_by pieces (put version_key row rows) ≤ sum_by pieces rows + length row.content
-        → sum_by pieces (by_order o (row ∷ x ∷ rows) (row ∷ rows) (x ∷ put version_key row rows)) ≤ sum_by pieces (x ∷ rows) + length row.content
-    here Less rest = omega (arith, sum_by-cons pieces row (x ∷ rows), sum_by-cons pieces x rows)
-    here Equal rest = omega (arith, sum_by-cons pieces row rows, sum_by-cons pieces x rows)
-    here Greater rest = omega (arith, rest, sum_by-cons pieces x (put version_key row rows), sum_by-cons pieces x rows)
-
 pub version_sound : (first t : Tables) (row : VersionRow) → AreSound t → row.at ≤ t.meta.last → KnownVersion first t row
     → AreSound (record t { versions = put version_key row t.versions })
 version_sound first t row sound at known =
     let is = known.version in
-    turned_sound t (put version_key row t.versions) sound
+    turned_sound t (put version_key row t.versions) t.uploads t.chunks sound
     (all_put version_key (IsVersionSound t) row t.versions (record { at = at; file = is.file; some = is.some; pieces = is.pieces }) sound.others.versions)
     (put_rising version_key row t.versions sound.others.versions_rise)
     (omega (arith, is.few, put_length version_key row t.versions))
-    (omega (arith, is.few_pieces, put_pieces row t.versions))
+    (uploads_kept t (record t { versions = put version_key row t.versions }) refl refl refl refl sound)
+    (omega (arith, is.few_pieces, put_sum version_key (λ (one : VersionRow). length one.content) row t.versions))

@@ -12,9 +12,11 @@ use Rattle.nf_base.specs.declared.rows.VersionRow.{VersionRow}
 use Rattle.nf_defs.proofs.Puts.{all_put}
 use Rattle.nf_defs.specs.Prelude.{made, node_row, Tables, version_key, without_under, put_all, relinked, with_node}
 use Rattle.nf_laws.specs.Acts.{AreVersionsFewer, IsOldVersion, AreVersionsLeft}
-use Rattle.nf_laws.proofs.InTurn.{deeds_keep}
-use Rattle.nf_laws.proofs.Lists.{changes_have}
-use Rattle.nf_words.proofs.Fits.{IsTurned}
+use Rattle.nf_laws.proofs.Each.{none_keep, NoStore, settled_keep}
+use Rattle.nf_laws.proofs.Lists.{changes_have, IsAside}
+use Rattle.nf_words.proofs.Fits.{KnownChange}
+use Rattle.nf_words.specs.declared.answer.Report.{Report}
+use Rattle.nf_words.specs.declared.answer.Report.TheVariants as report
 use Rattle.nf_words.proofs.Known.{Known}
 use Rattle.nf_words.specs.Prelude.{altered, AreSound, deed_done, IsOfPeople, deeds_done, discard, drop_version, goes_itself, item_for, purges, versions_there}
 use Rattle.nf_words.specs.declared.answer.Allowed.{Allowed}
@@ -41,49 +43,60 @@ people_versions u (Put (rows.Member row)) is = refl
 people_versions u (Drop (keys.Member group user)) is = refl
 people_versions u change is = absurd is
 
-turned_old : (t u : Tables) (change : Change) → AreOldVersions t u → IsTurned t u change → AreOldVersions t (made u change)
-turned_old t u (Put (rows.Version row)) old known =
+aside_old : (t : Tables) (blob : Option ℕ) (u : Tables) (change : Change) → AreOldVersions t u → IsAside t blob u change → AreOldVersions t (made u change)
+aside_old t blob u (Put (rows.Version row)) old known =
     all_put version_key (IsOldVersion t) row u.versions (inr (known.was, known.there, known.of_was)) old
-turned_old t u (Drop (keys.Version node at)) old known =
+aside_old t blob u (Drop (keys.Version node at)) old known =
     All-filter (λ (row : VersionRow). not (bytes_eq (node ∷ at ∷ []) (version_key row))) (IsOldVersion t) u.versions old
-turned_old t u change old known = absurd known
+aside_old t blob u (Put (rows.Upload row)) old known = old
+aside_old t blob u (Put (rows.Chunk row)) old known = old
+aside_old t blob u change old known = absurd known
 
-deed_old : (t u : Tables) (one : Deed) → AreOldVersions t u → AreOldVersions t (deed_done u one)
-deed_old t u (deed.Discard item) old = old
-deed_old t u (deed.Purge node) old =
+deed_old : (t u : Tables) (one : Deed) → NoStore one → AreOldVersions t u → AreOldVersions t (deed_done u one)
+deed_old t u (deed.Discard item) none old = old
+deed_old t u (deed.Purge node) none old =
     All-filter (λ (row : VersionRow). is_some (node_row (without_under u.nodes node) row.node)) (IsOldVersion t) u.versions old
-deed_old t u (deed.Restore node folder name) old = old
-deed_old t u (deed.Relink node folder name) old = old
-deed_old t u (deed.Join more) old = old
-deed_old t u (deed.Requote row) old = old
-deed_old t u (deed.Forget node at) old =
+deed_old t u (deed.Restore node folder name) none old = old
+deed_old t u (deed.Relink node folder name) none old = old
+deed_old t u (deed.Join more) none old = old
+deed_old t u (deed.Requote row) none old = old
+deed_old t u (deed.Store changes) none old = absurd none
+deed_old t u (deed.Abandon user dir) none old = old
+deed_old t u (deed.Forget node at) none old =
     All-filter (λ (row : VersionRow). not (bytes_eq (node ∷ at ∷ []) (version_key row))) (IsOldVersion t) u.versions old
 
 all_old : (t : Tables) → AreOldVersions t t
 all_old t k d within = inl (All-contains_itself t.versions k d within)
 
-pub altered_old : (t : Tables) (now : ℕ) (act : Allowed) → AreSound t → Known t now act → AreOldVersions t (altered t now act)
-altered_old t now (allowed.Change changes blob report) sound known =
-    changes_have (AreOldVersions t) t now changes blob report sound.rising known (λ u row old it. old) (λ u row old it. old) (λ u row old it. old)
+changes_old : (t : Tables) (now : ℕ) (changes : List Change) (blob : Option ℕ) (told : Report) → AreSound t → KnownChange t now changes blob
+    → AreOldVersions t (altered t now (allowed.Change changes blob told))
+changes_old t now changes blob told sound known =
+    changes_have (AreOldVersions t) t now changes blob told sound.rising known (λ u row old it. old) (λ u row old it. old) (λ u row old it. old)
     (λ u row old it. old) (λ u change old it. subst (All (IsOldVersion t)) (sym (people_versions u change it)) old)
-    (λ u change old it. turned_old t u change old it) (λ u row root old it. old) (all_old t)
-altered_old t now (allowed.Deeds deeds report) sound known = deeds_keep (AreOldVersions t) (deed_old t) t deeds (all_old t)
+    (λ u change old it. aside_old t blob u change old it) (λ u row root old it. old) (all_old t)
+
+pub altered_old : (t : Tables) (now : ℕ) (act : Allowed) → AreSound t → Known t now act → AreOldVersions t (altered t now act)
+altered_old t now (allowed.Change changes blob told) sound known = changes_old t now changes blob told sound known
+altered_old t now (allowed.Deeds deeds told) sound known =
+    settled_keep (AreOldVersions t) t now deeds known (deed_old t) (λ changes stored. changes_old t now changes None report.Done sound stored) (all_old t)
 altered_old t now act sound known = all_old t
 
--- deeds make none
-deed_fewer : (t u : Tables) (one : Deed) → AreVersionsFewer t u → AreVersionsFewer t (deed_done u one)
-deed_fewer t u (deed.Discard item) old = old
-deed_fewer t u (deed.Purge node) old =
+-- deeds that store no changes make none
+deed_fewer : (t u : Tables) (one : Deed) → NoStore one → AreVersionsFewer t u → AreVersionsFewer t (deed_done u one)
+deed_fewer t u (deed.Discard item) none old = old
+deed_fewer t u (deed.Purge node) none old =
     All-filter (λ (row : VersionRow). is_some (node_row (without_under u.nodes node) row.node)) (Contains t.versions) u.versions old
-deed_fewer t u (deed.Restore node folder name) old = old
-deed_fewer t u (deed.Relink node folder name) old = old
-deed_fewer t u (deed.Join more) old = old
-deed_fewer t u (deed.Requote row) old = old
-deed_fewer t u (deed.Forget node at) old =
+deed_fewer t u (deed.Restore node folder name) none old = old
+deed_fewer t u (deed.Relink node folder name) none old = old
+deed_fewer t u (deed.Join more) none old = old
+deed_fewer t u (deed.Requote row) none old = old
+deed_fewer t u (deed.Store changes) none old = absurd none
+deed_fewer t u (deed.Abandon user dir) none old = old
+deed_fewer t u (deed.Forget node at) none old =
     All-filter (λ (row : VersionRow). not (bytes_eq (node ∷ at ∷ []) (version_key row))) (Contains t.versions) u.versions old
 
-pub deeds_fewer : (t : Tables) (deeds : List Deed) → AreVersionsFewer t (deeds_done t deeds)
-deeds_fewer t deeds = deeds_keep (AreVersionsFewer t) (deed_fewer t) t deeds (λ k d within. All-contains_itself t.versions k d within)
+pub deeds_fewer : (t : Tables) (deeds : List Deed) → All NoStore deeds → AreVersionsFewer t (deeds_done t deeds)
+deeds_fewer t deeds none = none_keep (AreVersionsFewer t) (deed_fewer t) t deeds none (λ k d within. All-contains_itself t.versions k d within)
 
 -- nor do changes that put none
 pub drops_fewer : (t u : Tables) (gone : List Version) → AreVersionsFewer t u → AreVersionsFewer t (put_all u (map drop_version gone))
@@ -101,6 +114,7 @@ added_fewer t row gone =
 abbrev pub KeepsVersions : Deed → Type 0
 KeepsVersions (deed.Join more) = ⊥
 KeepsVersions (deed.Forget node at) = ⊥
+KeepsVersions (deed.Store changes) = ⊥
 KeepsVersions other = Unit {0}
 
 -- a row that is another is one still
@@ -144,13 +158,15 @@ deed_left t u (deed.Relink node folder name) keeps left = there_with t u node (r
 deed_left t u (deed.Join more) keeps left = absurd keeps
 deed_left t u (deed.Requote row) keeps left = left
 deed_left t u (deed.Forget node at) keeps left = absurd keeps
+deed_left t u (deed.Store changes) keeps left = absurd keeps
+deed_left t u (deed.Abandon user dir) keeps left = left
 
 deeds_left : (t u : Tables) (deeds : List Deed) → All KeepsVersions deeds → AreVersionsLeft t u → AreVersionsLeft t (deeds_done u deeds)
 deeds_left t u [] keeps left = left
 deeds_left t u (one ∷ deeds) keeps left =
     deeds_left t (deed_done u one) deeds (All-tail KeepsVersions one deeds keeps) (deed_left t u one (All-head KeepsVersions one deeds keeps) left)
 
-all_pass : {X : Type 0} (p : X → Bool) (xs : List X) → All (λ (x : X). p x ≡ true) xs → xs ≡ filter p xs
+pub all_pass : {X : Type 0} (p : X → Bool) (xs : List X) → All (λ (x : X). p x ≡ true) xs → xs ≡ filter p xs
 all_pass p [] passes = refl
 all_pass {X = X} p (x ∷ xs) passes =
     ap (λ (l : List X). x ∷ l) (all_pass p xs (All-tail (λ (x : X). p x ≡ true) x xs passes))

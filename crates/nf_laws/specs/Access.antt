@@ -16,6 +16,7 @@ use Rattle.nf_base.specs.declared.rows.NodeRow.{NodeRow}
 use Rattle.nf_base.specs.declared.rows.Place.TheVariants.{Inside}
 use Rattle.nf_base.specs.declared.rows.Place.TheVariants as place
 use Rattle.nf_base.specs.declared.rows.ShareRow.{ShareRow}
+use Rattle.nf_base.specs.declared.rows.UploadRow.{UploadRow}
 use Rattle.nf_base.specs.declared.rows.UserRow.{UserRow}
 use Rattle.nf_defs.specs.People.{is_admin}
 use Rattle.nf_defs.specs.Prelude.{child_of, dropped, group_key, group_named, holder_of, is_folder, is_folder_kind, item_row, Leads, member_key, node_row, owner_of, parent_of, put, share_key, Tables, token_key, user_key, user_named, user_row}
@@ -24,14 +25,15 @@ use Rattle.nf_defs.specs.declared.Seeker.{Seeker}
 use Rattle.nf_defs.specs.declared.Seeker.TheVariants.{User}
 use Rattle.nf_laws.specs.Reads.{IsFreeToRead, IsWellAsked}
 use Rattle.nf_laws.specs.Tree.{Under}
-use Rattle.nf_words.specs.Prelude.{access_of, after, answer_to, asker_of, behind, Call, call_of, deeds_done, ended_row, goal_at, home_of, is_joined, is_member, IsModest, IsSound, kind_of, kind_to, last_name, listing_of, may_by, MayCome, MayWant, membership, mount_of, name_back, Need, needed, needed_by, new_root, new_user, own_item, people_limit, perms_after, purges, receiver_named, restored, root_of, row_named, seeker_of, set_fault, set_row, State, until_after, usual_perms, forgets, needed_for, mount_by, unversioned, version_row, LeadsToRoot}
+use Rattle.nf_words.specs.Prelude.{access_of, after, answer_to, asker_of, behind, Call, call_of, deeds_done, ended_row, goal_at, home_of, is_joined, is_member, IsModest, IsSound, kind_of, kind_to, last_name, listing_of, may_by, MayCome, MayWant, membership, mount_of, name_back, Need, needed, needed_by, new_root, new_user, own_item, people_limit, perms_after, purges, receiver_named, restored, root_of, row_named, seeker_of, set_fault, set_row, State, until_after, usual_perms, forgets, needed_for, mount_by, unversioned, version_row, LeadsToRoot, chunk_row, is_idle, upload_row}
 use Rattle.nf_words.specs.Tokens.{link_token}
 use Rattle.nf_words.specs.declared.answer.Goal.{Goal}
-use Rattle.nf_words.specs.declared.answer.Goal.TheVariants.{Serve, Store}
+use Rattle.nf_words.specs.declared.answer.Goal.TheVariants.{Chunk, Serve, Store}
 use Rattle.nf_words.specs.declared.answer.Reply.TheVariants.{Granted, Listing}
 use Rattle.nf_words.specs.declared.history.Entry.{Entry}
 use Rattle.nf_words.specs.declared.history.Event.{Event}
 use Rattle.nf_words.specs.declared.history.Event.TheVariants.{Begin, End, Sweep}
+use Rattle.nf_words.specs.declared.history.Outcome.{Outcome}
 use Rattle.nf_words.specs.declared.listing.ListingLine.{ListingLine}
 use Rattle.nf_words.specs.declared.request.PeopleAsk.{PeopleAsk}
 use Rattle.nf_words.specs.declared.request.PeopleAsk.TheVariants as people
@@ -40,6 +42,8 @@ use Rattle.nf_words.specs.declared.request.Request.{Request}
 use Rattle.nf_words.specs.declared.request.Sharee.{Sharee}
 use Rattle.nf_words.specs.declared.request.Spot.{Spot}
 use Rattle.nf_words.specs.declared.request.Until.{Until}
+use Rattle.nf_words.specs.declared.request.UploadAsk.{UploadAsk}
+use Rattle.nf_words.specs.declared.request.UploadAsk.TheVariants as upload
 use Rattle.nf_words.specs.declared.request.Wanted.TheVariants.{Delete, Get, Move, People, Share, Trash}
 use Rattle.nf_words.specs.declared.request.Wanted.TheVariants as want
 use Rattle.nf_words.specs.declared.request.VersionAsk.TheVariants as version
@@ -161,11 +165,13 @@ WhatMayBeReadIsListed =
 abbrev pub needs_of_goal : Goal → List Need
 needs_of_goal (Serve content) = []
 needs_of_goal (Store by key length) = needed_by by key
+needs_of_goal (Chunk user dir number length) = []
 
 -- who was granted to store
 abbrev pub seeker_of_goal : Goal → Option Seeker
 seeker_of_goal (Serve content) = None
 seeker_of_goal (Store by key length) = Some by.seeker
+seeker_of_goal (Chunk user dir number length) = None
 
 -- an event needs what its request or its goal needs; a request needs that of its paths, and that of a version
 abbrev pub needs_of : State → ℕ → ℕ → Event → List Need
@@ -427,6 +433,46 @@ pub record IsSettled (s : State) (e : Entry) (before after : Tables) : Type 0 wh
   pub versions : List Version
   pub gone : after ≡ deeds_done before (purges tops ++ forgets versions)
 
+-- ---- uploads
+
+-- the name of the upload that is asked about
+abbrev pub upload_asked : UploadAsk → List ℕ
+upload_asked (upload.New user dir to) = dir
+upload_asked (upload.Chunk user dir name to length) = dir
+upload_asked (upload.Drop user dir) = dir
+upload_asked (upload.Join dir spot total) = dir
+
+-- the rows are those of some uploads and chunks: no other row is another
+pub record OnlyUploads (before after : Tables) (IsOne : ℕ → List ℕ → Type 0) (IsPart : ℕ → List ℕ → ℕ → Type 0) : Type 0 where
+  pub uploads : (user : ℕ) (dir : List ℕ) → upload_row after.uploads user dir ≢ upload_row before.uploads user dir → IsOne user dir
+  pub chunks : (user : ℕ) (dir : List ℕ) (number : ℕ)
+      → chunk_row after.chunks user dir number ≢ chunk_row before.chunks user dir number → IsPart user dir number
+  pub rest : after ≡ record before { uploads = after.uploads; chunks = after.chunks }
+
+-- the one of that user, under that name
+abbrev pub IsThatUpload : ℕ → List ℕ → ℕ → List ℕ → Type 0
+IsThatUpload user dir of_user of_dir = (of_user ≡ user) × (of_dir ≡ dir)
+
+-- nobody sent a chunk of it for a day
+abbrev pub IsIdleUpload : State → ℕ → ℕ → List ℕ → Type 0
+IsIdleUpload s now user dir = (row : UploadRow) × (upload_row s.tables.uploads user dir ≡ Some row) × (is_idle now row ≡ true)
+
+-- no upload and no chunk is another but of the upload of who asks about it, the chunk that a seat was granted to send, with its upload, and
+-- those that a sweep finds idle
+pub data UploadsFollow (s : State) (e : Entry) (before after : Tables) : Type 0 where
+  is_same : after ≡ before → UploadsFollow s e before after
+  is_asked : (words : Words) (request : Request) (asked : UploadAsk) → e.event ≡ Begin words request → request.wanted ≡ want.Upload asked
+      → OnlyUploads before after (IsThatUpload (asker_of (call_of s e.seat e.moment words request)) (upload_asked asked))
+      (λ user dir number. IsThatUpload (asker_of (call_of s e.seat e.moment words request)) (upload_asked asked) user dir)
+      → UploadsFollow s e before after
+  is_sent : (outcome : Outcome) (user : ℕ) (dir : List ℕ) (number length : ℕ) → e.event ≡ End outcome
+      → goal_at s e.seat ≡ Some (Chunk user dir number length)
+      → OnlyUploads before after (IsThatUpload user dir) (λ of_user of_dir of. IsThatUpload user dir of_user of_dir × (of ≡ number))
+      → UploadsFollow s e before after
+  is_swept : e.event ≡ Sweep
+      → OnlyUploads before after (IsIdleUpload s e.moment) (λ user dir number. IsIdleUpload s e.moment user dir)
+      → UploadsFollow s e before after
+
 -- ---- what a step changes
 
 -- a step changes users, groups, tokens and members, and the root of a new user and the mounts of a new member with them; or an item of
@@ -447,11 +493,13 @@ pub record NodesAllowed (s : State) (e : Entry) (after : Tables) : Type 0 where
     items = after.items;
   }
 
--- and then trashes and versions are settled, if any are
+-- and then trashes and versions are settled, if any are, and uploads and chunks are others, if any are
 pub record ChangesAllowed (s : State) (e : Entry) (after : Tables) : Type 0 where
   pub between : Tables
   pub allowed : NodesAllowed s e between ⊎ (IsProviding s e between ⊎ IsRestoring s e between)
-  pub settled : IsSettled s e between after
+  pub behind : Tables
+  pub settled : IsSettled s e between behind
+  pub uploads : UploadsFollow s e behind after
 
 abbrev pub ChangesWhatMayBeChanged : Type 0
 ChangesWhatMayBeChanged = (n : ℕ) (s : State) (e : Entry) → IsSound s → MayCome n s e → ChangesAllowed s e (after s e).tables

@@ -1,5 +1,5 @@
 -- What a DELETE, a MKCOL, a PUT, a MOVE of a mount and a sweep change, and what is asked about the trash, and that they change nothing else.
-use Rattle.std.specs.Prelude.{◌≡◌, ◌≢◌, ◌↔◌, ◌≤◌, ◌⊎◌, ℕ, ◌+◌, Bool, true, false, List, [], ◌∷◌, length, Option, None, Some, Ok, IsOk, IfSome, All, Contains}
+use Rattle.std.specs.Prelude.{◌≡◌, ◌≢◌, ◌↔◌, ◌≤◌, ◌⊎◌, ℕ, ◌+◌, Bool, true, false, List, [], ◌∷◌, filter, length, not, Option, None, Some, is_some, Ok, IsOk, IfSome, All, Contains}
 use Rattle.nf_access.specs.Mounts.{mount_row}
 use Rattle.nf_access.specs.Shares.{share_row}
 use Rattle.nf_base.specs.declared.content.Piece.{Piece}
@@ -15,7 +15,7 @@ use Rattle.nf_laws.specs.Access.{LeadsBy}
 use Rattle.nf_laws.specs.Reads.{LeadsToKey}
 use Rattle.nf_laws.specs.Tree.{Under}
 use Rattle.nf_laws.specs.Wholes.{blob_in}
-use Rattle.nf_words.specs.Prelude.{after, answer_to, asker_of, behind, blob_for, Call, call_of, content_in, ended_row, goal_at, gone_from, home_of, IsSound, last_name, left_row, MayAsk, mount_of, name_back, named_row, root_of, seeker_of, State, step, user_of, versions_there, way_of, without_ticket}
+use Rattle.nf_words.specs.Prelude.{after, answer_to, asker_of, behind, blob_for, Call, call_of, content_in, ended_row, goal_at, gone_from, home_of, is_idle, IsSound, last_name, left_row, MayAsk, mount_of, name_back, named_row, root_of, seeker_of, State, step, upload_row, user_of, versions_there, way_of, without_ticket}
 use Rattle.nf_words.specs.declared.answer.By.{By}
 use Rattle.nf_words.specs.declared.answer.Goal.TheVariants.{Store}
 use Rattle.nf_words.specs.declared.answer.LockKey.{LockKey}
@@ -237,6 +237,16 @@ MountsAreRenamed =
 
 -- ---- a sweep
 
+-- just the uploads are gone that nobody sent a chunk of for a day, each with its chunks
+pub record AreAbandoned (before after : Tables) (now : ℕ) : Type 0 where
+  pub uploads : after.uploads ≡ filter (λ row. not (is_idle now row)) before.uploads
+  pub chunks : after.chunks ≡ filter (λ row. is_some (upload_row after.uploads row.user row.dir)) before.chunks
+
+-- and beside that those are gone for good
+abbrev pub AreSwept : Tables → Tables → ℕ → List ℕ → Type 0
+AreSwept before after now tops =
+    AreAbandoned before after now × AreTaken (record before { uploads = after.uploads; chunks = after.chunks }) after tops
+
 -- just those items are taken that the trash of their owner doesn't hold any more
 abbrev pub SweepsTake : Type 0
 SweepsTake =
@@ -244,7 +254,7 @@ SweepsTake =
     → (tops : List ℕ)
     × ((node : ℕ) → Contains tops node
     ↔ ((item : ItemRow) × (item_row s.tables.items node ≡ Some item) × Contains (gone_from s.tables now item.owner) node))
-    × AreTaken s.tables (step s seat now Sweep).tables tops
+    × AreSwept s.tables (step s seat now Sweep).tables now tops
 
 -- ---- a node more
 

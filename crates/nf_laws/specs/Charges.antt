@@ -1,10 +1,13 @@
 -- What a user's files take up, and that no step takes that beyond the user's quota.
-use Rattle.std.specs.Prelude.{◌≡◌, ◌↔◌, ◌≤◌, ◌≢◌, ◌⊎◌, ℕ, ◌+◌, ◌==◌, ◌&&◌, not, if◌then◌else◌, List, [], ◌∷◌, ◌++◌, None, Some, Err, IsOk, sum_by}
+use Rattle.std.specs.Prelude.{◌≡◌, ◌↔◌, ◌≤◌, ◌≢◌, ◌⊎◌, ℕ, ◌+◌, ◌==◌, ◌&&◌, not, if◌then◌else◌, List, [], ◌∷◌, ◌++◌, Option, None, Some, Err, IsOk, sum_by}
+use Rattle.std.specs.Option.{option_or}
 use Rattle.nf_base.specs.declared.rows.NodeRow.{NodeRow}
 use Rattle.nf_base.specs.declared.rows.UserRow.{UserRow}
 use Rattle.nf_defs.specs.Prelude.{is_present, owner_of, Tables, user_row}
+use Rattle.nf_defs.specs.declared.Found.{Found}
+use Rattle.nf_defs.specs.declared.Found.TheVariants.{At, Free, Missing}
 use Rattle.nf_words.specs.Listing.{size_of}
-use Rattle.nf_words.specs.Prelude.{access_of, after, answer_at, answer_to, AreSound, asked_of, bytes_of, call_of, charge_of, earlier_rules, end_lost, end_unallowed, end_unreached, exceeded, excess_at, goal_at, IsSound, last_number, limit_at, limit_rule, locked_rule, MayCome, node_of_key, Pass, pieces_of, place_of, places_of, quota_of, room_rule, Rule, State}
+use Rattle.nf_words.specs.Prelude.{access_of, after, answer_at, answer_to, AreSound, asked_of, asker_of, assembled_excess, bytes_of, Call, call_of, charge_of, content_size, earlier_rules, end_lost, end_unallowed, end_unreached, exceeded, excess_at, found, goal_at, IsSound, last_number, limit_at, limit_rule, locked_rule, MayCome, node_of_key, Pass, pieces_of, place_of, places_of, quota_of, room_rule, Rule, State, whole_of}
 use Rattle.nf_words.specs.declared.answer.By.{By}
 use Rattle.nf_words.specs.declared.answer.Denial.TheVariants as denial
 use Rattle.nf_words.specs.declared.answer.Excess.{Excess}
@@ -15,6 +18,9 @@ use Rattle.nf_words.specs.declared.history.Entry.{Entry}
 use Rattle.nf_words.specs.declared.history.Event.TheVariants.{Begin, End}
 use Rattle.nf_words.specs.declared.history.Outcome.TheVariants.{Body}
 use Rattle.nf_words.specs.declared.request.Request.{Request}
+use Rattle.nf_words.specs.declared.request.Spot.{Spot}
+use Rattle.nf_words.specs.declared.request.UploadAsk.TheVariants as upload
+use Rattle.nf_words.specs.declared.request.Wanted.TheVariants as want
 use Rattle.nf_words.specs.declared.request.Words.{Words}
 
 -- ---- what is charged
@@ -65,6 +71,27 @@ WritesAreCharged =
     → goal_at s e.seat ≡ Some (Store by key size) → e.event ≡ End (Body digest size) → IsOk (answer_at s e e.mark)
     → IsCharged s.tables (after s e).tables (owner_of s.tables.nodes (node_of_key key)) (bytes_at s.tables.nodes key) size
 
+-- who is charged for what is put there
+abbrev pub charged_at : List NodeRow → Found → ℕ
+charged_at rows (At node) = owner_of rows node
+charged_at rows (Free folder) = owner_of rows folder
+charged_at rows (Missing depth) = 0
+
+-- the bytes of what is there
+abbrev pub bytes_there : List NodeRow → Found → ℕ
+bytes_there rows (At node) = bytes_of rows node
+bytes_there rows (Free folder) = 0
+bytes_there rows (Missing depth) = 0
+
+-- and so it is with what the chunks of an upload have together, whoever joins them
+abbrev pub JoinsAreCharged : Type 0
+JoinsAreCharged =
+    (n : ℕ) (s : State) (e : Entry) (words : Words) (request : Request) (dir : List ℕ) (spot : Spot) (total : Option ℕ) → IsSound s → MayCome n s e
+    → e.event ≡ Begin words request → request.wanted ≡ want.Upload (upload.Join dir spot total) → IsOk (answer_at s e e.mark)
+    → IsCharged s.tables (after s e).tables (charged_at s.tables.nodes (found (call_of s e.seat e.moment words request) spot))
+    (bytes_there s.tables.nodes (found (call_of s e.seat e.moment words request) spot))
+    (content_size (whole_of s.tables.chunks (asker_of (call_of s e.seat e.moment words request)) dir))
+
 -- ---- what no step passes
 
 -- whatever step is taken, and however it is marked, a charge that rises stays within its quota. One that is above it already, since its
@@ -88,6 +115,11 @@ pub record EndReaches (s : State) (now : ℕ) (by : By) (key : LockKey) (length 
   pub there : end_lost s.tables key ≡ None
   pub few : limit_at s.tables (pieces_of length) (place_of key) ≡ None
 
+-- by how much a request passes the quota of who would be charged: of what it makes, or of what the chunks of an upload have together
+abbrev pub excess_of : Call → Option Excess
+excess_of call =
+    option_or (exceeded call.state.tables (places_of call) (asked_of call.request.wanted).makes) (assembled_excess call call.request.wanted)
+
 -- a request, and the End of a PUT, is refused for a quota exactly where every rule before passes it, and what it would put somewhere is more
 -- than what that replaces and takes the charge of the owner there beyond the quota; the refusal tells the charge, the quota, and the bytes
 -- that would come
@@ -95,7 +127,7 @@ pub record QuotaExactly : Type 0 where
   pub begin : (s : State) (seat now : ℕ) (words : Words) (request : Request) (excess : Excess)
       → (answer_to s seat now (Begin words request) ≡ Err (denial.Quota excess))
       ↔ (Pass rules_before (access_of s) (call_of s seat now words request)
-      × (exceeded s.tables (places_of (call_of s seat now words request)) (asked_of request.wanted).makes ≡ Some excess))
+      × (excess_of (call_of s seat now words request) ≡ Some excess))
   pub body : (s : State) (seat now : ℕ) (by : By) (key : LockKey) (wanted length : ℕ) (digest : List ℕ) (excess : Excess)
       → goal_at s seat ≡ Some (Store by key wanted)
       → (answer_to s seat now (End (Body digest length)) ≡ Err (denial.Quota excess))

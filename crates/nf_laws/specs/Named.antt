@@ -7,7 +7,7 @@ use Rattle.nf_defs.specs.Tables.{rows_of}
 use Rattle.nf_laws.specs.Wholes.{IsNamed}
 use Rattle.nf_words.specs.Prelude.{row_content, State}
 use Rattle.nf_words.specs.declared.answer.Goal.{Goal}
-use Rattle.nf_words.specs.declared.answer.Goal.TheVariants.{Serve, Store}
+use Rattle.nf_words.specs.declared.answer.Goal.TheVariants.{Chunk, Serve, Store}
 use Rattle.nf_words.specs.declared.history.Ticket.{Ticket}
 
 -- the number is that of the blob of a piece that one of the rows names
@@ -26,6 +26,7 @@ named_blobs rows = blobs_of (flat_map row_content rows)
 abbrev pub goal_blobs : Goal → List ℕ
 goal_blobs (Serve content) = blobs_of content
 goal_blobs (Store by key length) = []
+goal_blobs (Chunk user dir number length) = []
 
 -- those that a row or a granted GET names
 abbrev pub blobs_named : State → List ℕ

@@ -6,7 +6,7 @@ use Rattle.nf_base.specs.declared.rows.Row.{Row}
 use Rattle.nf_defs.specs.Blobs.{Blobs, blob_at, with_blob}
 use Rattle.nf_words.specs.Prelude.{after, blob_to, contents_of, IsSound, MayCome, opened, row_content, State}
 use Rattle.nf_words.specs.declared.answer.Goal.{Goal}
-use Rattle.nf_words.specs.declared.answer.Goal.TheVariants.{Serve, Store}
+use Rattle.nf_words.specs.declared.answer.Goal.TheVariants.{Chunk, Serve, Store}
 use Rattle.nf_words.specs.declared.history.Entry.{Entry}
 use Rattle.nf_words.specs.declared.history.Event.{Event}
 use Rattle.nf_words.specs.declared.history.Event.TheVariants.{Begin, End, Sweep}
@@ -42,6 +42,7 @@ IsHeld opening start blobs piece = IsThere blobs piece ⊎ IsDamaged opening sta
 abbrev pub IsGoalHeld : List Row → Blobs → Blobs → Goal → Type 0
 IsGoalHeld opening start blobs (Serve content) = All (IsHeld opening start blobs) content
 IsGoalHeld opening start blobs (Store by key length) = Unit {0}
+IsGoalHeld opening start blobs (Chunk user dir number length) = Unit {0}
 
 -- whole for a state, but for what was damaged at the start: each piece that a row or a granted GET names is there
 pub record IsWhole (opening : List Row) (start : Blobs) (s : State) (blobs : Blobs) : Type 0 where

@@ -29,7 +29,8 @@ pub fn mounts_are_renamed()
     ensures { MountsAreRenamed }
 {}
 
-/// A sweep takes the items that their owners' trashes don't hold any more, each for good with all under it, and touches nothing else.
+/// A sweep takes the items that their owners' trashes don't hold any more, each for good with all under it, and the uploads that nobody
+/// sent a chunk of for a day, each with its chunks, and touches nothing else.
 pub fn sweeps_take()
     ensures { SweepsTake }
 {}

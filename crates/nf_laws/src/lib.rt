@@ -5,6 +5,7 @@ mod access;
 mod acts;
 mod charges;
 mod history;
+mod joins;
 mod listings;
 mod locks;
 mod reads;
@@ -27,6 +28,7 @@ pub use charges::{
     writes_are_charged,
 };
 pub use history::{counters_rise, numbers_are_new, stays_sound};
+pub use joins::{joins_are_charged, joins_are_whole};
 pub use listings::{
     children_are_listed, lines_are_by_name, lines_are_these, mounts_are_listed,
     permissions_are_acts,

@@ -54,3 +54,8 @@ owned_more f owner_at xs i x owner bytes old new less is its sized adds so_far u
     ∙ ap (λ (n : ℕ). sum_by f (filter (λ y. owner_at y == user) (take i xs)) + (if n == user then bytes else 0)) its
     ∙ ap (λ (n : ℕ). sum_by f (filter (λ y. owner_at y == user) (take i xs)) + (if owner_at x == user then n else 0)) sized
     ∙ sym (passing_more f (λ y. owner_at y == user) xs i x less is)
+
+-- a list has as many as there are, one for each
+pub one_each : {X : Type 0} (xs : List X) → length xs ≡ sum_by (λ x. 1) xs
+one_each [] = refl
+one_each (x ∷ xs) = omega (arith, sum_by-cons (λ x. 1) x xs, one_each xs)

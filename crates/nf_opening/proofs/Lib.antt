@@ -6,3 +6,5 @@ pub mod Leads
 pub mod NameKeys
 pub mod Rooted
 pub mod Scans
+pub mod UploadKeys
+pub mod Topped

@@ -4,13 +4,13 @@ ghost use Rattle.std.specs.Prelude.{◌≡◌, not, nat_lt, true};
 ghost use Rattle.std.specs.Option.{option_map_or};
 ghost use Rattle.nf_base.specs.declared.rows.Row.TheVariants as rows;
 ghost use Rattle.nf_defs.specs.Tables.{tables_of};
-ghost use Rattle.nf_rules.specs.Rules.{are_counters, are_item_numbers, are_numbers, are_share_numbers, are_version_numbers, first_index, has_ungiven_blob, is_given, is_lavish, is_place_given, is_recipient_given};
-ghost use Rattle.nf_words.specs.Prelude.{is_end_moment, is_later};
+ghost use Rattle.nf_rules.specs.Rules.{are_chunk_numbers, are_counters, are_item_numbers, are_numbers, are_share_numbers, are_upload_numbers, are_version_numbers, first_index, has_ungiven_blob, is_given, is_lavish, is_place_given, is_recipient_given};
+ghost use Rattle.nf_words.specs.Prelude.{is_end_moment};
 
 use crate::first::first;
 use nf_base::{
-    BlobId, ItemRow, MAX_QUOTA, MetaRow, Moment, NodeId, NodeRow, Piece, Place, Row, ShareId,
-    ShareKind, ShareRow, VersionRow,
+    BlobId, ChunkRow, ItemRow, MAX_QUOTA, MetaRow, Moment, NodeId, NodeRow, Piece, Place, Row,
+    ShareId, ShareKind, ShareRow, UploadRow, VersionRow,
 };
 
 /// The seconds of a day.
@@ -18,31 +18,6 @@ const DAY: u64 = 86_400;
 
 /// The midnight that ends the last day on which a share may end: 9999-01-01T00:00:00Z.
 const LAST_END: u64 = 253_370_764_800;
-
-/// The first row of a kind that isn't built yet.
-pub(crate) fn first_later(rows: &[Row]) -> Option<usize>
-    ensures { result ≡ first_index is_later rows.now }
-{
-    first(rows, |row| is_later(row))
-}
-
-fn is_later(row: &Row) -> bool
-    ensures { result ≡ is_later row.now }
-{
-    match row {
-        Row::Meta(_)
-        | Row::User(_)
-        | Row::Token(_)
-        | Row::Group(_)
-        | Row::Member(_)
-        | Row::Node(_)
-        | Row::Share(_)
-        | Row::Mount(_)
-        | Row::Version(_)
-        | Row::Item(_) => false,
-        Row::Upload(_) | Row::Chunk(_) => true,
-    }
-}
 
 /// The first row with a number that wasn't given, or a moment to come.
 pub(crate) fn first_ungiven(meta: &MetaRow, rows: &[Row]) -> Option<usize>
@@ -77,7 +52,8 @@ fn are_numbers(meta: &MetaRow, row: &Row) -> bool
         }
         Row::Version(row) => are_version_numbers(meta, row),
         Row::Item(row) => are_item_numbers(meta, row),
-        _ => true,
+        Row::Upload(row) => are_upload_numbers(meta, row),
+        Row::Chunk(row) => are_chunk_numbers(meta, row),
     }
 }
 
@@ -126,6 +102,24 @@ fn are_item_numbers(meta: &MetaRow, row: &ItemRow) -> bool
         )
         && is_given(meta.next_node.number(), row.from.number())
         && row.at <= meta.last
+}
+
+fn are_upload_numbers(meta: &MetaRow, row: &UploadRow) -> bool
+    ensures { result ≡ are_upload_numbers meta.now row.now }
+{
+    is_given(
+        u64::from(meta.next_user.number()),
+        u64::from(row.user.number()),
+    ) && row.touched <= meta.last
+}
+
+fn are_chunk_numbers(meta: &MetaRow, row: &ChunkRow) -> bool
+    ensures { result ≡ are_chunk_numbers meta.now row.now }
+{
+    is_given(
+        u64::from(meta.next_user.number()),
+        u64::from(row.user.number()),
+    ) && !has_ungiven_blob(meta.next_blob, row.content.pieces())
 }
 
 fn is_recipient_given(meta: &MetaRow, to: &ShareKind) -> bool

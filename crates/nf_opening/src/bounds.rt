@@ -1,37 +1,49 @@
-//! The rule that the versions of a user's files are within half of what the charge leaves of the quota.
+//! The rule that the versions of a user's files are within half of what the charge leaves of the quota, and the trash within half of it.
 
-ghost use Rattle.std.specs.Prelude.{◌≡◌, ◌==◌, ◌+◌, ◌<◌, ◌^◌, ℕ, IfOk, OnOk, if◌then◌else◌};
+ghost use Rattle.std.specs.Prelude.{◌≡◌, ◌==◌, ◌<◌, ℕ, IfOk};
 ghost use Rattle.std.specs.List.{list_any};
 ghost use Rattle.std.specs.BTreeSet.{contains};
 ghost use Rattle.std.specs.Ordering.{nat_cmp};
 ghost use Rattle.nf_defs.specs.Prelude.{AreRising, is_present, owner_of};
 ghost use Rattle.nf_words.specs.Charges.{charge_of, quota_of};
-ghost use Rattle.nf_rules.specs.Rules.{held_bytes, is_unsettled};
-ghost use Rattle.nf_opening.specs.Bounds.{AreBounds, total_of};
+ghost use Rattle.nf_rules.specs.Rules.{held_bytes, is_heaped, is_unsettled};
+ghost use Rattle.nf_opening.specs.Bounds.{AreBounds};
+ghost use Rattle.nf_opening.specs.Heaps.{AreTops};
+ghost use Rattle.nf_opening.specs.Totals.{total_of};
 
 use crate::Loaded;
+use crate::heaps::heaps;
 use crate::sharing::parent_of;
-use nf_base::{MAX_DEPTH, NodeId, UserId, UserRow, VersionRow};
+use crate::totals::{add, total};
+use nf_base::{ItemRow, MAX_DEPTH, NodeId, UserId, UserRow, VersionRow};
 use std::alloc::{AllocError, Global};
 use std::collections::{BTreeMap, BTreeSet};
 
-/// What the bounds of versions are told by, in bytes.
+/// What the bounds of versions and of trashes are told by, in bytes.
 #[derive(Drop)]
 pub(crate) struct Bounds {
     /// What the versions of each owner have.
     held: BTreeMap<u32, u128>,
     /// What each owner who has versions is charged for.
     charges: BTreeMap<u32, u128>,
+    /// What the items of each owner have, each with all under it.
+    trashes: BTreeMap<u32, u128>,
 }
 
 impl Bounds {
     pub(crate) fn of(alloc: Global, loaded: &Loaded) -> Result<Self, AllocError>
-        requires { AreRising loaded.now }
+        requires rising { AreRising loaded.now }
+        requires tops { AreTops loaded.now }
         ensures { IfOk result (AreBounds loaded.now) }
     {
         let held = held_bytes(alloc, loaded)?;
         let charges = charges(alloc, loaded, &held)?;
-        Ok(Bounds { held, charges })
+        let trashes = heaps(alloc, loaded)?;
+        Ok(Bounds {
+            held,
+            charges,
+            trashes,
+        })
     }
 
     /// Whether the version is one of more bytes than its owner's may have.
@@ -43,6 +55,15 @@ impl Bounds {
         let owner = owner_of(loaded, row.node);
         let quota = u128::from(quota_of(loaded, owner));
         total(&self.held, owner) > quota.saturating_sub(total(&self.charges, owner)) / 2
+    }
+
+    /// Whether the item is one of more bytes than its owner's trash may have.
+    pub(crate) fn are_heaped(&self, loaded: &Loaded, row: &ItemRow) -> bool
+        requires rising { AreRising loaded.now }
+        requires bounds { AreBounds loaded.now self.now }
+        ensures { result ≡ is_heaped loaded.now row.now.owner }
+    {
+        total(&self.trashes, row.owner) > u128::from(quota_of(loaded, row.owner) / 2)
     }
 }
 
@@ -97,26 +118,6 @@ fn quota_of(loaded: &Loaded, user: UserId) -> u64
         Some(row) => row.quota,
         None => 0,
     }
-}
-
-/// The bytes of an owner.
-fn total(totals: &BTreeMap<u32, u128>, owner: UserId) -> u128
-    ensures { result ≡ total_of totals.now owner }
-{
-    match totals.get(&owner.number()) {
-        Some(bytes) => *bytes,
-        None => 0,
-    }
-}
-
-/// An owner has so many bytes more.
-fn add(totals: &mut BTreeMap<u32, u128>, owner: UserId, bytes: u64) -> Result<(), AllocError>
-    requires { total_of totals.old owner + bytes < 2 ^ 128 }
-    ensures { OnOk result ((other : ℕ) → total_of totals.new other ≡ (if owner == other then total_of totals.old owner + bytes else total_of totals.old other)) }
-{
-    let more = total(totals, owner) + u128::from(bytes);
-    totals.insert(owner.number(), more)?;
-    Ok(())
 }
 
 /// The roots of users.

@@ -4,8 +4,10 @@
 mod again;
 mod alone;
 mod bounds;
+mod counts;
 mod fault;
 mod first;
+mod heaps;
 mod judging;
 mod keys;
 mod limits;
@@ -15,6 +17,8 @@ mod numbered;
 mod placed;
 mod present;
 mod sharing;
+mod totals;
+mod uploads;
 
 pub use fault::{Broken, SiteFault};
 pub use judging::judge;

@@ -3,15 +3,16 @@
 ghost use Rattle.std.specs.Prelude.{◌≡◌, IfOk, OnOk, is_some, option_copied};
 ghost use Rattle.nf_access.specs.Shares.{share_row};
 ghost use Rattle.nf_defs.specs.Prelude.{AreRising, item_row, no_rows, node_row, put_row, tables_of, user_row};
-ghost use Rattle.nf_rules.specs.Rules.{is_group};
+ghost use Rattle.nf_rules.specs.Rules.{is_group, is_upload};
 ghost use Rattle.nf_words.specs.Sound.{root_of_user};
 
 use crate::numbered::find_row;
+use crate::uploads::UploadKey;
 use nf_base::{
-    BlobId, ChunkRow, GroupId, GroupRow, ItemRow, MemberRow, MetaRow, Moment, MountRow, NodeId,
-    NodeRow, Row, ShareId, ShareRow, TokenRow, UploadRow, UserId, UserRow, VersionRow,
+    BlobId, ChunkRow, GroupId, GroupRow, ItemRow, MemberRow, MetaRow, Moment, MountRow, Name,
+    NodeId, NodeRow, Row, ShareId, ShareRow, TokenRow, UploadRow, UserId, UserRow, VersionRow,
 };
-use nf_defs::put;
+use nf_defs::{has_row, put};
 use std::alloc::{AllocError, Global};
 use std::marker::Model;
 
@@ -164,5 +165,13 @@ impl Loaded {
         ensures { result ≡ is_some (item_row self.now.items node) }
     {
         find_row(&self.items, node.number()).is_some()
+    }
+
+    /// Whether the user has an upload under that name.
+    pub(crate) fn has_upload(&self, user: UserId, dir: &Name) -> bool
+        requires { AreRising self.now }
+        ensures { result ≡ is_upload self.now user dir.now }
+    {
+        has_row(&self.uploads, &UploadKey { user, dir })
     }
 }

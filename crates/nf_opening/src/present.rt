@@ -31,6 +31,8 @@ fn names_are_there(loaded: &Loaded, row: &Row) -> bool
         Row::Mount(row) => loaded.user(row.user).is_some(),
         Row::Version(row) => loaded.node(row.node).is_some(),
         Row::Item(row) => loaded.user(row.owner).is_some() && loaded.node(row.node).is_some(),
+        Row::Upload(row) => loaded.user(row.user).is_some(),
+        Row::Chunk(row) => loaded.has_upload(row.user, &row.dir),
         _ => true,
     }
 }

@@ -73,6 +73,7 @@ bodies_of m x head begun body n begins bodies = subst (λ (q : Begun). Bodies m 
 -- what is written behind the invitation
 invited_waits : (head : Head) (begun : Begun) → is_invited head begun ≡ true → expects_continue head ≡ true
 invited_waits head (begun.Asked (Ok (reply.Granted (goal.Store by key n)))) is = is
+invited_waits head (begun.Asked (Ok (reply.Granted (goal.Chunk user dir number n)))) is = is
 invited_waits head other is = absurd (cc)
 
 record Behind (head : Head) (begun : Begun) (answer : List ℕ) : Type 0 where

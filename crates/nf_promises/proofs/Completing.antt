@@ -11,11 +11,10 @@ use Rattle.nf_dav.specs.declared.replies.Manner.{Manner}
 use Rattle.nf_http.specs.Bodies.{TakesBody}
 use Rattle.nf_http.specs.Head.{Head, closes_session}
 use Rattle.nf_outside.specs.Lent.{Taken}
-use Rattle.nf_words.specs.declared.answer.By.{By}
 use Rattle.nf_words.specs.declared.answer.Denial.{Denial}
 use Rattle.nf_words.specs.declared.answer.Denial.TheVariants as denial
+use Rattle.nf_words.specs.declared.answer.Goal.{Goal}
 use Rattle.nf_words.specs.declared.answer.Goal.TheVariants as goal
-use Rattle.nf_words.specs.declared.answer.LockKey.{LockKey}
 use Rattle.nf_words.specs.declared.answer.Reply.TheVariants as reply
 use Rattle.nf_words.specs.declared.history.Event.TheVariants.{Begin}
 use Rattle.nf_words.specs.declared.request.Request.{Request}
@@ -196,15 +195,15 @@ module _ {C : Type 0} (reads : C → Taken → C → Type 0) (last : Bool) (head
           piece_wanting a b nothing whole x k piece why before (calm_then k s b (calm_of (writes_go _ (response.Lost why) k s wrote)) behind) waits.lasts fails
   file_said content other end x k s before behind fronts starts writes = absurd (starts_other x.book k.book content other starts.starts)
 
-  body_said : (by : By) (key : LockKey) (size : ℕ) (body : List ℕ) (v : Response) (end : Option Ended) (x k s : Scene C)
+  body_said : (granted : Goal) (size : ℕ) (body : List ℕ) (v : Response) (end : Option Ended) (x k s : Scene C)
       → Calm a x → Calm k b → Fronts (invitation head) k s a b → TakesBody a.input b.input size body → StoresBody reads body x k v
-      → Writes {T = Unit {0}} (manner_of last (way_of head (begun.Asked (Ok (reply.Granted (goal.Store by key size))))) v) v k s (Ok tt)
+      → Writes {T = Unit {0}} (manner_of last (way_of head (begun.Asked (Ok (reply.Granted granted)))) v) v k s (Ok tt)
       → IsWanting head a b end ⊎ SaysStored head (last || closes_session head) size a b
-  body_said by key size body v end x k s before behind fronts takes (now, answer, read, ends, is, only) writes =
+  body_said granted size body v end x k s before behind fronts takes (now, answer, read, ends, is, only) writes =
       here (step_known a b nothing whole x k now (event_of_body body) answer before behind ends.enters)
     where
       way : Way
-      way = way_of head (begun.Asked (Ok (reply.Granted (goal.Store by key size))))
+      way = way_of head (begun.Asked (Ok (reply.Granted granted)))
 
       says : (answer : Answer) → IsOfBody answer → IsResponse answer v → SaysEnd head (last || closes_session head) answer a b
       says (Err refusal) of is = refusal_written (invitation head) last way refusal v a k s b fronts is writes
@@ -237,7 +236,9 @@ module _ {C : Type 0} (reads : C → Taken → C → Type 0) (last : Bool) (head
   answer_said (Ok (reply.Granted (goal.Serve content))) v end x k s body before taken sent fronts takes starts writes =
       file_said content v end x k s before sent fronts starts writes
   answer_said (Ok (reply.Granted (goal.Store by key size))) v end x k s body before taken sent fronts takes stores writes =
-      body_said by key size body v end x k s before taken fronts takes stores writes
+      body_said (goal.Store by key size) size body v end x k s before taken fronts takes stores writes
+  answer_said (Ok (reply.Granted (goal.Chunk user dir number size))) v end x k s body before taken sent fronts takes stores writes =
+      body_said (goal.Chunk user dir number size) size body v end x k s before taken fronts takes stores writes
   answer_said (Err refusal) v end x k s body before taken sent fronts takes (is, same) writes =
       inr (refusal_written [] last (way_of head (begun.Asked (Err refusal))) refusal v a k s b fronts is writes)
   answer_said (Ok word) v end x k s body before taken sent fronts takes passes writes =

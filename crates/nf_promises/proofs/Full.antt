@@ -35,7 +35,6 @@ close_not_full false is = cc
 
 denial_full : (closes : Bool) (refusal : Denial) → end_of_denial closes refusal ≡ Some ended.RunFull → refusal ≡ denial.RunFull
 denial_full closes denial.RunFull is = refl
-denial_full closes denial.NotBuilt is = absurd (cc)
 denial_full closes other is = absurd (close_not_full closes is)
 
 response_full : (closes : Bool) (v : Response) → end_of closes v ≡ Some ended.RunFull → v ≡ response.Denied denial.RunFull
@@ -77,6 +76,9 @@ passes_full reads body a b (begun.Unasked refusal) (is, same) = cc
 passes_full reads body a b (begun.Asked (Ok (reply.Granted (goal.Serve content)))) starts =
     absurd (starts_not_full a.book b.book content starts.starts)
 passes_full reads body a b (begun.Asked (Ok (reply.Granted (goal.Store by key length)))) (now, answer, read, ends, is, only) =
+    let enters = ends.enters in
+    absurd (end_not_full (state_after a.book enters.others) enters.entry _ enters.event_is (sym enters.answer_is ∙ answer_full answer is))
+passes_full reads body a b (begun.Asked (Ok (reply.Granted (goal.Chunk user dir number length)))) (now, answer, read, ends, is, only) =
     let enters = ends.enters in
     absurd (end_not_full (state_after a.book enters.others) enters.entry _ enters.event_is (sym enters.answer_is ∙ answer_full answer is))
 passes_full reads body a b (begun.Asked answer) passes = answer_full answer passes.0

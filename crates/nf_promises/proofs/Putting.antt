@@ -28,7 +28,7 @@ use Rattle.nf_words.specs.declared.answer.Allowed.TheVariants as allowed
 use Rattle.nf_words.specs.declared.answer.By.{By}
 use Rattle.nf_words.specs.declared.answer.Denial.{Denial}
 use Rattle.nf_words.specs.declared.answer.Denial.TheVariants as denial
-use Rattle.nf_words.specs.declared.answer.Goal.TheVariants.{Serve, Store}
+use Rattle.nf_words.specs.declared.answer.Goal.TheVariants.{Chunk, Serve, Store}
 use Rattle.nf_words.specs.declared.answer.LockKey.{LockKey}
 use Rattle.nf_words.specs.declared.answer.LockKey.TheVariants.{Node, Slot}
 use Rattle.nf_words.specs.declared.answer.Reply.{Reply}
@@ -74,7 +74,9 @@ put_only other by key size is = absurd (cc)
 
 -- the answers of a PUT's Begin, but for refusals
 abbrev pub IsOfPut : Reply → Type 0
-IsOfPut (Granted goal) = Unit {0}
+IsOfPut (Granted (Serve content)) = Unit {0}
+IsOfPut (Granted (Store by key length)) = Unit {0}
+IsOfPut (Granted (Chunk user dir number length)) = ⊥
 IsOfPut Closed = Unit {0}
 IsOfPut Made = ⊥
 IsOfPut Done = ⊥
@@ -253,13 +255,14 @@ put_is_got count more s first second words caller spot n by key size body sound 
     let root = root_of (call_of s first.seat first.moment words (put_of caller spot n)) in
     let granted = put_granted count s first words caller spot n by key size sound own may_first event_first granted_is in
     let sound_middle : IsSound middle = sound_after count s first sound may_first in
+    let goal : goal_at middle second.seat ≡ Some (Store by key (length body)) =
+    ap (goal_at middle) seat ∙ granted.goal ∙ ap (λ (l : ℕ). Some (Store by key l)) (sym long) in
     let changes =
-    end_allowed middle second (after middle second).tables (Body (sha256 body) (length body)) event (changes_allowed more middle second sound_middle may) in
+    end_allowed middle second (after middle second).tables (Body (sha256 body) (length body)) event (λ user dir number length is. cc)
+    (changes_allowed more middle second sound_middle may) in
     let marked : second.mark ≡ mark.Answered = ok_marked middle second ok in
     let accepted : IsOk (answer_to middle second.seat second.moment second.event) =
     subst (λ (m : Mark). IsOk (answer_at middle second m)) marked ok in
-    let goal : goal_at middle second.seat ≡ Some (Store by key (length body)) =
-    ap (goal_at middle) seat ∙ granted.goal ∙ ap (λ (l : ℕ). Some (Store by key l)) (sym long) in
     let goes : decision_of middle second.seat second.moment second.event ≡ stores (access_of middle) t second.moment by key (sha256 body) (length body) =
     ap (decision_of middle second.seat second.moment) event
     ∙ ap (ends_at (access_of middle) t second.moment (Body (sha256 body) (length body))) goal in

@@ -35,7 +35,6 @@ close_not_bad false e = cc
 
 denial_not_bad : (closes : Bool) (d : Denial) → end_of_denial closes d ≡ Some ended.BadMessage → ⊥
 denial_not_bad closes denial.RunFull e = cc
-denial_not_bad closes denial.NotBuilt e = cc
 denial_not_bad closes other e = close_not_bad closes e
 
 end_not_bad : (closes : Bool) (v : Response) → end_of closes v ≡ Some ended.BadMessage → ⊥
@@ -63,6 +62,8 @@ body_truncated old new n other a b cuts ends = read_truncated old new n other a 
 cut_truncated : {C : Type 0} (begun : Begun) (old new : Option (List ℕ)) (n : ℕ) (fault : WireFault) (a b : Scene C)
     → cutting begun old new n fault → EndsBy fault a b ended.BadMessage → fault ≡ wire.Truncated
 cut_truncated (begun.Asked (Ok (reply.Granted (goal.Store by key length)))) old new n fault a b cuts ends =
+    body_truncated old new n fault a b cuts ends
+cut_truncated (begun.Asked (Ok (reply.Granted (goal.Chunk user dir number length)))) old new n fault a b cuts ends =
     body_truncated old new n fault a b cuts ends
 cut_truncated other old new n fault a b cuts ends = read_truncated old new n fault a b cuts ends
 

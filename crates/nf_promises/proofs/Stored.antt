@@ -74,6 +74,8 @@ module _ {C : Type 0} (reads : C → Taken → C → Type 0) where
       absurd (plain_other v plain (starts_other x.book b.book content v starts.starts))
   passes_tells head early (begun.Asked (Ok (reply.Granted (goal.Store by key length)))) v body a m x b judges same stores plain =
       stores.3.enters.rows
+  passes_tells head early (begun.Asked (Ok (reply.Granted (goal.Chunk user dir number length)))) v body a m x b judges same stores plain =
+      stores.3.enters.rows
   passes_tells head early (begun.Asked (Err refusal)) v body a m x b judges same passes plain = absurd (subst IsPlain passes.0 plain)
   passes_tells head early (begun.Asked (Ok word)) v body a m x b (r, now, words, asked, read, begins, only) same passes plain =
       subst Tells (sym (ap (λ (y : Scene C). y.book) passes.1 ∙ same)) begins.entry.rows

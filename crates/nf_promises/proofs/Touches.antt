@@ -40,6 +40,7 @@ pub passes_only : {C : Type 0} (reads : C → Taken → C → Type 0) (body : Li
 passes_only reads body a b (begun.Unasked refusal) v (is, same) = asks_none a b same
 passes_only reads body a b (begun.Asked (Ok (reply.Granted (goal.Serve content)))) v starts = asks_book a b starts.only
 passes_only reads body a b (begun.Asked (Ok (reply.Granted (goal.Store by key length)))) v (now, answer, read, ends, is, only) = only
+passes_only reads body a b (begun.Asked (Ok (reply.Granted (goal.Chunk user dir number length)))) v (now, answer, read, ends, is, only) = only
 passes_only reads body a b (begun.Asked other) v passes = asks_none a b passes.1
 
 pub closes_only : {C : Type 0} (reads : C → Taken → C → Type 0) (how : Ending) (granted : Bool) (a b : Scene C) → Closes reads how granted a b

@@ -148,7 +148,6 @@ close_well false = tt
 
 denial_well : (closes : Bool) (refusal : Denial) → IsWell (end_of_denial closes refusal)
 denial_well closes denial.RunFull = tt
-denial_well closes denial.NotBuilt = tt
 denial_well closes other = close_well closes
 
 response_well : (closes : Bool) (v : Response) → IsWell (end_of closes v)

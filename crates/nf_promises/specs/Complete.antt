@@ -17,7 +17,7 @@ use Rattle.nf_session.specs.declared.ended.Ended.{Ended}
 use Rattle.nf_session.specs.declared.ended.Ended.TheVariants as ended
 use Rattle.nf_words.specs.Prelude.{answer_to}
 use Rattle.nf_words.specs.declared.answer.Denial.TheVariants as denial
-use Rattle.nf_words.specs.declared.answer.Goal.TheVariants.{Serve, Store}
+use Rattle.nf_words.specs.declared.answer.Goal.TheVariants.{Chunk, Serve, Store}
 use Rattle.nf_words.specs.declared.answer.Reply.TheVariants as reply
 use Rattle.nf_words.specs.declared.history.Entry.{Entry}
 use Rattle.nf_words.specs.declared.history.Event.{Event}
@@ -91,6 +91,7 @@ Says head close (Ok (reply.Versions lines)) a b = Appends a.output b.output (ver
 Says head close (Ok reply.Plain) a b = Appends a.output b.output (plain_reply close)
 Says head close (Ok (reply.Granted (Serve content))) a b = SaysFile close content a b
 Says head close (Ok (reply.Granted (Store by key size))) a b = SaysStored head close size a b
+Says head close (Ok (reply.Granted (Chunk user dir number size))) a b = SaysStored head close size a b
 Says head close (Ok reply.Closed) a b = ⊥
 Says head close (Err refusal) a b = (manner : Manner) × Appends a.output b.output (refusal_reply manner refusal)
 
@@ -133,7 +134,6 @@ abbrev pub IsWell : Option Ended → Type 0
 IsWell None = Unit {0}
 IsWell (Some ended.Closed) = Unit {0}
 IsWell (Some ended.BadMessage) = Unit {0}
-IsWell (Some ended.NotBuilt) = Unit {0}
 IsWell (Some ended.RunFull) = Unit {0}
 IsWell (Some ended.Memory) = Unit {0}
 IsWell (Some other) = ⊥

@@ -121,7 +121,7 @@ impl<'a> Asker<'a> {
     {
         match makes {
             Making::Nothing => None,
-            Making::File { .. } => match node_found(&way.place) {
+            Making::File { .. } | Making::Assembled => match node_found(&way.place) {
                 Some(_) => self.refused_found(Act::Update, way),
                 None => self.refused_in(way),
             },

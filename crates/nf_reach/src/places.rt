@@ -1,7 +1,6 @@
 //! What the paths of a request lead to, and whether that is reached and there.
 
-ghost use Rattle.std.specs.Prelude.{◌≡◌, option_copied, option_and_then};
-ghost use Rattle.std.specs.Option.{option_or};
+ghost use Rattle.std.specs.Prelude.{◌≡◌, option_and_then};
 ghost use Rattle.nf_reach.specs.Asking.{source_refusal, target_refusal, unreached_for};
 ghost use Rattle.nf_words.specs.Places.{source_lost, target_lost};
 
@@ -61,19 +60,17 @@ impl<'a> Asker<'a> {
         }
     }
 
-    /// Why what the paths of a request lead to isn't reached, or isn't there: that of what it acts upon first.
-    pub fn places(&self, asked: &Asked<'_>, ways: &Ways) -> Option<Denial>
-        ensures { result ≡ option_or (option_and_then (source_refusal self.now asked.now.removes) ways.now.source) (option_and_then (target_refusal self.now) ways.now.target) }
+    /// Why what a request acts upon isn't reached, or isn't there.
+    pub fn source_lost(&self, asked: &Asked<'_>, ways: &Ways) -> Option<Denial>
+        ensures { result ≡ option_and_then (source_refusal self.now asked.now.removes) ways.now.source }
     {
-        match self.source_refused_on(asked.removes, ways.source.as_ref()) {
-            Some(refusal) => Some(refusal),
-            None => self.target_refusal(ways.target.as_ref()?),
-        }
+        self.source_refusal(asked.removes, ways.source.as_ref()?)
     }
 
-    fn source_refused_on(&self, removes: bool, source: Option<&Way>) -> Option<Denial>
-        ensures { result ≡ option_and_then (source_refusal self.now removes) (option_copied source.entry) }
+    /// Why the place of what it makes or stores isn't reached, or has no folder.
+    pub fn target_lost(&self, ways: &Ways) -> Option<Denial>
+        ensures { result ≡ option_and_then (target_refusal self.now) ways.now.target }
     {
-        self.source_refusal(removes, source?)
+        self.target_refusal(ways.target.as_ref()?)
     }
 }

@@ -78,6 +78,13 @@ behind_versions target = option_and_then (behind (codes "/remote.php/dav/version
 abbrev pub version_segments : List ℕ → List (List ℕ)
 version_segments target = option_map_or decoded_segments (behind_versions target) []
 
+-- what is behind the words of the uploads, and the decoded segments there: the names of a user, of an upload and of a chunk
+abbrev pub behind_uploads : List ℕ → Option (List ℕ)
+behind_uploads target = option_and_then (behind (codes "/remote.php/dav/uploads/")) (target_path target)
+
+abbrev pub upload_segments : List ℕ → List (List ℕ)
+upload_segments target = option_map_or decoded_segments (behind_uploads target) []
+
 -- the segments in either of what comes back by a user: the name, a word as it was sent, and whatever else
 abbrev pub is_restore_of : List ℕ → List (List ℕ) → Bool
 is_restore_of user (name ∷ word ∷ any ∷ []) = bytes_eq word (codes "restore") && bytes_eq (percent_decode name) user

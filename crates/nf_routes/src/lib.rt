@@ -9,5 +9,5 @@ pub use methods::{Method, allow, method_of, takes};
 pub use mounts::Routes;
 pub use targets::{
     is_ocs, pieces, query, restores, restores_version, segments, share_segment, trash_segments,
-    user_segment, version_segments,
+    upload_segments, user_segment, version_segments,
 };

@@ -3,7 +3,7 @@
 ghost use Rattle.std.specs.Prelude.{◌≡◌, ◌<◌, IfOk, IfSome, codes, length, map, option_and_then, option_copied, position};
 ghost use Rattle.std.specs.List.{before_first, slice_split};
 ghost use Rattle.percent_encoding.specs.Percent.{percent_decode};
-ghost use Rattle.nf_routes.specs.Targets.{behind, behind_files as in_files, behind_trashbin as in_trashbin, behind_versions as in_versions, decoded_segments, from_slash, is_ocs as begins_with_ocs, is_question, is_slash, path_in, query_of, is_restore_of, restores, restores_version, segments_of, share_segment as segment_of_share, target_path, trash_segments as segments_of_trash, user_segment as segment_of_user, version_segments as segments_of_version, whole_path, without_slash};
+ghost use Rattle.nf_routes.specs.Targets.{behind, behind_files as in_files, behind_trashbin as in_trashbin, behind_uploads as in_uploads, behind_versions as in_versions, decoded_segments, from_slash, is_ocs as begins_with_ocs, is_question, is_slash, path_in, query_of, is_restore_of, restores, restores_version, segments_of, share_segment as segment_of_share, target_path, trash_segments as segments_of_trash, upload_segments as segments_of_upload, user_segment as segment_of_user, version_segments as segments_of_version, whole_path, without_slash};
 
 use std::alloc::{AllocError, Global};
 
@@ -18,6 +18,8 @@ const USERS: &[u8] = b"/ocs/v2.php/cloud/users/";
 const TRASHBIN: &[u8] = b"/remote.php/dav/trashbin/";
 
 const VERSIONS: &[u8] = b"/remote.php/dav/versions/";
+
+const UPLOADS: &[u8] = b"/remote.php/dav/uploads/";
 
 const OCS: &[u8] = b"/ocs/v2.php/";
 
@@ -47,6 +49,16 @@ pub fn version_segments(alloc: Global, target: &[u8]) -> Result<Vec<Vec<u8>>, Al
     ensures { IfOk result (λ segments. map (λ segment. segment.items) segments.items ≡ segments_of_version target.now) }
 {
     match behind_versions(target) {
+        Some(rest) => decoded_pieces(alloc, rest),
+        None => Ok(Vec::new(alloc)),
+    }
+}
+
+/// The segments of a path to uploads, decoded: the names of a user, of an upload and of a chunk; none of any other target.
+pub fn upload_segments(alloc: Global, target: &[u8]) -> Result<Vec<Vec<u8>>, AllocError>
+    ensures { IfOk result (λ segments. map (λ segment. segment.items) segments.items ≡ segments_of_upload target.now) }
+{
+    match behind_uploads(target) {
         Some(rest) => decoded_pieces(alloc, rest),
         None => Ok(Vec::new(alloc)),
     }
@@ -180,6 +192,13 @@ fn behind_versions(target: &[u8]) -> Option<&[u8]>
     ensures { option_copied result ≡ in_versions target.now }
 {
     target_path(target)?.strip_prefix(VERSIONS)
+}
+
+// What is behind the words of the uploads.
+fn behind_uploads(target: &[u8]) -> Option<&[u8]>
+    ensures { option_copied result ≡ in_uploads target.now }
+{
+    target_path(target)?.strip_prefix(UPLOADS)
 }
 
 fn before_slash(path: &[u8]) -> &[u8]

@@ -11,11 +11,13 @@ use Rattle.nf_base.specs.declared.rows.ItemRow.{ItemRow}
 use Rattle.nf_base.specs.declared.rows.NodeRow.{NodeRow}
 use Rattle.nf_base.specs.declared.rows.Place.{Place}
 use Rattle.nf_base.specs.declared.rows.ShareRow.{ShareRow}
+use Rattle.nf_base.specs.declared.rows.UploadRow.{UploadRow}
 use Rattle.nf_base.specs.declared.rows.UserRow.{UserRow}
 use Rattle.nf_defs.proofs.Puts.{all_put}
 use Rattle.nf_defs.specs.Prelude.{folder_of, is_under, item_key, node_row, put, relinked, Tables, user_key, user_row}
 use Rattle.nf_defs.specs.Tree.{trashed}
 use Rattle.nf_laws.proofs.Copied.{old_joined}
+use Rattle.nf_laws.proofs.Each.{NoStore}
 use Rattle.nf_laws.proofs.Going.{purged_rest}
 use Rattle.nf_laws.proofs.Gone.{row_gone, row_left}
 use Rattle.nf_laws.proofs.InTurn.{deed_moment, Fit, fit_sound, InTurn, Joins}
@@ -26,8 +28,8 @@ use Rattle.nf_laws.proofs.Puts.{number_found}
 use Rattle.nf_laws.proofs.Rows.{folder_there, found_is, none_higher, row_is, stamp}
 use Rattle.nf_laws.specs.Numbers.{AreHigher}
 use Rattle.nf_words.proofs.Known.{KnownDeeds, KnownLeaving, KnownSettled}
-use Rattle.nf_words.proofs.Known.KnownDeeds.{by_copying, by_crossing, by_going, by_leaving, by_moving, by_requoting, by_restoring}
-use Rattle.nf_words.specs.Prelude.{AreSound, beside, besides, copies_to, deed_done, deeds_done, discard, discarded, discards, goes_itself, IsPlaceSound, IsRequoted, item_for, joined, purged, purges, restored, row_at, forgotten, forgets}
+use Rattle.nf_words.proofs.Known.KnownDeeds.{by_abandoning, by_copying, by_crossing, by_going, by_joining, by_leaving, by_moving, by_requoting, by_restoring, by_sweeping}
+use Rattle.nf_words.specs.Prelude.{abandoned, abandons, AreSound, beside, besides, copies_to, deed_done, deeds_done, discard, discarded, discards, goes_itself, IsPlaceSound, IsRequoted, item_for, joined, purged, purges, restored, row_at, forgotten, forgets}
 use Rattle.nf_words.specs.declared.answer.Deed.{Deed}
 use Rattle.nf_words.specs.declared.answer.Deed.TheVariants as deed
 use Rattle.nf_rules.specs.Ruled.{AreOrdered, IsItemRuled}
@@ -166,9 +168,10 @@ requoted_ruled t row h is modest sound =
     (ap (user_row t.users) (sym id) ∙ is.there) modest
     (ap (λ (r : UserRow). record t { users = put user_key r t.users }) is.same)
 
--- no quota that the deed gives is beyond the greatest
+-- no quota that the deed gives is beyond the greatest; of one that stores changes that isn't told here
 abbrev IsModestDeed : Deed → Type 0
 IsModestDeed (deed.Requote row) = row.quota ≤ MAX_QUOTA
+IsModestDeed (deed.Store changes) = ⊥
 IsModestDeed other = Unit {0}
 
 abbrev AreModestDeeds : List Deed → Type 0
@@ -196,26 +199,26 @@ module _ (t : Tables) (now : ℕ) where
   modest_besides (Some row) = modest_purges _
 
   -- what gives one is the first of the deeds, and no user is another after it
-  modest_deeds : (deeds : List Deed) → KnownDeeds t now deeds → AreModest (deeds_done t deeds) → AreModestDeeds deeds
-  modest_deeds _ (by_going nodes goes) modest = modest_purges nodes
-  modest_deeds _ (by_leaving row known) modest = modest_then (discard t now row) (beside t now row) (modest_discard row) (modest_purges _)
-  modest_deeds _ (by_restoring node folder name gone known goes others) modest =
+  modest_deeds : (deeds : List Deed) → KnownDeeds t now deeds → All NoStore deeds → AreModest (deeds_done t deeds) → AreModestDeeds deeds
+  modest_deeds _ (by_going nodes goes) none modest = modest_purges nodes
+  modest_deeds _ (by_leaving row known) none modest = modest_then (discard t now row) (beside t now row) (modest_discard row) (modest_purges _)
+  modest_deeds _ (by_restoring node folder name gone known goes others) none modest =
       modest_then (deed.Restore node folder name) (purges gone) tt (modest_purges gone)
-  modest_deeds _ (by_requoting row gone known goes) modest =
+  modest_deeds _ (by_requoting row gone known goes) none modest =
       let users = ap (λ (u : Tables). u.users) (purged_rest (deed_done t (deed.Requote row)) gone) in
       modest_then (deed.Requote row) (purges gone)
       (found_is (λ (r : UserRow). r.quota ≤ MAX_QUOTA) (λ (r : UserRow). r.id == row.id) (put user_key row t.users) row
       (subst (All (λ (r : UserRow). r.quota ≤ MAX_QUOTA)) users modest) (number_found (λ (r : UserRow). r.id) row t.users)).1
       (modest_purges gone)
-  modest_deeds _ (by_moving transfer name known) modest =
+  modest_deeds _ (by_moving transfer name known) none modest =
       let one = deed.Relink transfer.node transfer.folder name in
       modest_discards (row_at t transfer.replaced) (one ∷ besides t now transfer.replaced)
       (modest_then one (besides t now transfer.replaced) tt (modest_besides (row_at t transfer.replaced)))
-  modest_deeds _ (by_copying transfer name known) modest =
+  modest_deeds _ (by_copying transfer name known) none modest =
       let one = deed.Join (copies_to t now transfer name) in
       modest_discards (row_at t transfer.replaced) (one ∷ besides t now transfer.replaced)
       (modest_then one (besides t now transfer.replaced) tt (modest_besides (row_at t transfer.replaced)))
-  modest_deeds _ (by_crossing transfer name known) modest =
+  modest_deeds _ (by_crossing transfer name known) none modest =
       let one = deed.Join (copies_to t now transfer name) in
       let from = row_at t (Some transfer.node) in
       let rest = besides t now transfer.replaced ++ besides t now (Some transfer.node) in
@@ -224,6 +227,12 @@ module _ (t : Tables) (now : ℕ) where
       (modest_discards from rest
       (All-append IsModestDeed (besides t now transfer.replaced) (besides t now (Some transfer.node))
       (modest_besides (row_at t transfer.replaced)) (modest_besides from))))
+  modest_deeds _ (by_joining changes user dir known there) none modest =
+      absurd (All-head NoStore (deed.Store changes) (deed.Abandon user dir ∷ []) none)
+  modest_deeds _ (by_abandoning user dir there) none modest = modest_then (deed.Abandon user dir) [] tt (All-nil IsModestDeed)
+  modest_deeds _ (by_sweeping nodes rows goes idle) none modest =
+      All-append IsModestDeed (purges nodes) (abandons rows) (modest_purges nodes)
+      (All-map IsModestDeed (λ (row : UploadRow). deed.Abandon row.user row.dir) rows (λ k d within. tt))
 
 -- ---- versions
 
@@ -233,13 +242,28 @@ forgotten_ruled t node at h sound =
     let up = none_higher t.meta t.meta.last in
     ended_ruled t made (λ share. share) (λ share. inl refl) h sound up (none_ends t) refl (items_stay t made h up (λ item given kept. kept))
 
+-- ---- uploads
+
+abandoned_ruled : (t : Tables) (user : ℕ) (dir : List ℕ) → AreOrdered t → AreSound (abandoned t user dir) → AreOrdered (abandoned t user dir)
+abandoned_ruled t user dir h sound =
+    let made = abandoned t user dir in
+    let up = none_higher t.meta t.meta.last in
+    ended_ruled t made (λ share. share) (λ share. inl refl) h sound up (none_ends t) refl (items_stay t made h up (λ item given kept. kept))
+
+-- what the first of some have
+all_first : {X : Type 0} (P : X → Type 0) (xs ys : List X) → All P (xs ++ ys) → All P xs
+all_first P [] ys all = All-nil P
+all_first P (x ∷ xs) ys all = All-cons P x xs (All-head P x (xs ++ ys) all) (all_first P xs ys (All-tail P x (xs ++ ys) all))
+
 -- those that go give no quota
-modest_settled : (t : Tables) (now : ℕ) (deeds : List Deed) → KnownSettled t now deeds → AreModest (deeds_done t deeds) → AreModestDeeds deeds
-modest_settled t now deeds known modest =
+modest_settled : (t : Tables) (now : ℕ) (deeds : List Deed) → KnownSettled t now deeds → All NoStore deeds → AreModest (deeds_done t deeds)
+    → AreModestDeeds deeds
+modest_settled t now deeds known none modest =
     let users = ap (λ (u : Tables). u.users) (ap (deeds_done t) known.are ∙ behind_only t known.first known.gone) in
     subst AreModestDeeds (sym known.are)
     (All-append IsModestDeed known.first (forgets known.gone)
-    (modest_deeds t now known.first known.known (subst (All (λ (row : UserRow). row.quota ≤ MAX_QUOTA)) users modest))
+    (modest_deeds t now known.first known.known
+    (all_first NoStore known.first (forgets known.gone) (subst (All NoStore) known.are none)) (subst (All (λ (row : UserRow). row.quota ≤ MAX_QUOTA)) users modest))
     (All-map IsModestDeed (λ (version : Version). deed.Forget version.node version.at) known.gone (λ k d within. tt)))
 
 -- ---- a deed, and those of a step
@@ -254,6 +278,8 @@ deed_ruled t now (deed.Relink node folder name) h fit modest sound = relinked_ru
 deed_ruled t now (deed.Join rows) h joins modest sound = joined_ruled t now rows h joins sound
 deed_ruled t now (deed.Requote row) h is modest sound = requoted_ruled t row h is modest sound
 deed_ruled t now (deed.Forget node at) h fit modest sound = forgotten_ruled t node at h sound
+deed_ruled t now (deed.Store changes) h fit modest sound = absurd modest
+deed_ruled t now (deed.Abandon of dir) h fit modest sound = abandoned_ruled t of dir h sound
 
 deeds_ruled : (t : Tables) (now : ℕ) (deeds : List Deed) → AreOrdered t → t.meta.last ≡ now → InTurn t now deeds → AreModestDeeds deeds
     → AreOrdered (deeds_done t deeds)
@@ -270,10 +296,10 @@ stamp_ruled t now h later =
     ended_ruled t (stamp t now) (λ share. share) (λ share. inl refl) h (stamp_sound t now h.sound later) up (none_ends t) refl
     (items_stay t (stamp t now) h up (λ item given kept. kept))
 
--- with the deeds of a step done the tables keep the rules
-pub step_ruled : (t : Tables) (now : ℕ) (deeds : List Deed) → AreOrdered t → t.meta.last ≤ now → KnownSettled t now deeds
+-- with the deeds of a step done the tables keep the rules, where none stores changes
+pub step_ruled : (t : Tables) (now : ℕ) (deeds : List Deed) → AreOrdered t → t.meta.last ≤ now → KnownSettled t now deeds → All NoStore deeds
     → (let made = stamp (deeds_done t deeds) now in AreModest made → AreOrdered made)
-step_ruled t now deeds h later known modest =
+step_ruled t now deeds h later known none modest =
     subst AreOrdered (deeds_stamped t now deeds)
     (deeds_ruled (stamp t now) now deeds (stamp_ruled t now h later) refl (step_turn t now deeds h.sound later known)
-    (modest_settled t now deeds known modest))
+    (modest_settled t now deeds known none modest))

@@ -16,7 +16,7 @@ no_more None none = refl
 no_more (Some i) none = absurd (none-some (suc i) (sym none))
 
 -- where no index passes, each fails
-each_fails : {X : Type 0} (test : X → Bool) (xs : List X) → first_index test xs ≡ None → All (λ x. test x ≡ false) xs
+pub each_fails : {X : Type 0} (test : X → Bool) (xs : List X) → first_index test xs ≡ None → All (λ x. test x ≡ false) xs
 each_fails test [] none = All-nil (λ x. test x ≡ false)
 each_fails {X = X} test (x ∷ xs) none = here (test x) refl none (λ none. each_fails test xs none)
   where
@@ -117,7 +117,7 @@ there_in (rule ∷ others) all broken meta is =
 
 pub broken_is_there : BrokenIsThere
 broken_is_there all broken is =
-    there_in rules all broken (none, ((λ lacks. lacks), (none, (none, (none, (none, (none, (none, (none, tt))))))))) is
+    there_in rules all broken ((λ lacks. lacks), (none, (none, (none, (none, (none, (none, (none, tt)))))))) is
   where
     none : false ≡ true → lacks_meta all ≡ true
     none lacks = absurd (false≢true lacks)

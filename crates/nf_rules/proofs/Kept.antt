@@ -1,10 +1,14 @@
--- Tables of which nodes, shares, mounts and items are others keep the rules, where these do.
-use Rattle.std.proofs.Common.{◌≡◌, ◌⊎◌, inl, inr, Bool, true, false, ◌<◌, if◌then◌else◌, map, length, get_or, refl, sym, ap, ◌∙◌, subst, arith}
+-- Tables of which nodes, shares, mounts, items and uploads are others keep the rules, where these do.
+use Rattle.std.proofs.Common.{◌≡◌, ◌⊎◌, inl, inr, Bool, true, false, ◌<◌, if◌then◌else◌, List, map, length, get_or, refl, sym, ap, ◌∙◌, subst, arith}
 use Rattle.std.specs.List.{All, AllPairs}
 use Rattle.std.proofs.lemmas.List.{get_or-map, length-map}
 use Rattle.std.proofs.lemmas.List.Elements.{All-map, All-weaker}
 use Rattle.nf_access.proofs.Kept.{share_row_each}
+use Rattle.nf_base.specs.declared.rows.GroupRow.{GroupRow}
+use Rattle.nf_base.specs.declared.rows.MemberRow.{MemberRow}
 use Rattle.nf_base.specs.declared.rows.ShareRow.{ShareRow}
+use Rattle.nf_base.specs.declared.rows.TokenRow.{TokenRow}
+use Rattle.nf_base.specs.declared.rows.UserRow.{UserRow}
 use Rattle.nf_defs.proofs.Loads.{rises}
 use Rattle.nf_defs.specs.Prelude.{Tables}
 use Rattle.nf_laws.proofs.Upwards.{owners_there}
@@ -74,28 +78,45 @@ still_mounted t made h up =
       node = still_given t.meta.next_node made.meta.next_node row.node up.nodes own.node;
     }) t.mounts h.mounts
 
--- ---- the tables with other nodes, shares, mounts, versions and items
+-- ---- the tables with other versions, uploads and chunks
 
-abbrev pub with_six : Tables → Tables → Tables
-with_six t made = record t {
+abbrev pub filed : Tables → Tables → Tables
+filed t other = record t { versions = other.versions; uploads = other.uploads; chunks = other.chunks }
+
+-- ---- the tables with other nodes, shares, mounts, versions, items, uploads and chunks
+
+abbrev pub with_others : Tables → Tables → Tables
+with_others t made = record t {
   meta = made.meta;
   nodes = made.nodes;
   shares = made.shares;
   mounts = made.mounts;
   versions = made.versions;
   items = made.items;
+  uploads = made.uploads;
+  chunks = made.chunks;
 }
 
+-- as tables are whose people are the same
+pub as_others : (t made : Tables) → made.users ≡ t.users → made.tokens ≡ t.tokens → made.groups ≡ t.groups → made.members ≡ t.members
+    → made ≡ with_others t made
+as_others t made users tokens groups members =
+    ap (λ (some : List UserRow). record made { users = some }) users
+    ∙ ap (λ (some : List TokenRow). record made { users = t.users; tokens = some }) tokens
+    ∙ ap (λ (some : List GroupRow). record made { users = t.users; tokens = t.tokens; groups = some }) groups
+    ∙ ap (λ (some : List MemberRow). record made { users = t.users; tokens = t.tokens; groups = t.groups; members = some }) members
+
 -- where these keep the rules of their kinds
-pub others_ruled : (t other : Tables) → let made = with_six t other in AreOrdered t → AreSound made → AreHigher t.meta made.meta
+pub others_ruled : (t other : Tables) → let made = with_others t other in AreOrdered t → AreSound made → AreHigher t.meta made.meta
     → All (IsShareRuled made) made.shares → AllPairs AreTokensApart made.shares → All (IsMountRuled made) made.mounts
     → All (IsItemRuled made) made.items → AreOrdered made
 others_ruled t other h sound up shares apart mounts items =
-    let made : Tables = with_six t other in
+    let made : Tables = with_others t other in
     record {
       sound = sound;
       rising = rises made h.rising.users h.rising.tokens h.rising.groups h.rising.members (nodes_rise made.nodes sound.rising)
-          sound.others.shares_rise sound.others.mounts_rise sound.others.versions_rise sound.others.items_rise h.rising.uploads h.rising.chunks;
+          sound.others.shares_rise sound.others.mounts_rise sound.others.versions_rise sound.others.items_rise sound.others.uploads_rise
+          sound.others.chunks_rise;
       owners = owners_there made sound;
       users = All-weaker (IsUserRuled t) (IsUserRuled made)
           (λ row own. record {
@@ -128,9 +149,9 @@ others_ruled t other h sound up shares apart mounts items =
     }
 
 -- as where shares end, no mount is another, and the items keep theirs
-pub ended_ruled : (t other : Tables) (put : ShareRow → ShareRow) → let made = with_six t other in EndsSome put → AreOrdered t → AreSound made
+pub ended_ruled : (t other : Tables) (put : ShareRow → ShareRow) → let made = with_others t other in EndsSome put → AreOrdered t → AreSound made
     → AreHigher t.meta made.meta → made.shares ≡ map put t.shares → made.mounts ≡ t.mounts → All (IsItemRuled made) made.items → AreOrdered made
 ended_ruled t other put ends h sound up shares mounts items =
-    let made : Tables = with_six t other in
+    let made : Tables = with_others t other in
     others_ruled t other h sound up (shares_ruled t made put ends h sound up shares) (apart t made put ends h sound up shares)
     (subst (All (IsMountRuled made)) (sym mounts) (still_mounted t made h up)) items

@@ -5,7 +5,6 @@ pub mod Deeds
 pub mod Firsts
 pub mod Items
 pub mod Kept
-pub mod Later
 pub mod Leading
 pub mod OneShare
 pub mod Pairs
@@ -18,6 +17,13 @@ pub mod Stacked
 pub mod Stays
 pub mod Unbroken
 pub mod Settled
+pub mod Storing
 pub mod Held
 pub mod Dropped
 pub mod TurnedOver
+pub mod Blobs
+pub mod Uploads
+pub mod Heaped
+pub mod Reckoned
+pub mod Leavings
+pub mod Trashes

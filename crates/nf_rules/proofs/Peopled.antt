@@ -19,7 +19,7 @@ use Rattle.nf_base.specs.declared.rows.TokenRow.{TokenRow}
 use Rattle.nf_base.specs.declared.rows.UserRow.{UserRow}
 use Rattle.nf_defs.proofs.Loads.{rises}
 use Rattle.nf_defs.proofs.Puts.{all_put, dropped_length, dropped_rising, put_length, put_rising}
-use Rattle.nf_defs.specs.Prelude.{chunk_key, dropped, group_key, group_named, group_row, IsRising, member_key, node_row, put, Tables, token_key, upload_key, user_key, user_named, user_row}
+use Rattle.nf_defs.specs.Prelude.{dropped, group_key, group_named, group_row, IsRising, member_key, node_row, put, Tables, token_key, user_key, user_named, user_row}
 use Rattle.nf_laws.proofs.Leaning.{any_found}
 use Rattle.nf_laws.proofs.Peopled.{group_put}
 use Rattle.nf_laws.proofs.Rows.{each_fails, found_is, no_value, row_is, row_joined}
@@ -37,14 +37,13 @@ use Rattle.nf_words.specs.declared.request.PeopleAsk.{PeopleAsk}
 use Rattle.nf_words.specs.declared.request.PeopleAsk.TheVariants as people
 use Rattle.nf_rules.proofs.After.{share_ruled, still_given, user_was}
 use Rattle.nf_rules.proofs.Items.{items_as_were, items_ruled}
+use Rattle.nf_rules.proofs.Kept.{filed}
 use Rattle.nf_rules.proofs.OneShare.{node_given}
 use Rattle.nf_rules.proofs.Pairs.{pairs_put}
 use Rattle.nf_rules.proofs.Rising.{nodes_rise}
 use Rattle.nf_rules.proofs.Shares.{given}
 use Rattle.nf_rules.specs.Ruled.{AreOrdered, AreTokensApart, IsGiven, IsGroupRuled, IsItemRuled, IsMemberRuled, IsMountRuled, IsShareRuled, IsTokenRuled, IsUserRuled}
 use Rattle.nf_rules.specs.Rules.{are_share_numbers, is_folder_for, is_group, is_user}
-use Rattle.nf_base.specs.declared.rows.VersionRow.{VersionRow}
-use Rattle.nf_laws.proofs.Behind.{versioned}
 
 -- ---- who is there stays there
 
@@ -196,15 +195,12 @@ module _ (t made : Tables) (h : AreOrdered t) (sound : AreSound made) (up : AreH
     few = omega (arith, ap length is, put_length token_key row t.tokens, ltb-false _ _ few);
   }
 
-  no_rows_rise : {R : Type 0} (key : R → List ℕ) (rows : List R) → rows ≡ [] → IsRising key rows
-  no_rows_rise key rows none = subst (IsRising key) (sym none) (λ i j d before within. absurd (omega (arith, before, within)))
-
   ruled_by : UsersKept → TokensKept → GroupsKept → MembersKept → made.shares ≡ t.shares → All (IsMountRuled made) made.mounts → AreOrdered made
   ruled_by users tokens groups members shares mounts = record {
     sound = sound;
     rising = rises made users.rising tokens.rising groups.rising members.rising (nodes_rise made.nodes sound.rising) sound.others.shares_rise
         sound.others.mounts_rise sound.others.versions_rise sound.others.items_rise
-        (no_rows_rise upload_key made.uploads sound.later.0) (no_rows_rise chunk_key made.chunks sound.later.1.0);
+        sound.others.uploads_rise sound.others.chunks_rise;
     owners = owners_there made sound;
     users = users.each;
     tokens = tokens.each;
@@ -245,13 +241,12 @@ module _ (t made : Tables) (now : ℕ) (h : AreOrdered t) (sound : AreSound made
   -- a new user, who has a root and a token
   user_ruled : (name token : List ℕ) (quota : ℕ) → user_named t.users name ≡ None → quota ≤ MAX_QUOTA
       → people_limit t (people.NewUser name token quota) ≡ None
-      → made ≡ record t {
+      → made ≡ filed (record t {
         meta = made.meta;
         users = put user_key (new_user t name quota) t.users;
         tokens = put token_key (record { digest = token; user = t.meta.next_user }) t.tokens;
         nodes = t.nodes ++ new_root t now name ∷ [];
-        versions = made.versions;
-      }
+      }) made
       → AreOrdered made
   user_ruled name token quota free modest few is =
       let row : UserRow = new_user t name quota in
@@ -294,7 +289,7 @@ module _ (t made : Tables) (now : ℕ) (h : AreOrdered t) (sound : AreSound made
       (same_mounts t made h sound up items stays kept (ap (λ (u : Tables). u.mounts) is))
 
   group_ruled : (name : List ℕ) → group_named t.groups name ≡ None → people_limit t (people.NewGroup name) ≡ None
-      → made ≡ record t { meta = made.meta; groups = put group_key (record { id = t.meta.next_group; name = name }) t.groups; versions = made.versions }
+      → made ≡ filed (record t { meta = made.meta; groups = put group_key (record { id = t.meta.next_group; name = name }) t.groups }) made
       → AreOrdered made
   group_ruled name free few is =
       let row : GroupRow = record { id = t.meta.next_group; name = name } in
@@ -328,7 +323,7 @@ module _ (t made : Tables) (now : ℕ) (h : AreOrdered t) (sound : AreSound made
 
   -- a user with another quota has the number and the name that it had
   pub quota_ruled : (quota : ℕ) (row : UserRow) → user_row t.users row.id ≡ Some row → quota ≤ MAX_QUOTA
-      → made ≡ record t { meta = made.meta; users = put user_key (record row { quota = quota }) t.users; versions = made.versions }
+      → made ≡ filed (record t { meta = made.meta; users = put user_key (record row { quota = quota }) t.users }) made
       → AreOrdered made
   quota_ruled quota row there modest is =
       let new : UserRow = record row { quota = quota } in
@@ -372,7 +367,7 @@ module _ (t made : Tables) (now : ℕ) (h : AreOrdered t) (sound : AreSound made
 
   token_ruled : (token : List ℕ) (name : List ℕ) (user : ℕ) → user_named t.users name ≡ Some user
       → people_limit t (people.AddToken name token) ≡ None
-      → made ≡ record t { meta = made.meta; tokens = put token_key (record { digest = token; user = user }) t.tokens; versions = made.versions }
+      → made ≡ filed (record t { meta = made.meta; tokens = put token_key (record { digest = token; user = user }) t.tokens }) made
       → AreOrdered made
   token_ruled token name user named few is =
       let row : TokenRow = record { digest = token; user = user } in
@@ -389,7 +384,7 @@ module _ (t made : Tables) (now : ℕ) (h : AreOrdered t) (sound : AreSound made
   -- a new member, and its mounts
   joins_ruled : (user group : List ℕ) (row : MemberRow) → membership t user group ≡ Some row → is_member t row ≡ false
       → people_limit t (people.AddMember user group) ≡ None
-      → made ≡ record t { meta = made.meta; members = put member_key row t.members; mounts = made.mounts; versions = made.versions }
+      → made ≡ filed (record t { meta = made.meta; members = put member_key row t.members; mounts = made.mounts }) made
       → MountsGiven t.mounts made.mounts (IsMountJoined t row) → AreOrdered made
   joins_ruled user group row named none few is mounts =
       let stays : UsersStay = users_as_were (ap (λ (u : Tables). u.users) is) in
@@ -449,7 +444,7 @@ module _ (t made : Tables) (now : ℕ) (h : AreOrdered t) (sound : AreSound made
           (subst (λ (g : GroupRow). IsGiven t.meta.next_group g.id) at.3 (h.groups at.0 at.1 at.2).id))
 
   leaves_ruled : (row : MemberRow)
-      → made ≡ record t { meta = made.meta; members = dropped member_key (row.group ∷ row.user ∷ []) t.members; versions = made.versions }
+      → made ≡ filed (record t { meta = made.meta; members = dropped member_key (row.group ∷ row.user ∷ []) t.members }) made
       → AreOrdered made
   leaves_ruled row is =
       let stays : UsersStay = users_as_were (ap (λ (u : Tables). u.users) is) in
@@ -472,25 +467,25 @@ module _ (t made : Tables) (now : ℕ) (h : AreOrdered t) (sound : AreSound made
       })
       (ap (λ (u : Tables). u.shares) is) (same_mounts t made h sound up items stays kept (ap (λ (u : Tables). u.mounts) is))
 
--- what is asked about users and groups, and versions that go then
-module _ (t between : Tables) (versions : List VersionRow) (now : ℕ) (h : AreOrdered t) (up : AreHigher t.meta between.meta) where
+-- what is asked about users and groups, and versions, uploads and chunks of other tables
+module _ (t between beside : Tables) (now : ℕ) (h : AreOrdered t) (up : AreHigher t.meta between.meta) where
   abbrev later : Tables
-  later = versioned between versions
+  later = filed between beside
 
   provided_ruled : AreSound later → All (IsItemRuled later) between.items → (asked : PeopleAsk) → IsModest asked → people_limit t asked ≡ None
       → Provides t now between asked → AreOrdered later
   provided_ruled sound items _ modest few (makes_user name token quota free fresh is) =
-      user_ruled t later now h sound up items name token quota free modest few (ap (λ (u : Tables). versioned u versions) is)
+      user_ruled t later now h sound up items name token quota free modest few (ap (λ (u : Tables). filed u beside) is)
   provided_ruled sound items _ modest few (makes_group name free is) =
-      group_ruled t later now h sound up items name free few (ap (λ (u : Tables). versioned u versions) is)
+      group_ruled t later now h sound up items name free few (ap (λ (u : Tables). filed u beside) is)
   provided_ruled sound items _ modest few (joins user group row named none is mounts all) =
-      joins_ruled t later now h sound up items user group row named none few (ap (λ (u : Tables). versioned u versions) is) mounts
+      joins_ruled t later now h sound up items user group row named none few (ap (λ (u : Tables). filed u beside) is) mounts
   provided_ruled sound items _ modest few (leaves user group row named there is) =
-      leaves_ruled t later now h sound up items row (ap (λ (u : Tables). versioned u versions) is)
+      leaves_ruled t later now h sound up items row (ap (λ (u : Tables). filed u beside) is)
   provided_ruled sound items _ modest few (has_quota user quota row named is) =
-      quota_ruled t later now h sound up items quota row (row_there t now h.sound user row named) modest (ap (λ (u : Tables). versioned u versions) is)
+      quota_ruled t later now h sound up items quota row (row_there t now h.sound user row named) modest (ap (λ (u : Tables). filed u beside) is)
   provided_ruled sound items _ modest few (has_token user token id named free is) =
-      token_ruled t later now h sound up items token user id named few (ap (λ (u : Tables). versioned u versions) is)
+      token_ruled t later now h sound up items token user id named few (ap (λ (u : Tables). filed u beside) is)
 
   -- no item is another, nor is a node that was there
   provided_items : (asked : PeopleAsk) → Provides t now between asked → All (IsItemRuled later) between.items
@@ -512,8 +507,8 @@ module _ (t between : Tables) (versions : List VersionRow) (now : ℕ) (h : AreO
       items_as_were t later h up (ap (λ (u : Tables). u.items) is) (ap (λ (u : Tables). u.nodes) is)
 
 -- what is asked about users and groups keeps the rules
-pub people_ruled : (s : State) (e : Entry) (between : Tables) (versions : List VersionRow) → AreOrdered s.tables → AreSound (versioned between versions)
-    → AreHigher s.tables.meta between.meta → IsProviding s e between → AreOrdered (versioned between versions)
-people_ruled s e between versions h sound up is =
-    let items = provided_items s.tables between versions e.moment h up is.asked is.provides in
-    provided_ruled s.tables between versions e.moment h up sound items is.asked is.modest is.few is.provides
+pub people_ruled : (s : State) (e : Entry) (between beside : Tables) → AreOrdered s.tables → AreSound (filed between beside)
+    → AreHigher s.tables.meta between.meta → IsProviding s e between → AreOrdered (filed between beside)
+people_ruled s e between beside h sound up is =
+    let items = provided_items s.tables between beside e.moment h up is.asked is.provides in
+    provided_ruled s.tables between beside e.moment h up sound items is.asked is.modest is.few is.provides

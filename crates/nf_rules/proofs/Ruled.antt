@@ -4,8 +4,6 @@ use Rattle.std.specs.Prelude.{is_some, nat_lt}
 use Rattle.std.specs.List.{All, AllByRecursion}
 use Rattle.std.specs.Option.{option_map_or}
 use Rattle.std.proofs.lemmas.Bool.{and_from, and_right, eq-eqb, eqb-true, false≢true, le-ltb, lt-ltb, not_from_false, not_from_true, or_from}
-use Rattle.std.proofs.lemmas.List.Elements.{All-weaker}
-use Rattle.std.proofs.lemmas.List.Folds.{list_any_none}
 use Rattle.std.proofs.lemmas.Slice.Eq.{bytes_eq-Decides}
 use Rattle.nf_base.specs.declared.limits.TheConstants.{MAX_GROUPS, MAX_MEMBERS, MAX_MOUNTS, MAX_QUOTA, MAX_SHARES, MAX_TOKENS, MAX_USERS, MAX_VERSIONS}
 use Rattle.nf_base.specs.declared.content.Piece.{Piece}
@@ -21,24 +19,24 @@ use Rattle.nf_defs.proofs.Walks.{node_row_each}
 use Rattle.nf_defs.specs.Prelude.{is_root_place, node_row, rows_of, Tables, tables_of, user_row, owner_of}
 use Rattle.nf_laws.proofs.Rows.{folder_there, found_is}
 use Rattle.nf_rows.specs.Spelling.{Fits}
-use Rattle.nf_words.specs.Later.{later_kinds}
-use Rattle.nf_words.specs.Others.{IsItemSound, IsMountSound, IsVersionSound}
-use Rattle.nf_words.specs.Prelude.{AreCounters, count_of, HasRoot, is_later, IsNodeSound, IsPieceSound, IsPlaceSound, charge_of, quota_of, stored_pieces}
+use Rattle.nf_words.specs.Others.{IsChunkSound, IsItemSound, IsMountSound, IsUploadSound, IsVersionSound}
+use Rattle.nf_words.specs.Prelude.{AreCounters, count_of, HasRoot, IsNodeSound, IsPlaceSound, charge_of, quota_of, stored_pieces}
 use Rattle.nf_words.specs.declared.answer.Limit.TheVariants as limit
 use Rattle.nf_rules.specs.Keys.{name_key}
 use Rattle.nf_rules.specs.Laws.{RuledAreUnbroken}
-use Rattle.nf_rules.specs.Ruled.{AreOrdered, IsGiven, IsGroupRuled, IsItemRuled, IsMemberRuled, IsMountRuled, IsShareRuled, IsTokenRuled, IsUserRuled, AreSettled}
-use Rattle.nf_rules.specs.Rules.{are_counters, are_numbers, has_ungiven_blob, is_beyond, is_given, is_place_given, is_place_there, is_placed, is_root_of, is_shared_well, is_user, names_are_there, rules, is_over, held_bytes}
+use Rattle.nf_rules.specs.Ruled.{AreOrdered, IsGiven, IsGroupRuled, IsItemRuled, IsMemberRuled, IsMountRuled, IsShareRuled, IsTokenRuled, IsUserRuled, AreSettled, AreTrashesBounded}
+use Rattle.nf_rules.specs.Rules.{are_counters, are_numbers, is_beyond, is_place_given, is_place_there, is_placed, is_root_of, is_shared_well, is_user, names_are_there, rules, is_over, held_bytes, trash_bytes}
 use Rattle.nf_rules.proofs.Apart.{keys_unshared, names_unshared}
 use Rattle.nf_rules.proofs.Firsts.{Keep, none_broken}
 use Rattle.nf_rules.proofs.Items.{item_names, item_numbers, item_placed}
-use Rattle.nf_rules.proofs.Later.{not_one_of}
 use Rattle.nf_rules.proofs.Leading.{sound_leads}
 use Rattle.nf_rules.proofs.Shared.{AreUnshared, of_among}
 use Rattle.nf_rules.proofs.Shares.{is_given_from, mount_well}
 use Rattle.nf_rules.proofs.Stacked.{IsOf, rows_have}
+use Rattle.nf_rules.proofs.Blobs.{blobs_given}
+use Rattle.nf_rules.proofs.Uploads.{chunk_fits, chunk_numbers, chunk_user, upload_fits, upload_numbers}
 use Rattle.nf_base.specs.declared.rows.VersionRow.{VersionRow}
-use Rattle.nf_retention.specs.Budget.{versions_bound}
+use Rattle.nf_retention.specs.Budget.{trash_bound, versions_bound}
 use Rattle.nf_laws.proofs.Files.{file_row}
 
 -- ---- numbers
@@ -70,13 +68,6 @@ place_given t row (Inside folder) h sound =
     is_given_from t.meta.next_node folder
     (subst (IsGiven t.meta.next_node) same (record { first = found.1.some; below = found.1.given }))
 place_given t row Trash h sound = refl
-
-blobs_given : (t : Tables) (content : List Piece) → All (IsPieceSound t) content → has_ungiven_blob t.meta.next_blob content ≡ false
-blobs_given t content pieces =
-    list_any_none (λ (piece : Piece). not (is_given t.meta.next_blob piece.blob)) content
-    (All-weaker (IsPieceSound t) (λ (piece : Piece). not (is_given t.meta.next_blob piece.blob) ≡ false)
-    (λ piece sound. not_from_true _ (is_given_from t.meta.next_blob piece.blob (record { first = sound.first; below = sound.given })))
-    content pieces)
 
 node_numbers : (t : Tables) (row : NodeRow) → AreOrdered t → IsNodeSound t row
     → is_user t row.owner ≡ true → are_numbers t.meta (rows.Node row) ≡ true
@@ -129,7 +120,12 @@ numbers_are t (rows.Mount row) h among =
 numbers_are t (rows.Version row) h among = version_numbers t row h (of_among (IsVersionSound t) t.versions row h.sound.others.versions among)
 numbers_are t (rows.Item row) h among =
     item_numbers t row (of_among (IsItemSound t) t.items row h.sound.others.items among) (of_among (IsItemRuled t) t.items row h.items among)
-numbers_are t other h among = refl
+numbers_are t (rows.Upload row) h among =
+    let own = of_among (IsUploadSound t) t.uploads row h.sound.others.uploads among in
+    upload_numbers t row own (user_given t row.user h own.user)
+numbers_are t (rows.Chunk row) h among =
+    let own = of_among (IsChunkSound t) t.chunks row h.sound.others.chunks among in
+    chunk_numbers t row own (user_given t row.user h (chunk_user t row h.sound.others.uploads own))
 
 -- ---- what is named is there
 
@@ -154,6 +150,8 @@ names_there t (rows.Version row) h among =
     ap (λ (o : Option NodeRow). is_some o) (file_row t.nodes row.node (of_among (IsVersionSound t) t.versions row h.sound.others.versions among).file).1
 names_there t (rows.Item row) h among =
     let there = item_names t row h.owners (of_among (IsItemSound t) t.items row h.sound.others.items among) in and_from _ _ there.0 there.1
+names_there t (rows.Upload row) h among = (of_among (IsUploadSound t) t.uploads row h.sound.others.uploads among).user
+names_there t (rows.Chunk row) h among = (of_among (IsChunkSound t) t.chunks row h.sound.others.chunks among).upload
 names_there t other h among = refl
 
 -- ---- roots
@@ -186,27 +184,32 @@ shared_well t other h among = refl
 
 -- ---- limits
 
-all_within : (t : Tables) (row : Row) → AreOrdered t → is_beyond t row ≡ false
-all_within t (rows.User row) h = le-ltb MAX_USERS (length t.users) h.few_users
-all_within t (rows.Token row) h = le-ltb MAX_TOKENS (length t.tokens) h.few_tokens
-all_within t (rows.Group row) h = le-ltb MAX_GROUPS (length t.groups) h.few_groups
-all_within t (rows.Member row) h = le-ltb MAX_MEMBERS (length t.members) h.few_members
-all_within t (rows.Node row) h =
+all_within : (t : Tables) (row : Row) → AreOrdered t → IsOf t row → is_beyond t row ≡ false
+all_within t (rows.User row) h among = le-ltb MAX_USERS (length t.users) h.few_users
+all_within t (rows.Token row) h among = le-ltb MAX_TOKENS (length t.tokens) h.few_tokens
+all_within t (rows.Group row) h among = le-ltb MAX_GROUPS (length t.groups) h.few_groups
+all_within t (rows.Member row) h among = le-ltb MAX_MEMBERS (length t.members) h.few_members
+all_within t (rows.Node row) h among =
     or_from _ _ (le-ltb (count_of limit.Nodes) (length t.nodes) h.sound.few_nodes)
     (and_right (nat_lt 0 (length row.content)) _
     (le-ltb (count_of limit.Pieces) (stored_pieces t) h.sound.few_pieces))
-all_within t (rows.Share row) h = le-ltb MAX_SHARES (length t.shares) h.sound.others.few_shares
-all_within t (rows.Mount row) h = le-ltb MAX_MOUNTS (length t.mounts) h.sound.others.few_mounts
-all_within t (rows.Version row) h =
+all_within t (rows.Share row) h among = le-ltb MAX_SHARES (length t.shares) h.sound.others.few_shares
+all_within t (rows.Mount row) h among = le-ltb MAX_MOUNTS (length t.mounts) h.sound.others.few_mounts
+all_within t (rows.Version row) h among =
     or_from _ _ (le-ltb MAX_VERSIONS (length t.versions) h.sound.others.few_versions)
     (le-ltb (count_of limit.Pieces) (stored_pieces t) h.sound.few_pieces)
-all_within t other h = refl
+all_within t (rows.Upload row) h among = upload_fits t row h.sound.others.few_uploads
+all_within t (rows.Chunk row) h among =
+    chunk_fits t row (of_among (IsChunkSound t) t.chunks row h.sound.others.chunks among) h.sound.few_pieces h.sound.others.few_pending
+all_within t other h among = refl
 
-none_over : (t : Tables) (row : Row) → AreOrdered t → AreSettled t → IsOf t row → is_over t row ≡ false
-none_over t (rows.User row) h settled among = le-ltb MAX_QUOTA row.quota (of_among (IsUserRuled t) t.users row h.users among).quota
-none_over t (rows.Version row) h settled among =
+none_over : (t : Tables) (row : Row) → AreOrdered t → AreSettled t → AreTrashesBounded t → IsOf t row → is_over t row ≡ false
+none_over t (rows.User row) h settled bounded among = le-ltb MAX_QUOTA row.quota (of_among (IsUserRuled t) t.users row h.users among).quota
+none_over t (rows.Version row) h settled bounded among =
     let user = owner_of t.nodes row.node in le-ltb (versions_bound (quota_of t user) (charge_of t user)) (held_bytes t user) (settled user)
-none_over t other h settled among = refl
+none_over t (rows.Item row) h settled bounded among =
+    le-ltb (trash_bound (quota_of t row.owner)) (trash_bytes t row.owner) (bounded row.owner)
+none_over t other h settled bounded among = refl
 
 -- ---- all rules
 
@@ -217,28 +220,26 @@ none_fails test t again each =
     subst (λ (u : Tables). All (λ row. not (test u row) ≡ false) (rows_of t)) (sym again)
     (rows_have (λ row. not (test t row) ≡ false) t (λ row among. not_from_true (test t row) (each row among)))
 
-each_kept : (t : Tables) → All Fits (rows_of t) → AreOrdered t → AreSettled t → AllByRecursion (Keep (rows_of t)) rules
-each_kept t fits h settled =
+each_kept : (t : Tables) → All Fits (rows_of t) → AreOrdered t → AreSettled t → AreTrashesBounded t → AllByRecursion (Keep (rows_of t)) rules
+each_kept t fits h settled bounded =
     let all : List Row = rows_of t in
     let again : tables_of all ≡ t = tables_again t h.rising in
-    let early = rows_have (λ row. is_later row ≡ false) t (λ row among. not_one_of t later_kinds row h.sound.later among) in
     let names = subst (λ (u : Tables). AreUnshared (name_key u) all) (sym again) (names_unshared t h) in
     let within = subst (λ (u : Tables). All (λ row. is_beyond u row ≡ false) all) (sym again)
-    (rows_have (λ row. is_beyond t row ≡ false) t (λ row among. all_within t row h)) in
+    (rows_have (λ row. is_beyond t row ≡ false) t (λ row among. all_within t row h among)) in
     let over = subst (λ (u : Tables). All (λ row. is_over u row ≡ false) all) (sym again)
-    (rows_have (λ row. is_over t row ≡ false) t (λ row among. none_over t row h settled among)) in
-    keep_more (early, refl)
-    (keep_more (keys_unshared t fits h.rising, refl)
+    (rows_have (λ row. is_over t row ≡ false) t (λ row among. none_over t row h settled bounded among)) in
+    keep_more (keys_unshared t fits h.rising, refl)
     (keep_more (none_fails (λ t row. are_numbers t.meta row) t again (λ row among. numbers_are t row h among), refl)
     (keep_more (none_fails names_are_there t again (λ row among. names_there t row h among), refl)
     (keep_more (names, refl)
     (keep_more (none_fails is_placed t again (λ row among. all_placed t row h among), refl)
     (keep_more (none_fails is_shared_well t again (λ row among. shared_well t row h among), refl)
     (keep_more (within, refl)
-    (keep_more (over, refl) tt))))))))
+    (keep_more (over, refl) tt)))))))
   where
     keep_more : {A B : Type 0} → A → B → A × B
     keep_more one rest = (one, rest)
 
 pub ruled_are_unbroken : RuledAreUnbroken
-ruled_are_unbroken t fits h = none_broken rules (rows_of t) (each_kept t fits h.ordered h.settled)
+ruled_are_unbroken t fits h = none_broken rules (rows_of t) (each_kept t fits h.ordered h.settled h.bounded)

@@ -4,7 +4,7 @@ use Rattle.std.specs.List.{All, AllPairs, Contains, list_any}
 use Rattle.std.specs.Option.{option_map_or, IfSome}
 use Rattle.std.proofs.lemmas.Bool.{eq-eqb, eqb-true, both_ways, cases_Bool, or_from, ne_eqb, cond_both}
 use Rattle.std.proofs.lemmas.Cmp.{tied_itself}
-use Rattle.std.proofs.lemmas.List.Elements.{All-contains, All-contains_itself, All-filter, filter_passes}
+use Rattle.std.proofs.lemmas.List.Elements.{All-contains, All-contains_itself, All-filter, filter_passes, All-append, All-head}
 use Rattle.std.proofs.lemmas.List.Kept.{AllPairs-filter}
 use Rattle.std.proofs.lemmas.List.Sums.{sum_by-cons}
 use Rattle.nf_base.specs.declared.rows.NodeRow.{NodeRow}
@@ -19,7 +19,7 @@ use Rattle.nf_laws.proofs.Turning.{deeds_fewer, added_fewer}
 use Rattle.nf_retention.specs.Budget.{versions_bound}
 use Rattle.nf_retention.specs.declared.versions.Version.{Version}
 use Rattle.nf_words.specs.Others.{IsVersionSound}
-use Rattle.nf_words.specs.Prelude.{after, AreSound, charge_of, deeds_done, IsSound, MayCome, quota_of, State, forgets, forgotten, settled_by, unsettled, purged_by, held_without, altered, told, decision_of, MayAsk, purges, deed_done, restored, home_of, name_back, charged_to, requoting, charged, item_size, restoring, charged_for, copies, crossing, gone_of, items_of, IsRequoted, stored_at, IsHeld, call_of, gone_from, owners_of, swept, gone_beside, ends_goal, ends_at, end_refusal, access_of, goal_at, IsStorable, content_in, blob_for, new_node, refills, refilled, gone_after, is_same, turned_over}
+use Rattle.nf_words.specs.Prelude.{after, AreSound, charge_of, deeds_done, IsSound, MayCome, quota_of, State, forgets, forgotten, settled_by, unsettled, purged_by, held_without, altered, told, decision_of, MayAsk, purges, deed_done, restored, home_of, name_back, charged_to, requoting, charged, item_size, restoring, charged_for, copies, crossing, gone_of, items_of, IsRequoted, stored_at, call_of, gone_from, owners_of, swept, gone_beside, ends_goal, ends_at, end_refusal, access_of, goal_at, IsStorable, content_in, blob_for, new_node, refills, refilled, gone_after, is_same, turned_over, abandons, assembled_at, chunk_put, chunk_refusal, chunk_stored, is_idle, new_file, replaced, upload_row, upload_touched, whole_of}
 use Rattle.nf_words.specs.Versions.{beyond_bound, content_size, held, is_version, is_held_by, is_under_any}
 use Rattle.nf_words.specs.declared.answer.Deed.{Deed}
 use Rattle.nf_words.specs.declared.answer.Deed.TheVariants as deed
@@ -38,7 +38,7 @@ use Rattle.nf_defs.proofs.Climbs.{under_climb}
 use Rattle.nf_laws.proofs.Entries.{entry_has}
 use Rattle.nf_laws.proofs.Going.{items_purged}
 use Rattle.nf_laws.proofs.Restoring.{back_beside}
-use Rattle.nf_laws.proofs.Recharged.{IsLower, purges_lower, requoted_charge, copies_less, crossing_less, IsComing, restored_less}
+use Rattle.nf_laws.proofs.Recharged.{IsLower, purges_lower, requoted_charge, copies_less, crossing_less, IsComing, restored_less, lower_append}
 use Rattle.nf_words.proofs.Known.{KnownGoes, KnownRestore, Known, KnownSettled, KnownCopies, KnownCross}
 use Rattle.nf_words.specs.declared.answer.Allowed.{Allowed}
 use Rattle.nf_words.specs.declared.answer.Allowed.TheVariants as allowed
@@ -46,7 +46,7 @@ use Rattle.nf_words.specs.declared.answer.Report.TheVariants as report
 use Rattle.nf_base.specs.declared.rows.Row.TheVariants as rows
 use Rattle.nf_base.specs.declared.rows.UserRow.{UserRow}
 use Rattle.nf_base.specs.declared.rows.ItemRow.{ItemRow}
-use Rattle.nf_laws.proofs.Behaving.{AreSettledSo, AreTurnless, IsBroughtBack, SettlesSo, all_turnless, by_copies, by_cross, by_none, by_quota, by_return, call_settles, turnless_of, users_turnless}
+use Rattle.nf_laws.proofs.Behaving.{AreSettledSo, AreTurnless, IsBroughtBack, SettlesSo, all_turnless, by_copies, by_cross, by_none, by_quota, by_return, call_settles, turnless_of, users_turnless, by_join}
 use Rattle.nf_laws.proofs.Parts.{step_sound, copies_stamped, deeds_stamped}
 use Rattle.nf_laws.proofs.Stays.{altered_sound}
 use Rattle.nf_laws.proofs.Trashing.{trash_same, act_kept}
@@ -67,11 +67,11 @@ use Rattle.nf_words.proofs.Trashing.{quota_goes}
 use Rattle.nf_words.proofs.Passing.{not_refused}
 use Rattle.nf_words.specs.declared.answer.Denial.{Denial}
 use Rattle.nf_words.specs.declared.answer.Goal.{Goal}
-use Rattle.nf_words.specs.declared.answer.Goal.TheVariants.{Serve, Store}
+use Rattle.nf_words.specs.declared.answer.Goal.TheVariants.{Chunk, Serve, Store}
 use Rattle.nf_words.specs.declared.history.Outcome.{Outcome}
 use Rattle.nf_words.specs.declared.history.Outcome.TheVariants.{Body}
 use Rattle.nf_words.specs.Listing.{size_of}
-use Rattle.nf_laws.proofs.Stored.{stored_comes, body_weighs, refills_comes}
+use Rattle.nf_laws.proofs.Stored.{born_comes, refills_comes}
 use Rattle.nf_laws.proofs.Refilled.{added_made, refills_made}
 use Rattle.nf_base.specs.declared.rows.NodeKind.TheVariants.{File}
 use Rattle.nf_words.specs.declared.answer.LockKey.TheVariants.{Node, Slot}
@@ -84,6 +84,13 @@ use Rattle.nf_laws.proofs.Departed.{all_gone}
 use Rattle.nf_laws.proofs.Others.{stamp_sound}
 use Rattle.std.proofs.lemmas.Grind.{flat_map-append}
 use Rattle.nf_base.specs.declared.rows.MetaRow.{MetaRow}
+use Rattle.nf_laws.proofs.Each.{abandons_each, forgets_none, NoStore, purges_none, settled_stores}
+use Rattle.nf_laws.proofs.Joining.{abandons_lower, IsPlaced}
+use Rattle.nf_laws.proofs.Chunking.{chunk_leaves}
+use Rattle.nf_defs.specs.declared.Found.{Found}
+use Rattle.nf_defs.specs.declared.Found.TheVariants.{At, Free, Missing}
+use Rattle.nf_rules.proofs.Storing.{call_stores, copies_none, crossing_none, requoting_none, restoring_none, settled_none, StoresSo}
+use Rattle.nf_base.specs.declared.rows.ChunkRow.{ChunkRow}
 
 -- a user's versions are within their bound
 abbrev IsSettled : Tables → ℕ → Type 0
@@ -206,7 +213,7 @@ forgets_left u [] k d within = refl
 forgets_left u (version ∷ gone) k d within =
     let left = forgotten u version.node version.at in
     let row = get_or (deeds_done left (forgets gone)).versions k d in
-    let among : Contains left.versions row = deeds_fewer left (forgets gone) k d within in
+    let among : Contains left.versions row = deeds_fewer left (forgets gone) (forgets_none gone) k d within in
     let NotIt : VersionRow → Type 0 = λ row. not (bytes_eq (version.node ∷ version.at ∷ []) (version_key row)) ≡ true in
     or_from (is_version row.node row.at version) (list_any (is_version row.node row.at) gone)
     (dropped_not version row (All-contains NotIt left.versions row
@@ -229,12 +236,13 @@ not_under t u tops node sound gone file =
 
 -- where the deeds before leave a charge that isn't more than what is told, and no version of what goes for good, the owner's stay within
 -- their bound
-settled_behind : (t : Tables) (now : ℕ) (to : Charged) (first : List Deed) → AreSound t → AreSound (stamp (deeds_done t (settled_by t to first)) now)
+settled_behind : (t : Tables) (now : ℕ) (to : Charged) (first : List Deed) → All NoStore first → AreSound t
+    → AreSound (stamp (deeds_done t (settled_by t to first)) now)
     → KeepsOwners t (deeds_done t (settled_by t to first)) → charge_of (deeds_done t first) to.owner ≤ to.charge
     → quota_of (deeds_done t first) to.owner ≡ to.quota → All (IsGoneWith t.nodes (deeds_done t first).nodes) (flat_map purged_by first)
     → IsSettled (stamp (deeds_done t (settled_by t to first)) now) to.owner
 unfolding charge_of
-settled_behind t now to first before sound keeps charge quota gone =
+settled_behind t now to first none before sound keeps charge quota gone =
     let tops = flat_map purged_by first in
     let versions = unsettled t to tops in
     let u = stamp (deeds_done t (settled_by t to first)) now in
@@ -243,7 +251,7 @@ settled_behind t now to first before sound keeps charge quota gone =
     settled_bounded u sound to.owner to.quota to.charge (held_without t to.owner tops)
     (subst (λ (v : Tables). charge_of v to.owner ≤ to.charge) (sym only) charge)
     (ap (λ (v : Tables). quota_of v to.owner) only ∙ quota) (λ row is own_is.
-    let was = All-contains (Contains t.versions) u.versions row (deeds_fewer t (settled_by t to first)) is in
+    let was = All-contains (Contains t.versions) u.versions row (deeds_fewer t (settled_by t to first) (settled_none t now to first none)) is in
     let owner = owner_was t u row before sound keeps was is ∙ own_is in
     let file = (All-contains (IsVersionSound u) u.versions row sound.others.versions is).file in
     let under = not_under t (deeds_done t first) tops row.node before gone
@@ -299,23 +307,23 @@ kind_gone t now deeds leave IsPut Held meta sound kind =
 -- ---- each act
 
 -- deeds that lower charges, and versions that go behind them
-lower_settled : (t : Tables) (now user : ℕ) (deeds : List Deed) → AreSound t → AreSound (stamp (deeds_done t deeds) now)
+lower_settled : (t : Tables) (now user : ℕ) (deeds : List Deed) → All NoStore deeds → AreSound t → AreSound (stamp (deeds_done t deeds) now)
     → KeepsOwners t (deeds_done t deeds) → IsSettled t user → IsLower deeds t user → IsSettled (stamp (deeds_done t deeds) now) user
 unfolding charge_of
-lower_settled t now user deeds before sound keeps settled lower =
-    settled_kept t (stamp (deeds_done t deeds) now) user before sound keeps (deeds_fewer t deeds) settled lower.0
+lower_settled t now user deeds none before sound keeps settled lower =
+    settled_kept t (stamp (deeds_done t deeds) now) user before sound keeps (deeds_fewer t deeds none) settled lower.0
     (omega (arith, lower.1))
 
 -- of another than who is charged
-other_settled : (t : Tables) (now user : ℕ) (to : Charged) (first : List Deed) → AreSound t
+other_settled : (t : Tables) (now user : ℕ) (to : Charged) (first : List Deed) → All NoStore first → AreSound t
     → AreSound (stamp (deeds_done t (settled_by t to first)) now) → KeepsOwners t (deeds_done t (settled_by t to first)) → IsSettled t user
     → charge_of (deeds_done t first) user ≤ charge_of t user → quota_of t user ≤ quota_of (deeds_done t first) user
     → IsSettled (stamp (deeds_done t (settled_by t to first)) now) user
 unfolding charge_of
-other_settled t now user to first before sound keeps settled charge quota =
+other_settled t now user to first none before sound keeps settled charge quota =
     let all = settled_by t to first in
     let only = behind_only t first (unsettled t to (flat_map purged_by first)) in
-    settled_kept t (stamp (deeds_done t all) now) user before sound keeps (deeds_fewer t all) settled
+    settled_kept t (stamp (deeds_done t all) now) user before sound keeps (deeds_fewer t all (settled_none t now to first none)) settled
     (subst (λ (v : Tables). charge_of v user ≤ charge_of t user) (sym only) charge)
     (omega (arith, quota, ap (λ (v : Tables). quota_of v user) only))
 
@@ -326,12 +334,12 @@ quota_put users row = ap (λ (o : Option UserRow). option_map_or (λ (row : User
 -- by what is done, whose versions go
 module _ (t : Tables) (now : ℕ) (before : AreSound t) (later : t.meta.last ≤ now) (settled : AreSettled t) where
   -- of whom is charged, and of another
-  charged_or : (user : ℕ) (to : Charged) (first : List Deed) → KnownSettled t now (settled_by t to first)
+  charged_or : (user : ℕ) (to : Charged) (first : List Deed) → All NoStore first → KnownSettled t now (settled_by t to first)
       → ((user ≡ to.owner) → (charge_of (deeds_done t first) to.owner ≤ to.charge) × (quota_of (deeds_done t first) to.owner ≡ to.quota))
       → ((user ≢ to.owner) → (charge_of (deeds_done t first) user ≤ charge_of t user) × (quota_of t user ≤ quota_of (deeds_done t first) user))
       → All (IsGoneWith t.nodes (deeds_done t first).nodes) (flat_map purged_by first)
       → IsSettled (stamp (deeds_done t (settled_by t to first)) now) user
-  charged_or user to first known own other gone =
+  charged_or user to first none known own other gone =
       let fine = step_sound t now (settled_by t to first) before later known in
       let keeps = altered_owners t now (allowed.Deeds (settled_by t to first) report.Plain) before later known in
       elim (cases_Bool (user == to.owner)) [
@@ -339,10 +347,10 @@ module _ (t : Tables) (now : ℕ) (before : AreSound t) (later : t.meta.last ≤
             (let same = eqb-true user to.owner is in
             let fits = own same in
             subst (IsSettled (stamp (deeds_done t (settled_by t to first)) now)) (sym same)
-            (settled_behind t now to first before fine keeps fits.0 fits.1 gone))
+            (settled_behind t now to first none before fine keeps fits.0 fits.1 gone))
         | inr not ↦
             (let fits = other (λ same. both_ways (user == to.owner) not (eq-eqb user to.owner same)) in
-            other_settled t now user to first before fine keeps (settled user) fits.0 fits.1)
+            other_settled t now user to first none before fine keeps (settled user) fits.0 fits.1)
       ]
 
   requoted_settled : (row : UserRow) (quota user : ℕ) → user_row t.users row.id ≡ Some row → (row.quota == quota) ≡ false
@@ -361,7 +369,7 @@ module _ (t : Tables) (now : ℕ) (before : AreSound t) (later : t.meta.last ≤
         other = λ same. both_ways (row.quota == quota) differs (eq-eqb row.quota quota (sym (ap (λ (r : UserRow). r.quota) same)));
       } in
       let goes = quota_goes t before now quota row.id in
-      charged_or user (charged_to t quota row) (requoting t now quota row) known
+      charged_or user (charged_to t quota row) (requoting t now quota row) (requoting_none t now quota row) known
       (λ same. (omega (arith, (lower row.id).0, less row.id), (lower row.id).1 ∙ quota_put t.users new))
       (λ other. (
         omega (arith, (lower user).0, less user),
@@ -383,7 +391,7 @@ module _ (t : Tables) (now : ℕ) (before : AreSound t) (later : t.meta.last ≤
       let made = restored t item.node (home_of t item) (name_back t item) in
       let lower = λ (user : ℕ). purges_lower gone made user in
       let less = λ (user : ℕ). restored_less t item.node (home_of t item) user (name_back t item) item before there in
-      charged_or user (charged t item.owner 0 (item_size t item)) (restoring t now item) known
+      charged_or user (charged t item.owner 0 (item_size t item)) (restoring t now item) (restoring_none t now item) known
       (λ same. (
         omega (
           arith,
@@ -439,7 +447,7 @@ module _ (t : Tables) (now : ℕ) (before : AreSound t) (later : t.meta.last ≤
       → KnownSettled t now (settled_by t (charged_for t transfer) (copies t now name transfer))
       → IsSettled (stamp (deeds_done t (settled_by t (charged_for t transfer) (copies t now name transfer))) now) user
   copied_settled transfer name user copied known =
-      charged_or user (charged_for t transfer) (copies t now name transfer) known
+      charged_or user (charged_for t transfer) (copies t now name transfer) (copies_none t now transfer name) known
       (λ same. own_coming transfer name (owner_of t.nodes transfer.folder) (deeds_done t (copies t now name transfer)) refl
       (copies_less t now (owner_of t.nodes transfer.folder) transfer name before later copied))
       (λ other. other_coming transfer name user (deeds_done t (copies t now name transfer)) other
@@ -453,7 +461,7 @@ module _ (t : Tables) (now : ℕ) (before : AreSound t) (later : t.meta.last ≤
       → KnownSettled t now (settled_by t (charged_for t transfer) (crossing t now name transfer))
       → IsSettled (stamp (deeds_done t (settled_by t (charged_for t transfer) (crossing t now name transfer))) now) user
   crossed_settled transfer name user cross known =
-      charged_or user (charged_for t transfer) (crossing t now name transfer) known
+      charged_or user (charged_for t transfer) (crossing t now name transfer) (crossing_none t now transfer name) known
       (λ same. own_coming transfer name (owner_of t.nodes transfer.folder) (deeds_done t (crossing t now name transfer)) refl
       (crossing_less t now (owner_of t.nodes transfer.folder) transfer name before later cross))
       (λ other. other_coming transfer name user (deeds_done t (crossing t now name transfer)) other
@@ -464,15 +472,18 @@ module _ (t : Tables) (now : ℕ) (before : AreSound t) (later : t.meta.last ≤
       (record { copies = copies_stamped t now transfer name cross.copies; crosses = cross.crosses }) in
       kind_gone t now (crossing t now name transfer) _ _ _ _ fine kind)
 
-  deeds_settled : (deeds : List Deed) (user : ℕ) → AreSettledSo t now deeds → KnownSettled t now deeds
+  -- deeds that store no changes
+  deeds_settled : (deeds : List Deed) (user : ℕ) → All NoStore deeds → AreSettledSo t now deeds → KnownSettled t now deeds
       → IsSettled (stamp (deeds_done t deeds) now) user
-  deeds_settled _ user (by_none deeds lower) known =
-      lower_settled t now user deeds before (step_sound t now deeds before later known)
+  deeds_settled _ user none (by_none deeds lower) known =
+      lower_settled t now user deeds none before (step_sound t now deeds before later known)
       (altered_owners t now (allowed.Deeds deeds report.Plain) before later known) (settled user) (lower user)
-  deeds_settled _ user (by_quota row quota there differs) known = requoted_settled row quota user there differs known
-  deeds_settled _ user (by_return item there restore goes others) known = returned_settled item user there restore goes others known
-  deeds_settled _ user (by_copies transfer name copied) known = copied_settled transfer name user copied known
-  deeds_settled _ user (by_cross transfer name cross) known = crossed_settled transfer name user cross known
+  deeds_settled _ user none (by_quota row quota there differs) known = requoted_settled row quota user there differs known
+  deeds_settled _ user none (by_return item there restore goes others) known = returned_settled item user there restore goes others known
+  deeds_settled _ user none (by_copies transfer name copied) known = copied_settled transfer name user copied known
+  deeds_settled _ user none (by_join place name of dir placed stores) known =
+      absurd (All-head NoStore (deed.Store (assembled_at t now name (whole_of t.chunks of dir) place)) (deed.Abandon of dir ∷ []) none)
+  deeds_settled _ user none (by_cross transfer name cross) known = crossed_settled transfer name user cross known
 
   -- rows by which no version is another
   turnless_settled : (changes : List Change) (blob : Option ℕ) (report : Report) (user : ℕ) → AreTurnless t changes → blob ≡ None
@@ -599,17 +610,12 @@ module _ (t : Tables) (now : ℕ) (before : AreSound t) (later : t.meta.last ≤
       (refills_settled is.node is.row (Some is.version.at) is.version.content blob report user is.there
       (subst (λ (changes : List Change). KnownChange t now changes blob) is.are known))
 
-  -- a body that is stored
-  stored_settled : (key : LockKey) (digest : List ℕ) (size user : ℕ) → IsHeld t key → Known t now (stored_at t now key digest size)
-      → IsSettled (stamp (altered t now (stored_at t now key digest size)) now) user
-  stored_settled (Node node) digest size user held known = here (node_row t.nodes node) refl known
+  -- a content that is stored over a file
+  over_settled : (node : ℕ) (content : List Piece) (blob : Option ℕ) (user : ℕ)
+      → KnownChange t now (option_map_or (refilled t now content) (node_row t.nodes node) []) blob
+      → IsSettled (stamp (altered t now (allowed.Change (option_map_or (refilled t now content) (node_row t.nodes node) []) blob report.Done)) now) user
+  over_settled node content blob user known = here (node_row t.nodes node) refl known
     where
-      blob : Option ℕ
-      blob = blob_for t.meta.next_blob size
-
-      content : List Piece
-      content = content_in blob digest size
-
       one : (row : NodeRow) → node_row t.nodes node ≡ Some row → (b : Bool) → is_same now content row ≡ b
           → KnownChange t now (if b then [] else refills t now None content row) blob
           → IsSettled (stamp (altered t now (allowed.Change (if b then [] else refills t now None content row) blob report.Done)) now) user
@@ -620,18 +626,22 @@ module _ (t : Tables) (now : ℕ) (before : AreSound t) (later : t.meta.last ≤
           → IsSettled (stamp (altered t now (allowed.Change (option_map_or (refilled t now content) o []) blob report.Done)) now) user
       here None there known = turnless_settled [] blob report.Done user tt (known.stored refl) known
       here (Some row) there known = one row there (is_same now content row) refl known
-  stored_settled (Slot folder name) digest size user free known =
-      let key = Slot folder name in
-      let act = stored_at t now key digest size in
-      let made = stamp (altered t now act) now in
-      let content = content_in (blob_for t.meta.next_blob size) digest size in
+
+  -- and in a new file
+  file_settled : (folder : ℕ) (name : List ℕ) (content : List Piece) (blob : Option ℕ) (user : ℕ)
+      → KnownChange t now (new_file t (new_node t now folder name File content)) blob
+      → IsSettled (stamp (altered t now (allowed.Change (new_file t (new_node t now folder name File content)) blob report.Made)) now) user
+  file_settled folder name content blob user known =
       let row = new_node t now folder name File content in
-      let to = charged t row.owner 0 (content_size content) in
+      let act : Allowed = allowed.Change (new_file t row) blob report.Made in
+      let made = stamp (altered t now act) now in
+      let size = content_size content in
+      let to = charged t row.owner 0 size in
       let gone = unsettled t to [] in
       let fine = altered_sound t now act before later known in
       let keeps = altered_owners t now act before later known in
       let trash = λ (user : ℕ). trash_same t made user before fine (act_kept t now act before later known tt) in
-      let comes = stored_comes t now key digest size before free in
+      let comes = born_comes t now folder size name content blob gone before refl in
       let quota = λ (user : ℕ). ap (λ (u : Tables). quota_of u user) (added_made t row gone) in
       let fewer = added_fewer t row gone in
       elim (cases_Bool (row.owner == user)) [
@@ -645,7 +655,6 @@ module _ (t : Tables) (now : ℕ) (before : AreSound t) (later : t.meta.last ≤
               trash row.owner,
               comes row.owner,
               ap (λ (b : Bool). if b then size else 0) (eq-eqb row.owner row.owner refl),
-              body_weighs t.meta.next_blob size digest,
             ))
             (quota row.owner) (λ version own_is.
             let was = All-contains (Contains t.versions) made.versions version fewer own_is in
@@ -670,6 +679,46 @@ module _ (t : Tables) (now : ℕ) (before : AreSound t) (later : t.meta.last ≤
             (omega (arith, quota user))
       ]
 
+  -- a body that is stored
+  stored_settled : (key : LockKey) (digest : List ℕ) (size user : ℕ) → Known t now (stored_at t now key digest size)
+      → IsSettled (stamp (altered t now (stored_at t now key digest size)) now) user
+  stored_settled (Node node) digest size user known =
+      over_settled node (content_in (blob_for t.meta.next_blob size) digest size) (blob_for t.meta.next_blob size) user known
+  stored_settled (Slot folder name) digest size user known =
+      file_settled folder name (content_in (blob_for t.meta.next_blob size) digest size) (blob_for t.meta.next_blob size) user known
+
+  -- what the chunks of an upload have together
+  assembled_settled : (place : Found) (name : List ℕ) (of : ℕ) (dir : List ℕ) (user : ℕ) → IsPlaced t place
+      → (let deeds = deed.Store (assembled_at t now name (whole_of t.chunks of dir) place) ∷ deed.Abandon of dir ∷ [] in
+      KnownSettled t now deeds → IsSettled (stamp (deeds_done t deeds) now) user)
+  unfolding charge_of
+  assembled_settled place name of dir user placed known =
+      let changes = assembled_at t now name (whole_of t.chunks of dir) place in
+      elim (settled_stores t now (deed.Store changes ∷ deed.Abandon of dir ∷ []) known) [
+        | inl none ↦ absurd (All-head NoStore (deed.Store changes) (deed.Abandon of dir ∷ []) none)
+        | inr first ↦
+            (let same : first.changes ≡ changes = let are = first.are in cc in
+            at place placed (subst (λ (changes : List Change). KnownChange t now changes None) same first.known))
+      ]
+    where
+      content : List Piece
+      content = whole_of t.chunks of dir
+
+      at : (place : Found) → IsPlaced t place → KnownChange t now (assembled_at t now name content place) None
+          → IsSettled (stamp (replaced t (assembled_at t now name content place)) now) user
+      at (At node) placed known = over_settled node content None user known
+      at (Free folder) placed known = file_settled folder name content None user known
+      at (Missing depth) placed known = absurd placed
+
+  -- a chunk makes no version, no node and no user another
+  chunk_settled : (row : ChunkRow) (blob : Option ℕ) (user : ℕ)
+      → (let changes = chunk_put t row ++ option_map_or (upload_touched now) (upload_row t.uploads row.user row.dir) [] in
+      IsSettled (stamp (altered t now (allowed.Change changes blob report.Made)) now) user)
+  unfolding charge_of
+  chunk_settled row blob user =
+      let changes = chunk_put t row ++ option_map_or (upload_touched now) (upload_row t.uploads row.user row.dir) [] in
+      subst (λ (u : Tables). IsSettled u user) (sym (chunk_leaves t row now).rest) (settled user)
+
   closed_settled : (user : ℕ) (act : Allowed) → ◌≡◌ {A = Result Allowed Denial} (Ok allowed.Close) (Ok act)
       → IsSettled (stamp (altered t now act) now) user
   unfolding charge_of
@@ -683,7 +732,12 @@ module _ (t : Tables) (now : ℕ) (before : AreSound t) (later : t.meta.last ≤
   goal_settled access user (Body digest size) (Store by key wanted) act held is known =
       let h = not_refused (end_refusal access t now by key size) (stored_at t now key digest size) act is in
       subst (λ (a : Allowed). IsSettled (stamp (altered t now a) now) user) h.1
-      (stored_settled key digest size user held.0 (subst (Known t now) (sym h.1) known))
+      (stored_settled key digest size user (subst (Known t now) (sym h.1) known))
+  goal_settled access user (Body digest size) (Chunk of dir number wanted) act held is known =
+      let h = not_refused (chunk_refusal t of dir number size) (chunk_stored t now of dir number digest size) act is in
+      let blob = blob_for t.meta.next_blob size in
+      subst (λ (a : Allowed). IsSettled (stamp (altered t now a) now) user) h.1
+      (chunk_settled (record { user = of; dir = dir; number = number; content = content_in blob digest size }) blob user)
   goal_settled access user outcome goal act held is known = closed_settled user act is
 
   -- an End
@@ -693,13 +747,16 @@ module _ (t : Tables) (now : ℕ) (before : AreSound t) (later : t.meta.last ≤
   end_settled access user outcome (Some goal) act held is known = goal_settled access user outcome goal act held is known
 
   -- all that a Begin asks for
-  begun_settled : (act : Allowed) (user : ℕ) → Known t now act → SettlesSo t now act → IsSettled (stamp (altered t now act) now) user
+  begun_settled : (act : Allowed) (user : ℕ) → Known t now act → SettlesSo t now act → StoresSo t now act → IsSettled (stamp (altered t now act) now) user
   unfolding charge_of
-  begun_settled (allowed.Change changes blob report) user known (inl turnless) =
+  begun_settled (allowed.Change changes blob report) user known (inl turnless) stores =
       turnless_settled changes blob report user turnless.0 turnless.1 known
-  begun_settled (allowed.Change changes blob report) user known (inr back) = back_settled changes blob report user back known
-  begun_settled (allowed.Deeds deeds report) user known so = deeds_settled deeds user so known
-  begun_settled act user known so = settled user
+  begun_settled (allowed.Change changes blob report) user known (inr back) stores = back_settled changes blob report user back known
+  begun_settled (allowed.Deeds deeds report) user known so (inl none) = deeds_settled deeds user none so known
+  begun_settled (allowed.Deeds deeds report) user known so (inr joined) =
+      subst (λ (deeds : List Deed). IsSettled (stamp (deeds_done t deeds) now) user) (sym joined.are)
+      (assembled_settled joined.place joined.name joined.user joined.dir user joined.placed (subst (KnownSettled t now) joined.are known))
+  begun_settled act user known so stores = settled user
 
 -- an act that may come leaves each user's versions within their bound
 act_settled : (s : State) (e : Entry) (event : Event) (user : ℕ) (act : Allowed) → AreSettled s.tables → IsSound s → s.tables.meta.last ≤ e.moment
@@ -707,16 +764,22 @@ act_settled : (s : State) (e : Entry) (event : Event) (user : ℕ) (act : Allowe
 act_settled s e (Begin words request) user act settled sound later may is =
     begun_settled s.tables e.moment sound.rows later settled act user (known_change s e.seat e.moment (Begin words request) act sound may is)
     (call_settles (call_of s e.seat e.moment words request) act sound later may.1 is)
+    (call_stores (call_of s e.seat e.moment words request) act sound may.1 is)
 act_settled s e (End outcome) user act settled sound later may is =
     end_settled s.tables e.moment sound.rows later settled (access_of s) user outcome (goal_at s e.seat) act (goal_held s e.seat sound) is
     (known_change s e.seat e.moment (End outcome) act sound may is)
 act_settled s e Sweep user act settled sound later may is =
     let t = s.tables in
     let gone = flat_map (gone_from t e.moment) (owners_of t.items) in
+    let idle = filter (is_idle e.moment) t.uploads in
+    let deeds = purges gone ++ abandons idle in
+    let none : All NoStore deeds =
+    All-append NoStore (purges gone) (abandons idle) (purges_none gone) (abandons_each NoStore (λ user dir. tt) idle) in
     let same : swept t e.moment ≡ act = cc in
     let known = known_change s e.seat e.moment Sweep act sound may is in
     subst (λ (a : Allowed). IsSettled (stamp (altered t e.moment a) e.moment) user) same
-    (deeds_settled t e.moment sound.rows later settled (purges gone) user (by_none (purges gone) (purges_lower gone t))
+    (deeds_settled t e.moment sound.rows later settled deeds user none
+    (by_none deeds (lower_append (purges gone) (abandons idle) (purges_lower gone) (abandons_lower idle) t))
     (subst (Known t e.moment) (sym same) known))
 
 pub settled_after : (n : ℕ) (s : State) (e : Entry) → AreSettled s.tables → IsSound s → MayCome n s e → AreSettled (after s e).tables

@@ -4,7 +4,7 @@ use Rattle.std.specs.Prelude.{None}
 use Rattle.std.specs.List.{All, AllPairs}
 use Rattle.std.specs.Option.{option_and_then}
 use Rattle.std.proofs.lemmas.List.{map-id}
-use Rattle.std.proofs.lemmas.List.Elements.{All-filter, All-head, All-map}
+use Rattle.std.proofs.lemmas.List.Elements.{All-filter, All-head, All-map, All-tail}
 use Rattle.std.proofs.lemmas.Option.{none-some}
 use Rattle.nf_access.specs.Mounts.{is_mount_of}
 use Rattle.nf_base.specs.declared.limits.TheConstants.{MAX_QUOTA}
@@ -19,20 +19,19 @@ use Rattle.nf_laws.proofs.Allowing.{changes_allowed}
 use Rattle.nf_laws.proofs.Counters.{after_up}
 use Rattle.nf_laws.proofs.Entries.{entry_has}
 use Rattle.nf_laws.proofs.Going.{purged_rest}
-use Rattle.nf_laws.proofs.Lists.{changes_have, turned_only}
 use Rattle.nf_laws.proofs.Others.{item_gone}
-use Rattle.nf_laws.proofs.Peopled.{people_alone}
 use Rattle.nf_laws.proofs.Purged.{purged_keeps}
 use Rattle.nf_laws.proofs.Rows.{each_fails, finds_none, found_is, stamped_has}
 use Rattle.nf_laws.proofs.Stays.{sound_after}
-use Rattle.nf_laws.specs.Access.{ChangesAllowed, has_quota, has_token, is_left, is_renamed, IsItemSettled, IsProviding, IsRemounted, IsRestoring, IsSharing, joins, KeepsShares, leaves, makes_group, makes_user, NodesAllowed, Provides, Remounts}
+use Rattle.nf_laws.specs.Access.{ChangesAllowed, has_quota, has_token, is_left, is_renamed, IsItemSettled, IsProviding, IsRemounted, IsRestoring, IsSharing, is_asked, is_same, is_sent, is_swept, joins, KeepsShares, leaves, makes_group, makes_user, NodesAllowed, Provides, Remounts, UploadsFollow}
 use Rattle.nf_laws.specs.Numbers.{AreHigher}
 use Rattle.nf_words.proofs.Ends.{known_change}
 use Rattle.nf_words.proofs.Known.{Known}
-use Rattle.nf_words.specs.Prelude.{after, altered, AreSound, asker_of, Call, call_of, changed, deeds_done, ended_row, IsInBounds, IsModest, IsSound, item_if_of, MayAsk, MayCome, new_user, purged, purges, State, told, forgets}
+use Rattle.nf_words.specs.Prelude.{after, altered, AreSound, asker_of, Call, call_of, changed, deed_done, deeds_done, ended_row, IsInBounds, IsModest, IsSound, item_if_of, MayAsk, MayCome, new_user, purged, purges, replaced, State, told, forgets}
 use Rattle.nf_words.specs.declared.answer.Allowed.{Allowed}
 use Rattle.nf_words.specs.declared.answer.Allowed.TheVariants as allowed
 use Rattle.nf_words.specs.declared.answer.Deed.{Deed}
+use Rattle.nf_words.specs.declared.answer.Deed.TheVariants as deed
 use Rattle.nf_words.specs.declared.answer.Report.{Report}
 use Rattle.nf_words.specs.declared.history.Entry.{Entry}
 use Rattle.nf_words.specs.declared.history.Event.TheVariants.{Begin}
@@ -42,15 +41,17 @@ use Rattle.nf_words.specs.declared.request.Words.{Words}
 use Rattle.nf_rules.specs.Laws.{StaysRuled}
 use Rattle.nf_rules.specs.Ruled.{AreOrdered, AreTokensApart, IsGiven, IsItemRuled, IsMountRuled, IsShareRuled}
 use Rattle.nf_rules.proofs.Items.{from_still, given_gone, items_ruled}
-use Rattle.nf_rules.proofs.Kept.{apart, EndsSome, ends_unless, others_ruled, shares_ruled, still_mounted}
+use Rattle.nf_rules.proofs.Kept.{apart, as_others, EndsSome, ends_unless, filed, others_ruled, shares_ruled, still_mounted}
 use Rattle.nf_rules.proofs.OneShare.{mounts_ruled, one_apart, one_ruled}
 use Rattle.nf_rules.proofs.Peopled.{people_ruled}
 use Rattle.nf_rules.proofs.Deeds.{AreModest, step_ruled}
 use Rattle.nf_base.specs.declared.rows.VersionRow.{VersionRow}
 use Rattle.nf_laws.proofs.Behind.{versioned, forgets_only}
+use Rattle.nf_laws.proofs.Each.{IsBehind, settled_stores, StoresFirst}
 use Rattle.nf_laws.proofs.InTurn.{deeds_append}
 use Rattle.nf_retention.specs.declared.versions.Version.{Version}
 use Rattle.nf_rules.proofs.Settled.{settled_after}
+use Rattle.nf_rules.proofs.Trashes.{bounded_after, changed_items}
 
 -- ---- mounts
 
@@ -138,42 +139,109 @@ record IsAfter (s : State) (e : Entry) (made : Tables) : Type 0 where
   allowed : ChangesAllowed s e made
   bounds : (words : Words) (request : Request) → e.event ≡ Begin words request → IsInBounds request.wanted
 
--- where an entry changes the nodes, the shares, the mounts and the meta row alone
-nodes_ruled : (s : State) (e : Entry) (made : Tables) → AreOrdered s.tables → IsAfter s e made → made.items ≡ s.tables.items → NodesAllowed s e made
-    → AreOrdered made
-nodes_ruled s e made ruled is same changes =
-    let kept = others_kept s e made ruled is.sound is.up (ap (λ (t : Tables). t.users) changes.rest) (ap (λ (t : Tables). t.groups) changes.rest)
-    changes.others is.bounds in
-    let items = items_ruled s.tables made ruled is.up same (from_still s e made is.none changes) in
-    subst AreOrdered (sym changes.rest)
-    (others_ruled s.tables made ruled (subst AreSound changes.rest is.sound) is.up
-    (subst (λ (u : Tables). All (IsShareRuled u) u.shares) changes.rest kept.shares) kept.apart
-    (subst (λ (u : Tables). All (IsMountRuled u) u.mounts) changes.rest kept.mounts)
-    (subst (λ (u : Tables). All (IsItemRuled u) u.items) changes.rest items))
+-- versions, uploads and chunks make no share and no mount another
+others_filed : (s : State) (e : Entry) (u beside : Tables) → KeepsShares s.tables u ⊎ (IsRemounted s e u ⊎ IsSharing s e u)
+    → KeepsShares s.tables (filed u beside) ⊎ (IsRemounted s e (filed u beside) ⊎ IsSharing s e (filed u beside))
+others_filed s e u beside (inl keeps) = inl (record { shares = keeps.shares; mounts = keeps.mounts })
+others_filed s e u beside (inr (inl is)) =
+    inr (inl (record {
+      words = is.words;
+      request = is.request;
+      begins = is.begins;
+      old = is.old;
+      row = is.row;
+      there = is.there;
+      becomes = is.becomes;
+      mounts = is.mounts;
+      nodes = is.nodes;
+      shares = is.shares;
+    }))
+others_filed s e u beside (inr (inr is)) =
+    inr (inr (record {
+      words = is.words;
+      request = is.request;
+      begins = is.begins;
+      row = is.row;
+      one = is.one;
+      shares = is.shares;
+      mounts = is.mounts;
+      mounted = is.mounted;
+      nodes = is.nodes;
+    }))
 
--- ---- an act that does no deeds
+-- where an entry changes the nodes, the shares, the mounts and the meta row alone, and versions, uploads and chunks
+nodes_ruled : (s : State) (e : Entry) (between beside : Tables) → AreOrdered s.tables → IsAfter s e (filed between beside)
+    → between.items ≡ s.tables.items → NodesAllowed s e between → AreOrdered (filed between beside)
+nodes_ruled s e between beside ruled is same changes =
+    let made : Tables = filed between beside in
+    let kept = others_kept s e made ruled is.sound is.up (ap (λ (t : Tables). t.users) changes.rest) (ap (λ (t : Tables). t.groups) changes.rest)
+    (others_filed s e between beside changes.others) is.bounds in
+    let items = items_ruled s.tables made ruled is.up same (from_still s e between is.none changes) in
+    let rest = as_others s.tables made (ap (λ (t : Tables). t.users) changes.rest) (ap (λ (t : Tables). t.tokens) changes.rest)
+    (ap (λ (t : Tables). t.groups) changes.rest) (ap (λ (t : Tables). t.members) changes.rest) in
+    subst AreOrdered (sym rest)
+    (others_ruled s.tables made ruled (subst AreSound rest is.sound) is.up
+    (subst (λ (u : Tables). All (IsShareRuled u) u.shares) rest kept.shares) kept.apart
+    (subst (λ (u : Tables). All (IsMountRuled u) u.mounts) rest kept.mounts)
+    (subst (λ (u : Tables). All (IsItemRuled u) u.items) rest items))
+
+-- ---- an act by which no item goes and none comes back
 
 abbrev HasNoDeeds : Allowed → Type 0
 HasNoDeeds act = (deeds : List Deed) (report : Report) → act ≡ allowed.Deeds deeds report → ⊥
 
--- it leaves the items as they were
+-- an act without deeds leaves the items as they were
 items_same : (t : Tables) (now : ℕ) (act : Allowed) → AreSound t → Known t now act → HasNoDeeds act → (changed t now act).items ≡ t.items
 items_same t now act sound known other =
     stamped_has (λ (u : Tables). u.items ≡ t.items) t (altered t now act) now (told t act) refl (here act known other)
   where
     here : (act : Allowed) → Known t now act → HasNoDeeds act → (altered t now act).items ≡ t.items
-    here (allowed.Change changes blob report) known other =
-        changes_have (λ (u : Tables). u.items ≡ t.items) t now changes blob report sound.rising known (λ u row same it. same) (λ u row same it. same)
-        (λ u row same it. same) (λ u row same it. same) (λ u change same it. ap (λ (v : Tables). v.items) (people_alone u change it) ∙ same)
-        (λ u change same it. ap (λ (v : Tables). v.items) (turned_only t u change it) ∙ same) (λ u row root same it. same) refl
+    here (allowed.Change changes blob report) known other = changed_items t now changes blob report sound known
     here (allowed.Deeds deeds report) known other = absurd (other deeds report refl)
     here act known other = refl
 
--- so that none of them goes, but versions may
-none_goes : (s : State) (e : Entry) (made : Tables) → made.items ≡ s.tables.items → (changes : ChangesAllowed s e made)
-    → (versions : List VersionRow) × (made ≡ versioned changes.between versions)
-none_goes s e made same changes = here changes.settled.tops changes.settled.items changes.settled.gone
+-- so do deeds that store changes, and by which versions and uploads go
+behind_items : (u : Tables) (deeds : List Deed) → All IsBehind deeds → (deeds_done u deeds).items ≡ u.items
+behind_items u [] behind = refl
+behind_items u (one ∷ deeds) behind =
+    behind_items (deed_done u one) deeds (All-tail IsBehind one deeds behind) ∙ here one (All-head IsBehind one deeds behind)
   where
+    here : (one : Deed) → IsBehind one → (deed_done u one).items ≡ u.items
+    here (deed.Forget node at) behind = refl
+    here (deed.Abandon user dir) behind = refl
+    here one behind = absurd behind
+
+stored_items : (t : Tables) (now : ℕ) (deeds : List Deed) (report : Report) → AreSound t → StoresFirst t now deeds
+    → (changed t now (allowed.Deeds deeds report)).items ≡ t.items
+stored_items t now deeds report sound first =
+    let act : Allowed = allowed.Deeds deeds report in
+    stamped_has (λ (u : Tables). u.items ≡ t.items) t (altered t now act) now (told t act) refl
+    (ap (λ (deeds : List Deed). (deeds_done t deeds).items) first.are
+    ∙ behind_items (replaced t first.changes) first.more first.behind ∙ changed_items t now first.changes None report sound first.known)
+
+-- uploads and chunks alone are others behind
+beside_only : (s : State) (e : Entry) (behind after : Tables) → UploadsFollow s e behind after
+    → after ≡ record behind { uploads = after.uploads; chunks = after.chunks }
+beside_only s e behind after (is_same same) = same ∙ ap (λ (u : Tables). record behind { uploads = u.uploads; chunks = u.chunks }) (sym same)
+beside_only s e behind after (is_asked words request asked begins wants only) = only.rest
+beside_only s e behind after (is_sent outcome user dir number length ends at only) = only.rest
+beside_only s e behind after (is_swept sweeps only) = only.rest
+
+-- so that none of the items goes, but versions may
+none_goes : (s : State) (e : Entry) (made : Tables) → made.items ≡ s.tables.items → (changes : ChangesAllowed s e made)
+    → made ≡ filed changes.between made
+none_goes s e made same changes =
+    only ∙ ap (λ (u : Tables). record u { uploads = made.uploads; chunks = made.chunks })
+    (here changes.settled.tops changes.settled.items changes.settled.gone)
+    ∙ ap (λ (versions : List VersionRow). record changes.between { versions = versions; uploads = made.uploads; chunks = made.chunks })
+    (ap (λ (u : Tables). u.versions) (sym only))
+  where
+    only : made ≡ record changes.behind { uploads = made.uploads; chunks = made.chunks }
+    only = beside_only s e changes.behind made changes.uploads
+
+    as_were : changes.behind.items ≡ s.tables.items
+    as_were = ap (λ (u : Tables). u.items) (sym only) ∙ same
+
     t : Tables
     t = s.tables
 
@@ -197,13 +265,15 @@ none_goes s e made same changes = here changes.settled.tops changes.settled.item
         (sym (deeds_append u (purges tops) (forgets versions) ∙ forgets_only (deeds_done u (purges tops)) versions))
         (purges_left top tops)
 
-    here : (tops : List ℕ) → All (IsItemSettled s e) tops → made ≡ deeds_done changes.between (purges tops ++ forgets versions)
-        → (versions : List VersionRow) × (made ≡ versioned changes.between versions)
-    here [] items gone = ((deeds_done changes.between (forgets versions)).versions, gone ∙ forgets_only changes.between versions)
+    here : (tops : List ℕ) → All (IsItemSettled s e) tops → changes.behind ≡ deeds_done changes.between (purges tops ++ forgets versions)
+        → changes.behind ≡ versioned changes.between changes.behind.versions
+    here [] items gone =
+        gone ∙ forgets_only changes.between versions
+        ∙ ap (λ (rows : List VersionRow). versioned changes.between rows) (ap (λ (u : Tables). u.versions) (sym gone))
     here (top ∷ tops) items gone =
         let item = All-head (IsItemSettled s e) top tops items in
         let none : item_row t.items top ≡ None =
-        ap (λ (rows : List ItemRow). item_row rows top) (sym same ∙ ap (λ (u : Tables). u.items) gone)
+        ap (λ (rows : List ItemRow). item_row rows top) (sym as_were ∙ ap (λ (u : Tables). u.items) gone)
         ∙ finds_none (λ (item : ItemRow). item.node == top) (deeds_done (purged changes.between top) (purges tops ++ forgets versions)).items (left top tops) in
         absurd (none-some item.0 (sym none ∙ item.1))
 
@@ -215,55 +285,20 @@ none_back s e made same is =
     none-some is.item
     (sym (ap (option_and_then (item_if_of (asker_of (call_of s e.seat e.moment is.words is.request)))) none) ∙ is.own)
 
--- versions that go make no node another
-behind_allowed : (s : State) (e : Entry) (u : Tables) (versions : List VersionRow) → NodesAllowed s e u → NodesAllowed s e (versioned u versions)
-behind_allowed s e u versions h = record {
-  nodes = h.nodes;
-  others = elim h.others [
-    | inl keeps ↦ inl (record { shares = keeps.shares; mounts = keeps.mounts })
-    | inr (inl is) ↦ inr (inl (record {
-      words = is.words;
-      request = is.request;
-      begins = is.begins;
-      old = is.old;
-      row = is.row;
-      there = is.there;
-      becomes = is.becomes;
-      mounts = is.mounts;
-      nodes = is.nodes;
-      shares = is.shares;
-    }))
-    | inr (inr is) ↦ inr (inr (record {
-      words = is.words;
-      request = is.request;
-      begins = is.begins;
-      row = is.row;
-      one = is.one;
-      shares = is.shares;
-      mounts = is.mounts;
-      mounted = is.mounted;
-      nodes = is.nodes;
-    }))
-  ];
-  items = h.items;
-  rest = ap (λ (v : Tables). versioned v versions) h.rest;
-}
-
 -- so the rules are kept
-behind_ruled : (s : State) (e : Entry) (between : Tables) (versions : List VersionRow) → AreOrdered s.tables → IsAfter s e (versioned between versions)
+beside_ruled : (s : State) (e : Entry) (between beside : Tables) → AreOrdered s.tables → IsAfter s e (filed between beside)
     → between.items ≡ s.tables.items → NodesAllowed s e between ⊎ (IsProviding s e between ⊎ IsRestoring s e between)
-    → AreOrdered (versioned between versions)
-behind_ruled s e between versions ruled is same (inl nodes) =
-    nodes_ruled s e (versioned between versions) ruled is same (behind_allowed s e between versions nodes)
-behind_ruled s e between versions ruled is same (inr (inl people)) = people_ruled s e between versions ruled is.sound is.up people
-behind_ruled s e between versions ruled is same (inr (inr back)) = absurd (none_back s e between same back)
+    → AreOrdered (filed between beside)
+beside_ruled s e between beside ruled is same (inl nodes) = nodes_ruled s e between beside ruled is same nodes
+beside_ruled s e between beside ruled is same (inr (inl people)) = people_ruled s e between beside ruled is.sound is.up people
+beside_ruled s e between beside ruled is same (inr (inr back)) = absurd (none_back s e between same back)
 
 plain_ruled : (s : State) (e : Entry) (made : Tables) → AreOrdered s.tables → IsAfter s e made → made.items ≡ s.tables.items → AreOrdered made
 plain_ruled s e made ruled is same =
-    let goes = none_goes s e made same is.allowed in
-    subst AreOrdered (sym goes.1)
-    (behind_ruled s e is.allowed.between goes.0 ruled (subst (IsAfter s e) goes.1 is)
-    (subst (λ (u : Tables). u.items ≡ s.tables.items) goes.1 same) is.allowed.allowed)
+    let only = none_goes s e made same is.allowed in
+    subst AreOrdered (sym only)
+    (beside_ruled s e is.allowed.between made ruled (subst (IsAfter s e) only is)
+    (ap (λ (u : Tables). u.items) (sym only) ∙ same) is.allowed.allowed)
 
 -- ---- quotas
 
@@ -292,7 +327,8 @@ provided_modest t made now _ h modest (has_token user token id named free is) = 
 -- nor is one after an entry
 modest_after : (s : State) (e : Entry) (made : Tables) → AreOrdered s.tables → ChangesAllowed s e made → AreModest made
 modest_after s e made h changes =
-    subst (All IsModestRow) (sym (ap (λ (u : Tables). u.users)
+    subst (All IsModestRow) (sym (ap (λ (u : Tables). u.users) (beside_only s e changes.behind made changes.uploads)
+    ∙ ap (λ (u : Tables). u.users)
     (changes.settled.gone ∙ deeds_append changes.between (purges changes.settled.tops) (forgets changes.settled.versions)
     ∙ forgets_only (deeds_done changes.between (purges changes.settled.tops)) changes.settled.versions)
     ∙ ap (λ (u : Tables). u.users) (purged_rest changes.between changes.settled.tops)))
@@ -309,9 +345,14 @@ act_ruled : (s : State) (e : Entry) (act : Allowed) → AreOrdered s.tables → 
     → IsAfter s e (changed s.tables e.moment act) → AreOrdered (changed s.tables e.moment act)
 act_ruled s e (allowed.Deeds deeds report) ruled later known is =
     let act : Allowed = allowed.Deeds deeds report in
-    stamped_has (λ (u : Tables). AreModest u → AreOrdered u) s.tables (altered s.tables e.moment act) e.moment (told s.tables act) (λ modest. ruled)
-    (step_ruled s.tables e.moment deeds ruled later known)
-    (modest_after s e (changed s.tables e.moment act) ruled is.allowed)
+    elim (settled_stores s.tables e.moment deeds known) [
+      | inl none ↦
+          stamped_has (λ (u : Tables). AreModest u → AreOrdered u) s.tables (altered s.tables e.moment act) e.moment (told s.tables act) (λ modest. ruled)
+          (step_ruled s.tables e.moment deeds ruled later known none)
+          (modest_after s e (changed s.tables e.moment act) ruled is.allowed)
+      | inr first ↦
+          plain_ruled s e (changed s.tables e.moment act) ruled is (stored_items s.tables e.moment deeds report ruled.sound first)
+    ]
 act_ruled s e act ruled later known is =
     plain_ruled s e (changed s.tables e.moment act) ruled is
     (items_same s.tables e.moment act ruled.sound known (λ deeds report same. cc))
@@ -332,5 +373,9 @@ pub stays_ruled : StaysRuled
 stays_ruled n s [] ruled sound legal = ruled
 stays_ruled n s (e ∷ es) ruled sound legal =
     stays_ruled (n + 1) (after s e) es
-    (record { ordered = ruled_after n s e ruled.ordered sound legal.0; settled = settled_after n s e ruled.settled sound legal.0 })
+    (record {
+      ordered = ruled_after n s e ruled.ordered sound legal.0;
+      settled = settled_after n s e ruled.settled sound legal.0;
+      bounded = bounded_after n s e ruled.bounded sound legal.0;
+    })
     (sound_after n s e sound legal.0) legal.1

@@ -1,19 +1,17 @@
 -- Rows that break no rule make tables that keep the rules.
-use Rattle.std.proofs.Common.{◌≡◌, ℕ, ◌<◌, ◌≤◌, Bool, true, false, not, List, [], ◌∷◌, length, get_or, Option, None, Some, refl, sym, ap, ◌∙◌, arith, ⊎_elim, filter, sum_by, inl, inr, ◌==◌, subst}
+use Rattle.std.proofs.Common.{◌≡◌, ℕ, ◌<◌, ◌≤◌, Bool, true, false, not, List, [], ◌∷◌, length, get_or, Option, None, Some, refl, sym, ap, ◌∙◌, arith, ⊎_elim, sum_by, inl, inr, ◌==◌, subst}
 use Rattle.std.specs.Prelude.{nat_lt}
 use Rattle.std.specs.List.{All, AllPairs, Contains}
 use Rattle.std.specs.Option.{option_map_or}
 use Rattle.std.specs.declared.cmp.Ordering.TheVariants.{Less, Equal}
 use Rattle.std.proofs.lemmas.Bool.{and_cases, and_parts, cases_lt, eqb-true, false≢true, ltb-false, ltb-true, not-false, not-true, or_parts, cases_Bool}
-use Rattle.std.proofs.lemmas.List.Elements.{All-cons, All-head, All-nil, All-tail, All-weaker, All-contains}
-use Rattle.std.proofs.lemmas.List.Sums.{sum_by-cons}
+use Rattle.std.proofs.lemmas.List.Elements.{All-head, All-weaker, All-contains}
 use Rattle.std.proofs.lemmas.Slice.Eq.{bytes_eq-Decides}
 use Rattle.nf_base.specs.declared.limits.TheConstants.{MAX_GROUPS, MAX_MEMBERS, MAX_MOUNTS, MAX_QUOTA, MAX_SHARES, MAX_TOKENS, MAX_USERS, MAX_VERSIONS}
 use Rattle.nf_access.specs.Mounts.{root_folder}
 use Rattle.nf_base.proofs.Naming.{slice_cmp-Equal}
 use Rattle.nf_base.specs.Keys.{key_of}
 use Rattle.nf_base.specs.KeptRows.{IsKept}
-use Rattle.nf_base.specs.declared.content.Piece.{Piece}
 use Rattle.nf_base.specs.declared.rows.Row.{Row}
 use Rattle.nf_base.specs.declared.rows.Row.TheVariants as rows
 use Rattle.nf_base.specs.declared.rows.MetaRow.{MetaRow}
@@ -27,26 +25,27 @@ use Rattle.nf_base.specs.declared.rows.UserRow.{UserRow}
 use Rattle.nf_defs.proofs.Tables.{tables_rise}
 use Rattle.nf_defs.proofs.Puts.{below_one}
 use Rattle.nf_defs.proofs.Walks.{node_row_each}
-use Rattle.nf_defs.specs.Prelude.{group_key, is_folder_kind, is_root_place, IsRising, key_cmp, mount_key, node_key, node_row, numbers_of, piece_count, share_key, Tables, tables_of, user_key, owner_of}
-use Rattle.nf_words.specs.Prelude.{AreCounters, AreSound, count_of, HasRoot, is_later, IsNodeSound, stored_pieces, charge_of, quota_of, content_size}
-use Rattle.nf_words.specs.Later.{later_kinds}
+use Rattle.nf_defs.specs.Prelude.{group_key, is_folder_kind, is_root_place, IsRising, key_cmp, mount_key, node_key, node_row, numbers_of, share_key, Tables, tables_of, user_key, owner_of}
+use Rattle.nf_words.specs.Prelude.{AreCounters, AreSound, count_of, HasRoot, IsNodeSound, stored_pieces, charge_of, quota_of, content_size, item_size}
 use Rattle.nf_words.specs.Others.{AreOthersSound, IsShareSound, IsVersionSound}
 use Rattle.nf_words.specs.declared.answer.Limit.TheVariants as limit
 use Rattle.nf_rules.specs.Keys.{child_key, link_key, name_key}
 use Rattle.nf_rules.specs.Laws.{UnbrokenAreRuled}
-use Rattle.nf_rules.specs.Ruled.{IsGiven, IsMountRuled, IsShareRuled, AreSettled}
-use Rattle.nf_rules.specs.Rules.{AreUnbroken, are_counters, are_numbers, has_ungiven_blob, is_beyond, is_given, is_placed, is_root_of, is_shared_well, lacks_meta, leads, names_are_there, rules, is_over, held_bytes, are_unsettled}
+use Rattle.nf_rules.specs.Ruled.{IsMountRuled, IsShareRuled, AreSettled, AreTrashesBounded}
+use Rattle.nf_rules.specs.Rules.{AreUnbroken, are_counters, are_numbers, has_ungiven_blob, is_beyond, is_placed, is_root_of, is_shared_well, lacks_meta, leads, names_are_there, rules, is_over, held_bytes, are_unsettled, is_heaped, trash_bytes}
 use Rattle.nf_rules.proofs.Among.{all_have, meta_has}
 use Rattle.nf_rules.proofs.Firsts.{keep_each}
 use Rattle.nf_rules.proofs.Items.{item_ruled, item_sound}
-use Rattle.nf_rules.proofs.Later.{nobody, none_of}
 use Rattle.nf_rules.proofs.Leading.{climbs, place_of_leading}
 use Rattle.nf_rules.proofs.Shared.{AreUnshared, IsAmong, each_among, one_has}
 use Rattle.nf_rules.proofs.Shared as shared
 use Rattle.nf_rules.proofs.Shares.{given, mount_key_is, mount_sound, name_free, share_sound}
+use Rattle.nf_rules.proofs.Uploads.{chunk_sound, chunk_without, few_pending, few_uploads, no_sum, none_kept, upload_sound}
+use Rattle.nf_rules.proofs.Blobs.{none_ungiven}
 use Rattle.nf_base.specs.declared.rows.VersionRow.{VersionRow}
 use Rattle.nf_base.specs.declared.rows.ChunkRow.{ChunkRow}
-use Rattle.nf_retention.specs.Budget.{versions_bound}
+use Rattle.nf_base.specs.declared.rows.ItemRow.{ItemRow}
+use Rattle.nf_retention.specs.Budget.{trash_bound, versions_bound}
 
 -- ---- numbers
 
@@ -63,14 +62,6 @@ counters meta is =
       shares = ltb-true 0 meta.next_share shares.1;
       blobs = ltb-true 0 meta.next_blob blobs.1;
     }
-
-none_ungiven : (next : ℕ) (content : List Piece) → has_ungiven_blob next content ≡ false
-    → All (λ (piece : Piece). IsGiven next piece.blob) content
-none_ungiven next [] none = All-nil (λ (piece : Piece). IsGiven next piece.blob)
-none_ungiven next (piece ∷ content) none =
-    let parts = or_parts (not (is_given next piece.blob)) (has_ungiven_blob next content) none in
-    All-cons (λ (piece : Piece). IsGiven next piece.blob) piece content
-    (given next piece.blob (not-false (is_given next piece.blob) parts.0)) (none_ungiven next content parts.1)
 
 -- ---- keys
 
@@ -150,32 +141,24 @@ few [] most within = omega arith
 few (x ∷ some) most within =
     ltb-false most (length (x ∷ some)) (All-head (λ row. nat_lt most (length (x ∷ some)) ≡ false) x some within)
 
-no_pieces : (some : List NodeRow) → All (λ (row : NodeRow). length row.content ≡ 0) some → piece_count some ≡ 0
-no_pieces [] none = refl
-no_pieces (x ∷ some) none =
-    omega (
-      arith,
-      sum_by-cons (λ (row : NodeRow). length row.content) x some,
-      All-head (λ (row : NodeRow). length row.content ≡ 0) x some none,
-      no_pieces some (All-tail (λ (row : NodeRow). length row.content ≡ 0) x some none),
-    )
-
 -- no version is there, where each would pass the limit
 no_versions : (some : List VersionRow) → ((row : VersionRow) → Contains some row → ⊥) → sum_by (λ (row : VersionRow). length row.content) some ≡ 0
 no_versions [] none = refl
 no_versions (x ∷ some) none = absurd (none x (0, omega arith, refl))
 
 few_pieces : (t : Tables) → All (λ (row : NodeRow). is_beyond t (rows.Node row) ≡ false) t.nodes
-    → All (λ (row : VersionRow). is_beyond t (rows.Version row) ≡ false) t.versions → t.chunks ≡ [] → stored_pieces t ≤ count_of limit.Pieces
+    → All (λ (row : VersionRow). is_beyond t (rows.Version row) ≡ false) t.versions
+    → All (λ (row : ChunkRow). is_beyond t (rows.Chunk row) ≡ false) t.chunks → stored_pieces t ≤ count_of limit.Pieces
 few_pieces t within versions chunks =
     ⊎_elim
     (λ more. absurd (omega (
       arith,
-      no_pieces t.nodes (All-weaker (λ (row : NodeRow). is_beyond t (rows.Node row) ≡ false)
+      no_sum (λ (row : NodeRow). length row.content) t.nodes (All-weaker (λ (row : NodeRow). is_beyond t (rows.Node row) ≡ false)
           (λ (row : NodeRow). length row.content ≡ 0) (none more) t.nodes within),
       no_versions t.versions (λ row among. fewer more row (All-contains (λ (row : VersionRow). is_beyond t (rows.Version row) ≡ false)
           t.versions row versions among)),
-      ap (λ (some : List ChunkRow). sum_by (λ row. length row.content) some) chunks,
+      no_sum (λ (row : ChunkRow). length row.content) t.chunks (All-weaker (λ (row : ChunkRow). is_beyond t (rows.Chunk row) ≡ false)
+          (λ (row : ChunkRow). length row.content ≡ 0) (λ row within. chunk_without t row within more) t.chunks chunks),
       more,
     )))
     (λ le. le)
@@ -198,7 +181,6 @@ few_pieces t within versions chunks =
 
 -- what no broken rule says of each row
 record Known (all : List Row) : Type 0 where
-  early : All (λ row. is_later row ≡ false) all
   meta : lacks_meta all ≡ false
   numbers : All (λ row. are_numbers (tables_of all).meta row ≡ true) all
   there : All (λ row. names_are_there (tables_of all) row ≡ true) all
@@ -216,15 +198,14 @@ known all none =
     let kept = keep_each rules all none in
     let t = tables_of all in
     record {
-      early = kept.0.0;
-      meta = kept.1.0.1;
-      numbers = passes (are_numbers t.meta) all kept.1.1.0.0;
-      there = passes (names_are_there t) all kept.1.1.1.0.0;
-      names = kept.1.1.1.1.0.0;
-      placed = passes (is_placed t) all kept.1.1.1.1.1.0.0;
-      well = passes (is_shared_well t) all kept.1.1.1.1.1.1.0.0;
-      few = kept.1.1.1.1.1.1.1.0.0;
-      modest = kept.1.1.1.1.1.1.1.1.0.0;
+      meta = kept.0.1;
+      numbers = passes (are_numbers t.meta) all kept.1.0.0;
+      there = passes (names_are_there t) all kept.1.1.0.0;
+      names = kept.1.1.1.0.0;
+      placed = passes (is_placed t) all kept.1.1.1.1.0.0;
+      well = passes (is_shared_well t) all kept.1.1.1.1.1.0.0;
+      few = kept.1.1.1.1.1.1.0.0;
+      modest = kept.1.1.1.1.1.1.1.0.0;
     }
 
 -- ---- versions
@@ -244,13 +225,6 @@ version_sound t row numbers kept placed =
           let sized = kept.sized k d within in
           record { some = sized.some; few = sized.few; first = (blob k d within).first; given = (blob k d within).below };
     }
-
--- a test that no row passes keeps none
-none_kept : (test : VersionRow → Bool) (some : List VersionRow) → All (λ (row : VersionRow). test row ≡ false) some → filter test some ≡ []
-none_kept test [] none = refl
-none_kept test (x ∷ some) none =
-    simp (All-head (λ (row : VersionRow). test row ≡ false) x some none)
-    (none_kept test some (All-tail (λ (row : VersionRow). test row ≡ false) x some none))
 
 -- where no version is one of too many, each user's are within their bound
 settled_from : (t : Tables) → All (λ (row : VersionRow). is_over t (rows.Version row) ≡ false) t.versions → AreSettled t
@@ -274,6 +248,31 @@ settled_from t none user =
           | inl own ↦
               (let le = ltb-false (versions_bound (quota_of t user) (charge_of t user)) (held_bytes t user)
               (subst (λ (u : ℕ). are_unsettled t u ≡ false) (eqb-true (owner_of t.nodes row.node) user own) within) in
+              absurd (omega (arith, more, le)))
+          | inr not ↦ not
+        ]
+
+-- where no item is one of too many bytes, each user's are within their bound
+bounded_from : (t : Tables) → All (λ (row : ItemRow). is_over t (rows.Item row) ≡ false) t.items → AreTrashesBounded t
+bounded_from t none user =
+    ⊎_elim
+    (λ more. absurd (omega (
+      arith,
+      more,
+      ap (λ (some : List ItemRow). sum_by (item_size t) some)
+          (none_kept (λ (row : ItemRow). row.owner == user) t.items
+          (All-weaker (λ (row : ItemRow). is_over t (rows.Item row) ≡ false) (λ (row : ItemRow). (row.owner == user) ≡ false)
+          (other more) t.items none)),
+    )))
+    (λ le. le)
+    (cases_lt (trash_bound (quota_of t user)) (trash_bytes t user))
+  where
+    other : trash_bound (quota_of t user) < trash_bytes t user → (row : ItemRow) → is_over t (rows.Item row) ≡ false → (row.owner == user) ≡ false
+    other more row within =
+        elim (cases_Bool (row.owner == user)) [
+          | inl own ↦
+              (let le = ltb-false (trash_bound (quota_of t user)) (trash_bytes t user)
+              (subst (λ (u : ℕ). is_heaped t u ≡ false) (eqb-true row.owner user own) within) in
               absurd (omega (arith, more, le)))
           | inr not ↦ not
         ]
@@ -302,7 +301,6 @@ others all kept h =
     let keeps = all_have IsKept all kept in
     let rising = tables_rise all in
     let among = all_have (IsAmong all) all (each_among all) in
-    let early = all_have (λ row. is_later row ≡ false) all h.early in
     let there = all_have (λ row. names_are_there t row ≡ true) all h.there in
     let numbers = all_have (λ row. are_numbers t.meta row ≡ true) all h.numbers in
     let placed = all_have (λ row. is_placed t row ≡ true) all h.placed in
@@ -335,8 +333,13 @@ others all kept h =
           (λ row fails. (or_parts (nat_lt MAX_VERSIONS (length t.versions)) _ fails).0) t.versions within.versions);
       items = λ k d less. item_sound t (get_or t.items k d) (numbers.items k d less) (placed.items k d less);
       items_rise = rising.items;
-      uploads = λ k d less. absurd (false≢true (sym (early.uploads k d less)));
-      chunks = λ k d less. absurd (false≢true (sym (early.chunks k d less)));
+      uploads = λ k d less. upload_sound t (get_or t.uploads k d) (numbers.uploads k d less) (there.uploads k d less);
+      uploads_rise = rising.uploads;
+      few_uploads = few_uploads t within.uploads;
+      chunks = λ k d less.
+          chunk_sound t (get_or t.chunks k d) (numbers.chunks k d less) (keeps.chunks k d less) (there.chunks k d less) (within.chunks k d less);
+      chunks_rise = rising.chunks;
+      few_pending = few_pending t within.chunks;
     }
 
 -- ---- all of them
@@ -346,7 +349,6 @@ sound all kept h =
     let t : Tables = tables_of all in
     let rising = tables_rise all in
     let among = all_have (IsAmong all) all (each_among all) in
-    let early = all_have (λ row. is_later row ≡ false) all h.early in
     let numbers = all_have (λ row. are_numbers t.meta row ≡ true) all h.numbers in
     let keeps = all_have IsKept all kept in
     let placed = all_have (λ row. is_placed t row ≡ true) all h.placed in
@@ -374,8 +376,7 @@ sound all kept h =
           (All-weaker (λ (row : NodeRow). is_beyond t (rows.Node row) ≡ false)
           (λ (row : NodeRow). nat_lt (count_of limit.Nodes) (length t.nodes) ≡ false)
           (λ row fails. (or_parts (nat_lt (count_of limit.Nodes) (length t.nodes)) _ fails).0) t.nodes within.nodes);
-      few_pieces = few_pieces t within.nodes within.versions (nobody t.chunks early.chunks);
-      later = none_of t later_kinds early;
+      few_pieces = few_pieces t within.nodes within.versions within.chunks;
       others = others all kept h;
     }
 
@@ -395,6 +396,7 @@ unbroken_are_ruled all kept none =
     let shares = names_differ share_key rows.Share (λ row. refl) t all t.shares h.names rising.shares among.shares in
     record {
       settled = settled_from t modest.versions;
+      bounded = bounded_from t modest.items;
       ordered = record {
         sound = sound all kept h;
         rising = rising;

@@ -12,10 +12,10 @@ use Rattle.nf_base.specs.declared.rows.ItemRow.{ItemRow}
 use Rattle.nf_base.specs.declared.rows.ShareKind.TheVariants as to
 use Rattle.nf_base.specs.declared.rows.ShareRow.{ShareRow}
 use Rattle.nf_defs.specs.Prelude.{AreRising, Tables}
-use Rattle.nf_retention.specs.Budget.{versions_bound}
+use Rattle.nf_retention.specs.Budget.{trash_bound, versions_bound}
 use Rattle.nf_words.specs.Charges.{charge_of, quota_of}
 use Rattle.nf_words.specs.Sound.{AreSound}
-use Rattle.nf_rules.specs.Rules.{are_share_names_there, are_share_numbers, held_bytes, is_from_kept, is_group, is_share_kept, is_user}
+use Rattle.nf_rules.specs.Rules.{are_share_names_there, are_share_numbers, held_bytes, is_from_kept, is_group, is_share_kept, is_user, trash_bytes}
 
 -- the number was given, where that is the next
 pub record IsGiven (next id : ℕ) : Type 0 where
@@ -70,7 +70,11 @@ pub record IsItemRuled (t : Tables) (row : ItemRow) : Type 0 where
 abbrev pub AreSettled : Tables → Type 0
 AreSettled t = (user : ℕ) → held_bytes t user ≤ versions_bound (quota_of t user) (charge_of t user)
 
--- the tables of rows that break no rule, but for the bounds of versions
+-- each user's trash is within its bound
+abbrev pub AreTrashesBounded : Tables → Type 0
+AreTrashesBounded t = (user : ℕ) → trash_bytes t user ≤ trash_bound (quota_of t user)
+
+-- the tables of rows that break no rule, but for the bounds of versions and of trashes
 pub record AreOrdered (t : Tables) : Type 0 where
   pub sound : AreSound t
   pub rising : AreRising t
@@ -90,7 +94,8 @@ pub record AreOrdered (t : Tables) : Type 0 where
   pub few_tokens : length t.tokens ≤ MAX_TOKENS
   pub few_members : length t.members ≤ MAX_MEMBERS
 
--- and the versions of each user's files are within their bound
+-- and the versions of each user's files are within their bound, and so is each user's trash
 pub record AreRuled (t : Tables) : Type 0 where
   pub ordered : AreOrdered t
   pub settled : AreSettled t
+  pub bounded : AreTrashesBounded t

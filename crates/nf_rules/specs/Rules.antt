@@ -1,10 +1,10 @@
 -- The rules that stored rows keep. A row breaks a rule among all the rows that were loaded; rows that break a rule together each
 -- break it.
-use Rattle.std.specs.Prelude.{◌≡◌, ℕ, zero, suc, ◌==◌, ◌&&◌, ◌||◌, Bool, false, true, not, nat_lt, bytes_eq, List, [], ◌∷◌, filter, map, length, sum_by, Option, None, Some, option_map, is_some, if◌then◌else◌}
+use Rattle.std.specs.Prelude.{◌≡◌, ℕ, zero, suc, ◌==◌, ◌&&◌, ◌||◌, Bool, false, true, not, nat_le, nat_lt, bytes_eq, List, [], ◌∷◌, filter, map, length, sum_by, Option, None, Some, option_map, is_some, if◌then◌else◌}
 use Rattle.std.specs.List.{list_any}
 use Rattle.std.specs.Option.{option_map_or, option_or}
 use Rattle.nf_access.specs.Shares.{chain_within, perms_of_share, share_row}
-use Rattle.nf_base.specs.declared.limits.TheConstants.{MAX_CHAIN, MAX_DEPTH, MAX_GROUPS, MAX_MEMBERS, MAX_MOUNTS, MAX_QUOTA, MAX_SHARES, MAX_TOKENS, MAX_USERS, MAX_VERSIONS}
+use Rattle.nf_base.specs.declared.limits.TheConstants.{MAX_CHAIN, MAX_DEPTH, MAX_GROUPS, MAX_MEMBERS, MAX_MOUNTS, MAX_PIECES, MAX_QUOTA, MAX_SHARES, MAX_TOKENS, MAX_USERS, MAX_VERSIONS}
 use Rattle.nf_base.specs.declared.content.Piece.{Piece}
 use Rattle.nf_base.specs.declared.rows.MetaRow.{MetaRow}
 use Rattle.nf_base.specs.declared.rows.NodeRow.{NodeRow}
@@ -12,6 +12,8 @@ use Rattle.nf_base.specs.declared.rows.UserRow.{UserRow}
 use Rattle.nf_base.specs.declared.rows.GroupRow.{GroupRow}
 use Rattle.nf_base.specs.declared.rows.ItemRow.{ItemRow}
 use Rattle.nf_base.specs.declared.rows.VersionRow.{VersionRow}
+use Rattle.nf_base.specs.declared.rows.UploadRow.{UploadRow}
+use Rattle.nf_base.specs.declared.rows.ChunkRow.{ChunkRow}
 use Rattle.nf_base.specs.declared.rows.Row.{Row}
 use Rattle.nf_base.specs.declared.rows.Row.TheVariants as rows
 use Rattle.nf_base.specs.declared.rows.ShareKind.{ShareKind}
@@ -20,14 +22,13 @@ use Rattle.nf_base.specs.declared.rows.ShareRow.{ShareRow}
 use Rattle.nf_base.specs.declared.rows.Place.{Place}
 use Rattle.nf_base.specs.declared.rows.Place.TheVariants.{Root, Inside, Trash}
 use Rattle.nf_defs.specs.Prelude.{is_file, is_folder_kind, is_root_place, is_under, item_row, node_row, owner_of, Tables, tables_of, user_row}
-use Rattle.nf_retention.specs.Budget.{versions_bound}
+use Rattle.nf_retention.specs.Budget.{trash_bound, versions_bound}
 use Rattle.nf_words.specs.Charges.{charge_of}
-use Rattle.nf_words.specs.Prelude.{count_of, is_end_moment, is_later, quota_of, root_of_user, stored_pieces}
+use Rattle.nf_words.specs.Prelude.{count_of, is_end_moment, item_size, items_of, pending_of, quota_of, root_of_user, stored_pieces, upload_row, uploads_of}
 use Rattle.nf_words.specs.Versions.{content_size}
 use Rattle.nf_words.specs.declared.answer.Limit.TheVariants as limit
+use Rattle.nf_words.specs.declared.limits.TheConstants.{MAX_PENDING, MAX_UPLOADS}
 use Rattle.nf_rules.specs.Keys.{is_shared, name_key, spelled_key}
-
--- ---- 0: the row is of a kind that isn't built yet: is_later
 
 -- ---- 1: there is one meta row, and no key comes twice
 
@@ -81,6 +82,14 @@ abbrev pub are_version_numbers : MetaRow → VersionRow → Bool
 are_version_numbers meta row =
     is_given meta.next_node row.node && not (has_ungiven_blob meta.next_blob row.content) && not (nat_lt meta.last row.at)
 
+-- the upload's user was given, and it wasn't touched at a moment to come
+abbrev pub are_upload_numbers : MetaRow → UploadRow → Bool
+are_upload_numbers meta row = is_given meta.next_user row.user && not (nat_lt meta.last row.touched)
+
+-- the chunk's user was given, and the blob of its content
+abbrev pub are_chunk_numbers : MetaRow → ChunkRow → Bool
+are_chunk_numbers meta row = is_given meta.next_user row.user && not (has_ungiven_blob meta.next_blob row.content)
+
 abbrev pub are_numbers : MetaRow → Row → Bool
 are_numbers meta (rows.Meta row) = are_counters row
 are_numbers meta (rows.User row) = is_given meta.next_user row.id && is_given meta.next_node row.root
@@ -94,7 +103,8 @@ are_numbers meta (rows.Share row) = are_share_numbers meta row
 are_numbers meta (rows.Mount row) = is_given meta.next_user row.user && is_given meta.next_node row.node
 are_numbers meta (rows.Version row) = are_version_numbers meta row
 are_numbers meta (rows.Item row) = are_item_numbers meta row
-are_numbers meta other = true
+are_numbers meta (rows.Upload row) = are_upload_numbers meta row
+are_numbers meta (rows.Chunk row) = are_chunk_numbers meta row
 
 -- ---- 3: what a row names is there
 
@@ -126,6 +136,10 @@ are_share_names_there t row =
     is_user t row.owner && is_user t row.initiator && is_recipient_there t row.kind && option_map_or (is_share t) row.parent true
     && (row.ended || is_node t row.node)
 
+-- the user has an upload under that name
+abbrev pub is_upload : Tables → ℕ → List ℕ → Bool
+is_upload t user dir = is_some (upload_row t.uploads user dir)
+
 -- the folder that an item was in may be gone
 abbrev pub names_are_there : Tables → Row → Bool
 names_are_there t (rows.User row) = is_node t row.root
@@ -136,6 +150,8 @@ names_are_there t (rows.Share row) = are_share_names_there t row
 names_are_there t (rows.Mount row) = is_user t row.user
 names_are_there t (rows.Version row) = is_node t row.node
 names_are_there t (rows.Item row) = is_user t row.owner && is_node t row.node
+names_are_there t (rows.Upload row) = is_user t row.user
+names_are_there t (rows.Chunk row) = is_upload t row.user row.dir
 names_are_there t other = true
 
 -- ---- 4: no name is there twice, among the users, the groups, the tokens of links, or the children of a folder with the mounts of a root
@@ -223,6 +239,17 @@ is_shared_well t other = true
 
 -- ---- 7: the limits
 
+-- the number is one of a chunk
+abbrev pub is_chunk_number : ℕ → Bool
+is_chunk_number number = nat_le 1 number && nat_le number MAX_PIECES
+
+-- the chunk's number is none of a chunk, or its piece is one of too many, or its bytes are among too many of its user's
+abbrev pub is_chunk_beyond : Tables → ChunkRow → Bool
+is_chunk_beyond t row =
+    not (is_chunk_number row.number)
+    || nat_lt 0 (length row.content) && nat_lt (count_of limit.Pieces) (stored_pieces t)
+    || nat_lt 0 (content_size row.content) && nat_lt MAX_PENDING (pending_of t.chunks row.user)
+
 -- the row is one of too many
 abbrev pub is_beyond : Tables → Row → Bool
 is_beyond t (rows.User row) = nat_lt MAX_USERS (length t.users)
@@ -235,9 +262,11 @@ is_beyond t (rows.Node row) =
 is_beyond t (rows.Share row) = nat_lt MAX_SHARES (length t.shares)
 is_beyond t (rows.Mount row) = nat_lt MAX_MOUNTS (length t.mounts)
 is_beyond t (rows.Version row) = nat_lt MAX_VERSIONS (length t.versions) || nat_lt (count_of limit.Pieces) (stored_pieces t)
+is_beyond t (rows.Upload row) = nat_lt MAX_UPLOADS (length (uploads_of t.uploads row.user))
+is_beyond t (rows.Chunk row) = is_chunk_beyond t row
 is_beyond t other = false
 
--- ---- 8: the quotas, and the bounds of versions
+-- ---- 8: the quotas, and the bounds of versions and of trashes
 
 abbrev pub is_lavish : Row → Bool
 is_lavish (rows.User row) = nat_lt MAX_QUOTA row.quota
@@ -255,8 +284,17 @@ are_unsettled t user = nat_lt (versions_bound (quota_of t user) (charge_of t use
 abbrev pub is_unsettled : Tables → VersionRow → Bool
 is_unsettled t row = are_unsettled t (owner_of t.nodes row.node)
 
+-- the bytes of a user's items
+abbrev pub trash_bytes : Tables → ℕ → ℕ
+trash_bytes t user = sum_by (item_size t) (items_of t user)
+
+-- they are beyond half of the quota
+abbrev pub is_heaped : Tables → ℕ → Bool
+is_heaped t user = nat_lt (trash_bound (quota_of t user)) (trash_bytes t user)
+
 abbrev pub is_over : Tables → Row → Bool
 is_over t (rows.Version row) = is_unsettled t row
+is_over t (rows.Item row) = is_heaped t row.owner
 is_over t other = is_lavish other
 
 -- ---- all of them
@@ -273,8 +311,7 @@ nothing all = false
 -- by rising number. What comes later adds a line
 abbrev pub rules : List Rule
 rules =
-    record { number = 0; breaks = λ all row. is_later row; lacks = nothing }
-    ∷ record { number = 1; breaks = is_twice; lacks = lacks_meta }
+    record { number = 1; breaks = is_twice; lacks = lacks_meta }
     ∷ record { number = 2; breaks = λ all row. not (are_numbers (tables_of all).meta row); lacks = nothing }
     ∷ record { number = 3; breaks = λ all row. not (names_are_there (tables_of all) row); lacks = nothing }
     ∷ record { number = 4; breaks = is_namesake; lacks = nothing }

@@ -137,6 +137,8 @@ passes_go reads body a b (begun.Asked (Ok (reply.Granted (goal.Serve content))))
     quiet a b _ 1 _ starts.only refl refl refl (starts_move a.book b.book 1 content v starts.starts)
 passes_go reads body a b (begun.Asked (Ok (reply.Granted (goal.Store by key length)))) v (now, answer, read, ends, is, only) =
     plain_goes a b answer v is (asks_go a b 1 0 only (enters_move a.book b.book now _ answer ends.enters))
+passes_go reads body a b (begun.Asked (Ok (reply.Granted (goal.Chunk user dir number length)))) v (now, answer, read, ends, is, only) =
+    plain_goes a b answer v is (asks_go a b 1 0 only (enters_move a.book b.book now _ answer ends.enters))
 passes_go reads body a b (begun.Asked answer) v passes = plain_goes a b answer v passes.0 (same_goes a b 1 passes.1)
 
 pub takes_go : {C : Type 0} (reads : C → Taken → C → Type 0) (head : Head) (a b : Scene C) (u : Begun) (v : Response)

@@ -58,7 +58,6 @@ close_is_none false = refl
 
 denial_is_none : (closes : Bool) (d : Denial) → is_fault (end_of_denial closes d) ≡ false
 denial_is_none closes denial.RunFull = refl
-denial_is_none closes denial.NotBuilt = refl
 denial_is_none closes other = close_is_none closes
 
 pub end_is_none : (closes : Bool) (v : Response) → is_fault (end_of closes v) ≡ false

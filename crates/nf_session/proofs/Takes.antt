@@ -13,6 +13,7 @@ use Rattle.nf_session.specs.declared.response.Response.{Response}
 
 taken_none : (head : Head) (v : Begun) → stored_length v ≡ None → taken_length head v ≡ skipped_length head v
 taken_none head (begun.Asked (Ok (reply.Granted (goal.Store by key length)))) none = absurd (cc)
+taken_none head (begun.Asked (Ok (reply.Granted (goal.Chunk user dir number length)))) none = absurd (cc)
 taken_none head other none = refl
 
 module _ {C : Type 0} (reads : C → Taken → C → Type 0) (head : Head) (a m b : Scene C) (v : Begun) (w : Response) where
@@ -22,6 +23,8 @@ module _ {C : Type 0} (reads : C → Taken → C → Type 0) (head : Head) (a m 
     where
       here : (z : Begun) → stored_length z ≡ Some n → TakesIn reads head a b z (Ok w)
       here (begun.Asked (Ok (reply.Granted (goal.Store by key length)))) is =
+          let same : length ≡ n = cc in (m, body, subst (λ (k : ℕ). Bodies a m k body) (sym same) bodies, stores)
+      here (begun.Asked (Ok (reply.Granted (goal.Chunk user dir number length)))) is =
           let same : length ≡ n = cc in (m, body, subst (λ (k : ℕ). Bodies a m k body) (sym same) bodies, stores)
       here other is = absurd (cc)
 

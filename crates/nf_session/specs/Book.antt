@@ -15,7 +15,7 @@ use Rattle.nf_words.specs.declared.answer.Denial.{Denial}
 use Rattle.nf_words.specs.declared.answer.Measure.{Measure}
 use Rattle.nf_words.specs.declared.answer.Denial.TheVariants as denial
 use Rattle.nf_words.specs.declared.answer.Goal.{Goal}
-use Rattle.nf_words.specs.declared.answer.Goal.TheVariants.{Serve, Store}
+use Rattle.nf_words.specs.declared.answer.Goal.TheVariants.{Chunk, Serve, Store}
 use Rattle.nf_words.specs.declared.answer.Reply.{Reply}
 use Rattle.nf_words.specs.declared.answer.Reply.TheVariants as reply
 use Rattle.nf_words.specs.declared.history.Entry.{Entry}
@@ -178,6 +178,7 @@ is_unmade (Err refusal) = is_unmade_by refusal
 -- a Begin isn't answered as an End is, and grants no body that is too long
 abbrev pub IsOfBegin : Answer → Type 0
 IsOfBegin (Ok (reply.Granted (Store by key length))) = length ≤ MAX_BODY
+IsOfBegin (Ok (reply.Granted (Chunk user dir number length))) = length ≤ MAX_BODY
 IsOfBegin (Ok (reply.Granted (Serve content))) = Unit {0}
 IsOfBegin (Ok reply.Made) = Unit {0}
 IsOfBegin (Ok reply.Done) = Unit {0}

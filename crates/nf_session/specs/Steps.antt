@@ -177,6 +177,7 @@ pub record IsBegun (b : Book) (begun : Begun) : Type 0 where
 -- whoever waits for it is told to send the body that was granted (RFC 9110, section 10.1.1)
 abbrev pub is_invited : Head → Begun → Bool
 is_invited head (begun.Asked (Ok (reply.Granted (goal.Store by key length)))) = expects_continue head
+is_invited head (begun.Asked (Ok (reply.Granted (goal.Chunk user dir number length)))) = expects_continue head
 is_invited head other = false
 
 abbrev pub Invites : {C T : Type 0} → Head → Begun → Scene C → Scene C → Result T Ended → Type 0
@@ -203,16 +204,19 @@ skipped_length head begun = if is_unsent head begun then 0 else left_length head
 -- how long the body is that is to be stored
 abbrev pub stored_length : Begun → Option ℕ
 stored_length (begun.Asked (Ok (reply.Granted (goal.Store by key length)))) = Some length
+stored_length (begun.Asked (Ok (reply.Granted (goal.Chunk user dir number length)))) = Some length
 stored_length other = None
 
 -- the bytes of the body that are taken then: a granted body whole, and of any other what is left is skipped, where it was sent
 abbrev pub taken_length : Head → Begun → ℕ
 taken_length head (begun.Asked (Ok (reply.Granted (goal.Store by key length)))) = length
+taken_length head (begun.Asked (Ok (reply.Granted (goal.Chunk user dir number length)))) = length
 taken_length head other = skipped_length head other
 
 -- what may cut it: want of memory only a body that is kept
 abbrev pub cutting : Begun → Option (List ℕ) → Option (List ℕ) → ℕ → WireFault → Type 0
 cutting (begun.Asked (Ok (reply.Granted (goal.Store by key length)))) = CutsBody
+cutting (begun.Asked (Ok (reply.Granted (goal.Chunk user dir number length)))) = CutsBody
 cutting other = CutsRead
 
 -- how an answer that grants nothing is responded to
@@ -252,6 +256,7 @@ abbrev pub Passes : {C : Type 0} → (C → Taken → C → Type 0) → List ℕ
 Passes reads body a b (begun.Unasked refusal) v = (v ≡ response.Denied refusal) × (b ≡ a)
 Passes reads body a b (begun.Asked (Ok (reply.Granted (goal.Serve content)))) v = StartsFile a b content v
 Passes reads body a b (begun.Asked (Ok (reply.Granted (goal.Store by key length)))) v = StoresBody reads body a b v
+Passes reads body a b (begun.Asked (Ok (reply.Granted (goal.Chunk user dir number length)))) v = StoresBody reads body a b v
 Passes reads body a b (begun.Asked answer) v = IsResponse answer v × (b ≡ a)
 
 abbrev pub TakesIn : {C : Type 0} → (C → Taken → C → Type 0) → Head → Scene C → Scene C → Begun

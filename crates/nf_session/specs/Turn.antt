@@ -25,10 +25,9 @@ use Rattle.nf_session.specs.declared.response.Response.TheVariants as response
 abbrev pub end_of_close : Bool → Option Ended
 end_of_close closes = if closes then Some ended.Closed else None
 
--- what finds the run full, and what isn't built, ends it by itself
+-- what finds the run full ends it by itself
 abbrev pub end_of_denial : Bool → Denial → Option Ended
 end_of_denial closes denial.RunFull = Some ended.RunFull
-end_of_denial closes denial.NotBuilt = Some ended.NotBuilt
 end_of_denial closes refusal = end_of_close closes
 
 abbrev pub end_of : Bool → Response → Option Ended

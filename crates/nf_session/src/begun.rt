@@ -37,7 +37,9 @@ impl Begun {
         ensures { result ≡ stored self.now }
     {
         match self {
-            Begun::Asked(Ok(Reply::Granted(Goal::Store { length, .. }))) => Some(*length),
+            Begun::Asked(
+                Ok(Reply::Granted(Goal::Store { length, .. } | Goal::Chunk { length, .. })),
+            ) => Some(*length),
             _ => None,
         }
     }

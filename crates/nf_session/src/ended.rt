@@ -18,8 +18,6 @@ pub enum Ended {
     Closed,
     /// The bytes were no message, or ended inside one.
     BadMessage,
-    /// What a message asked for isn't built yet.
-    NotBuilt,
     /// The run has no room for two more entries.
     RunFull,
     /// A piece of a file, behind the first, isn't given, for a reason other than want of memory.
@@ -45,7 +43,6 @@ pub fn end_of(closes: bool, response: &Response) -> Option<Ended>
 {
     match response {
         Response::Denied(Denial::RunFull) => Some(Ended::RunFull),
-        Response::Denied(Denial::NotBuilt) => Some(Ended::NotBuilt),
         _ => closes.then_some(Ended::Closed),
     }
 }

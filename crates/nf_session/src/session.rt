@@ -249,7 +249,9 @@ where
             Begun::Asked(Ok(Reply::Items(lines))) => Response::Items(lines),
             Begun::Asked(Ok(Reply::Versions(lines))) => Response::Versions(lines),
             Begun::Asked(Ok(Reply::Plain)) => Response::Plain,
-            Begun::Asked(Ok(Reply::Granted(Goal::Store { .. }) | Reply::Closed)) => unreachable!(),
+            Begun::Asked(
+                Ok(Reply::Granted(Goal::Store { .. } | Goal::Chunk { .. }) | Reply::Closed),
+            ) => unreachable!(),
             Begun::Asked(Err(denial)) | Begun::Unasked(denial) => Response::Denied(denial),
         }
     }

@@ -1,8 +1,8 @@
 -- The blobs that rows name: those of what nodes, versions and chunks contain.
-use Rattle.std.proofs.Common.{◌≡◌, ◌⊎◌, ⊎_elim, ◌↔◌, inl, inr, ℕ, zero, suc, List, [], ◌∷◌, ◌++◌, map, refl, sym, ap, subst, ◌∙◌, append-nil, arith}
+use Rattle.std.proofs.Common.{◌≡◌, ◌⊎◌, ⊎_elim, ◌↔◌, inl, inr, ℕ, zero, suc, List, [], ◌∷◌, ◌++◌, map, refl, sym, ap, subst, ◌∙◌, arith}
 use Rattle.std.specs.List.{Contains, flat_map}
 use Rattle.std.proofs.lemmas.Grind.{flat_map-append}
-use Rattle.std.proofs.lemmas.List.{map-append}
+use Rattle.std.proofs.lemmas.List.{append_assoc, map-append}
 use Rattle.std.proofs.lemmas.List.Elements.{Contains-append_cases, Contains-append_left, Contains-append_right}
 use Rattle.std.proofs.lemmas.List.Folds.{flat_map-map}
 use Rattle.nf_base.specs.declared.content.Piece.{Piece}
@@ -130,7 +130,7 @@ rows_contents t =
     ∙ before Version (λ (row : VersionRow). row.content) t.versions items (map (λ (row : ChunkRow). row.content) t.chunks) (λ row. refl)
     (behind Item t.items uploads (λ row. refl) ∙ behind Upload t.uploads (map Chunk t.chunks) (λ row. refl) ∙ chunks))
 
--- ---- where only nodes and versions have contents
+-- ---- table by table
 
 rows_blobs : {X : Type 0} (content : X → List Piece) (rows : List X)
     → blobs_of (joined (map content rows)) ≡ flat_map (λ (row : X). blobs_of (content row)) rows
@@ -145,26 +145,32 @@ node_blobs t = flat_map (λ (row : NodeRow). blobs_of row.content) t.nodes
 abbrev version_blobs : Tables → List ℕ
 version_blobs t = flat_map (λ (row : VersionRow). blobs_of row.content) t.versions
 
+abbrev chunk_blobs : Tables → List ℕ
+chunk_blobs t = flat_map (λ (row : ChunkRow). blobs_of row.content) t.chunks
+
 abbrev sent_blobs : State → List ℕ
 sent_blobs s = flat_map (λ (ticket : Ticket). goal_blobs ticket.goal) s.tickets
 
-rows_named : (t : Tables) → t.chunks ≡ [] → named_blobs (rows_of t) ≡ node_blobs t ++ version_blobs t
-rows_named t no_chunks =
+-- the blobs of one content after another
+parts_blobs : (one other : List (List Piece)) → blobs_of (joined (one ++ other)) ≡ blobs_of (joined one) ++ blobs_of (joined other)
+parts_blobs one other =
+    ap blobs_of (flat_map-append (λ (content : List Piece). content) one other)
+    ∙ map-append (λ (piece : Piece). piece.blob) (joined one) (joined other)
+
+rows_named : (t : Tables) → named_blobs (rows_of t) ≡ (node_blobs t ++ version_blobs t) ++ chunk_blobs t
+rows_named t =
     let of_node = λ (row : NodeRow). row.content in
     let of_version = λ (row : VersionRow). row.content in
-    let nodes = map of_node t.nodes in
-    let versions = map of_version t.versions in
+    let of_chunk = λ (row : ChunkRow). row.content in
     ap blobs_of (rows_contents t)
-    ∙ (λ i. blobs_of (joined (nodes ++ (versions ++ map (λ (row : ChunkRow). row.content) (no_chunks i)))))
-    ∙ ap (λ (contents : List (List Piece)). blobs_of (joined (nodes ++ contents))) (append-nil versions)
-    ∙ ap blobs_of (flat_map-append (λ (content : List Piece). content) nodes versions)
-    ∙ map-append (λ (piece : Piece). piece.blob) (joined nodes) (joined versions)
-    ∙ (λ i. rows_blobs of_node t.nodes i ++ rows_blobs of_version t.versions i)
+    ∙ parts_blobs (map of_node t.nodes) (map of_version t.versions ++ map of_chunk t.chunks)
+    ∙ ap (λ (blobs : List ℕ). blobs_of (joined (map of_node t.nodes)) ++ blobs) (parts_blobs (map of_version t.versions) (map of_chunk t.chunks))
+    ∙ (λ i. rows_blobs of_node t.nodes i ++ (rows_blobs of_version t.versions i ++ rows_blobs of_chunk t.chunks i))
+    ∙ sym (append_assoc (node_blobs t) (version_blobs t) (chunk_blobs t))
 
--- what nodes and versions contain and what is to be sent is all that is named
-pub all_named : (s : State) → s.tables.chunks ≡ []
-    → (node_blobs s.tables ++ version_blobs s.tables) ++ sent_blobs s ≡ blobs_named s
-all_named s no_chunks = ap (λ (blobs : List ℕ). blobs ++ sent_blobs s) (sym (rows_named s.tables no_chunks))
+-- what nodes, versions and chunks contain and what is to be sent is all that is named
+pub all_named : (s : State) → ((node_blobs s.tables ++ version_blobs s.tables) ++ chunk_blobs s.tables) ++ sent_blobs s ≡ blobs_named s
+all_named s = ap (λ (blobs : List ℕ). blobs ++ sent_blobs s) (sym (rows_named s.tables))
 
 -- a blob is among them exactly where a row or a granted GET names it
 pub names_blob : (s : State) (id : ℕ) → Contains (blobs_named s) id ↔ NamesBlob s id

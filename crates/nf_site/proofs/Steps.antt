@@ -25,6 +25,7 @@ use Rattle.nf_words.specs.declared.history.Outcome.{Outcome}
 use Rattle.nf_words.specs.declared.history.Ticket.{Ticket}
 use Rattle.nf_words.specs.declared.request.Request.{Request}
 use Rattle.nf_words.specs.declared.request.Words.{Words}
+use Rattle.nf_laws.proofs.Plain.{decided_plain}
 use Rattle.nf_laws.proofs.Stays.{sound_after}
 use Rattle.nf_words.proofs.Histories.{legal_more, replay_more}
 use Rattle.nf_words.proofs.Ends.{known_change}
@@ -148,6 +149,7 @@ pub bears_step : (s : State) (seat now : ℕ) (event : Event) (act : Allowed) �
     → decision_of s seat now event ≡ Ok act → BearsAct s.tables act
 bears_step s seat now event act sound late asked decides =
     known_bears s.tables now act sound.rows (omega (arith, sound.seen, late)) (known_change s seat now event act sound asked decides)
+    (decided_plain s seat now event act decides)
 
 -- ---- a site's fields
 

@@ -4,7 +4,7 @@ ghost use Rattle.std.specs.Prelude.{◌≡◌, ◌++◌, OnOk};
 ghost use Rattle.std.specs.List.{flat_map};
 ghost use Rattle.nf_laws.specs.Named.{blobs_of, goal_blobs};
 
-use nf_base::{BlobId, NodeRow, Piece, VersionRow};
+use nf_base::{BlobId, ChunkRow, NodeRow, Piece, VersionRow};
 use nf_words::{Goal, Ticket};
 use std::alloc::AllocError;
 
@@ -31,6 +31,16 @@ pub(crate) fn name_versions(
     Ok(())
 }
 
+/// Those of chunks.
+pub(crate) fn name_chunks(blobs: &mut Vec<BlobId>, chunks: &[ChunkRow]) -> Result<(), AllocError>
+    ensures { OnOk result (blobs.new.items ≡ blobs.old.items ++ flat_map (λ row. blobs_of row.content) chunks.now) }
+{
+    for row in chunks {
+        name_pieces(blobs, row.content.pieces())?;
+    }
+    Ok(())
+}
+
 /// Those of what is to be sent.
 pub(crate) fn name_tickets(blobs: &mut Vec<BlobId>, tickets: &[Ticket]) -> Result<(), AllocError>
     ensures { OnOk result (blobs.new.items ≡ blobs.old.items ++ flat_map (λ ticket. goal_blobs ticket.goal) tickets.now) }
@@ -46,7 +56,7 @@ fn name_goal(blobs: &mut Vec<BlobId>, goal: &Goal) -> Result<(), AllocError>
 {
     match goal {
         Goal::Serve(content) => name_pieces(blobs, content.pieces()),
-        Goal::Store { .. } => Ok(()),
+        Goal::Store { .. } | Goal::Chunk { .. } => Ok(()),
     }
 }
 

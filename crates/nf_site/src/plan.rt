@@ -186,6 +186,17 @@ fn beside(alloc: Global, act: &Allowed) -> Result<Reply, AllocError>
             key: key.copy()?,
             length: *length,
         })),
+        Allowed::Chunk {
+            user,
+            dir,
+            number,
+            length,
+        } => Ok(Reply::Granted(Goal::Chunk {
+            user: *user,
+            dir: dir.copy()?,
+            number: *number,
+            length: *length,
+        })),
         Allowed::Change { report, .. } | Allowed::Deeds { report, .. } => beside_report(report),
         Allowed::List(_) | Allowed::Close => Ok(Reply::Closed),
     }

@@ -16,7 +16,7 @@ ghost use Rattle.nf_words.specs.declared.history.Mark.TheVariants.{Answered};
 ghost use Rattle.nf_site.specs.declared.site.RoomFault.TheVariants.{Full};
 
 use crate::Plan;
-use crate::named::{name_nodes, name_tickets, name_versions};
+use crate::named::{name_chunks, name_nodes, name_tickets, name_versions};
 use crate::plan::{Deed, parted};
 use nf_base::{BlobId, Changes, MAX_ENTRIES, Moment, RowList};
 use nf_decide::{Call, State, changes, decide_end, swept};
@@ -276,6 +276,13 @@ impl Site {
         self.current.rows(alloc)
     }
 
+    /// How many uploads there are.
+    pub fn uploads(&self) -> usize
+        ensures { result ≡ length self.now.kept.state.tables.uploads }
+    {
+        self.current.view().uploads.count()
+    }
+
     /// How many items the trashes hold.
     pub fn items(&self) -> usize
         ensures { result ≡ length self.now.kept.state.tables.items }
@@ -290,9 +297,10 @@ impl Site {
     {
         let view = self.current.view();
         let mut blobs = Vec::new(alloc);
-        // Rows of the other kinds name none, since there are no chunks yet.
+        // Rows of the other kinds name none.
         name_nodes(&mut blobs, view.tree.nodes())?;
         name_versions(&mut blobs, view.versions.rows())?;
+        name_chunks(&mut blobs, view.uploads.chunks())?;
         name_tickets(&mut blobs, view.tickets)?;
         Ok(blobs)
     }

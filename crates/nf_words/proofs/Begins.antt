@@ -2,7 +2,7 @@
 use Rattle.std.proofs.Common.{◌≡◌, ℕ, ◌+◌, ◌<◌, ◌≤◌, ◌==◌, ◌||◌, ◌&&◌, not, inl, Bool, true, false, List, [], ◌∷◌, ◌++◌, map, Option, option_map, Ok, if◌then◌else◌, refl, sym, ap, subst, ◌∙◌, arith}
 use Rattle.std.specs.Prelude.{None, Some, is_some}
 use Rattle.std.specs.List.{All}
-use Rattle.std.specs.Option.{IfSome, option_map_or, option_or}
+use Rattle.std.specs.Option.{IfSome, option_and_then, option_map_or, option_or}
 use Rattle.std.proofs.lemmas.Bool.{both_ways, eqb-true}
 use Rattle.std.proofs.lemmas.List.Elements.{All-head, All-nil}
 use Rattle.std.proofs.lemmas.Option.{none-some, same_Some}
@@ -26,9 +26,10 @@ use Rattle.nf_words.proofs.Found.{found_has, found_passes}
 use Rattle.nf_words.proofs.Known.{alone, IsItem, Known, KnownDeeds, KnownLeaving}
 use Rattle.nf_words.proofs.Forgetting.{AreTwo, IsVersion, no_pairs}
 use Rattle.nf_words.proofs.Versioned.{versions_known}
+use Rattle.nf_words.proofs.Uploaded.{abandoned_known, begun_known, joined_known, sent_known}
 use Rattle.nf_words.proofs.Known.KnownDeeds.{by_going, by_leaving}
 use Rattle.nf_words.proofs.Mounting.{IsFreeName, left_known, renamed_known}
-use Rattle.nf_words.proofs.Passing.{acts_pass, call_passes, no_fault, no_limit, Passes, PlacePasses, place_passes, no_rule}
+use Rattle.nf_words.proofs.Passing.{acts_pass, call_passes, exists_passes, no_fault, no_limit, no_upload_fault, Passes, PlacePasses, place_passes, no_rule}
 use Rattle.nf_words.proofs.Starts.{has_asker, IsAsking, itself_asker, link_found, link_mount, link_seeks, only_files, root_is, row_of_caller, user_root, user_seeks}
 use Rattle.nf_words.proofs.Starts.IsAsking.{by_link, by_user}
 use Rattle.nf_words.proofs.Transfers.{copied_known, fit_parts, moved_known, off, row_leaves}
@@ -37,8 +38,8 @@ use Rattle.nf_words.specs.Asked.{asked_about}
 use Rattle.nf_words.specs.Calls.{link_by}
 use Rattle.nf_words.specs.declared.request.Caller.{Caller}
 use Rattle.nf_words.specs.declared.request.Caller.TheVariants.{Link}
-use Rattle.nf_words.specs.History.{IsShort}
-use Rattle.nf_words.specs.Prelude.{access_of, AreSound, asked_of, asked_of_trash, asker_of, beside, by_of, Call, call_decision, caller_row, deleted, discard, exists_rule, fault_by, folder_seen, found, given, is_about_files, is_by_link, is_free_in, IsLinkTo, IsNodeSound, is_off_mount, is_owner, is_root_at, IsSound, is_taken, is_there, is_within, items_of, last_name, limit_at, limit_by, limited, limit_rule, linked_of, link_of, listing_of, made_folder, may_by, MayWant, mount_left, mount_of, mount_renamed, moved, named_rule, Need, needs, needs_between, needs_in, node_at, node_found, nothing_done, own_item, people_done, people_limit, places_by, purges, requoted, room_rule, root_of, row_at, row_named, seeker_of, served, sharing_rule, stored, taken, target_rule, transfer_between, transfer_of, trash_done, unfit, unfit_between, unnamed_by, unreached, user_of, version_lost, version_rule, way_by, way_of, ways_for}
+use Rattle.nf_words.specs.History.{IsInBounds, IsShort}
+use Rattle.nf_words.specs.Prelude.{access_of, AreSound, asked_of, asked_of_trash, asker_of, assembled_limit, beside, by_of, Call, call_decision, caller_row, deleted, discard, fault_by, fault_with, folder_seen, found, given, is_about_files, is_by_link, is_free_in, IsLinkTo, IsNodeSound, is_off_mount, is_owner, is_root_at, IsSound, is_taken, is_there, is_within, items_of, last_name, limit_at, limit_by, limited, limit_rule, linked_of, link_of, listing_of, made_folder, may_by, MayWant, mount_left, mount_of, mount_renamed, moved, named_rule, Need, needs, needs_between, needs_in, node_at, node_found, nothing_done, opened_by, own_item, people_done, people_limit, places_by, places_of, purges, requoted, room_rule, root_of, row_at, row_named, seeker_of, served, sharing_rule, stored, taken, target_rule, transfer_between, transfer_of, trash_done, unfit, unfit_between, unnamed_by, unopened, unreached, upload_done, upload_rule, user_of, version_lost, version_rule, way_by, way_of, ways_for}
 use Rattle.nf_words.specs.Needed.{target_needs}
 use Rattle.nf_words.specs.Sound.{MayStoreBy}
 use Rattle.nf_words.specs.declared.answer.Allowed.{Allowed}
@@ -50,7 +51,7 @@ use Rattle.nf_words.specs.declared.request.Making.TheVariants as making
 use Rattle.nf_words.specs.declared.request.Places.{Places}
 use Rattle.nf_words.specs.declared.request.Spot.{Spot}
 use Rattle.nf_words.specs.declared.request.Wanted.{Wanted}
-use Rattle.nf_words.specs.declared.request.Wanted.TheVariants.{Get, Put, Mkcol, Delete, Move, Copy, Share, People, Trash, Version}
+use Rattle.nf_words.specs.declared.request.Wanted.TheVariants.{Get, Put, Mkcol, Delete, Move, Copy, Share, People, Trash, Upload, Version}
 use Rattle.nf_words.specs.declared.request.ShareAsk.{ShareAsk}
 use Rattle.nf_words.specs.declared.request.ShareAsk.TheVariants as ask
 use Rattle.nf_words.proofs.Provided.{not_taken, people_known, row_there}
@@ -61,6 +62,8 @@ use Rattle.nf_words.specs.declared.request.PeopleAsk.{PeopleAsk}
 use Rattle.nf_words.specs.declared.request.TrashAsk.{TrashAsk}
 use Rattle.nf_words.specs.declared.request.PeopleAsk.TheVariants as people
 use Rattle.nf_words.specs.declared.request.TrashAsk.TheVariants as trash
+use Rattle.nf_words.specs.declared.request.UploadAsk.{UploadAsk}
+use Rattle.nf_words.specs.declared.request.UploadAsk.TheVariants as upload
 
 passed : (b : Bool) (fault : TargetFault) → (if b then Some fault else None) ≡ None → b ≡ false
 passed true fault none = absurd (cc)
@@ -210,7 +213,7 @@ module _ (call : Call) (spot : Spot) (sound : AreSound call.state.tables) (is : 
       let slot = slot_known call spot sound is folder reached leads in
       new_known t call.now folder (last_name spot) Folder [] None 0 [] sound slot.folds (slot_present call spot sound is folder reached leads) slot.free
       slot.unmounted
-      (within t 1 (depth t.nodes folder + 1) 0 0 0 some) (omega arith) refl (λ _. refl) (All-nil (IsVersion t)) (no_pairs AreTwo)
+      (within t 1 (depth t.nodes folder + 1) 0 0 0 some) (omega arith) (inl refl) (λ _. refl) (All-nil (IsVersion t)) (no_pairs AreTwo)
   folder_known (Missing found) leads some = tt
 
   -- what is deleted is in a folder: it is no root, and present
@@ -280,6 +283,8 @@ only_at itself place = if itself then record { source = None; target = None } el
 
 -- what passes the rules, by what is wanted
 pub record WantedPasses (call : Call) (wanted : Wanted) : Type 0 where
+  pub led : places_of call ≡ places_at call wanted
+  pub bounds : IsInBounds wanted
   pub files : is_by_link call.request.caller ≡ true → is_about_files wanted ≡ true
   pub short : IsShort (asked_of wanted).makes
   pub place : PlacePasses (access_of call.state) call (asked_of wanted)
@@ -288,10 +293,13 @@ pub record WantedPasses (call : Call) (wanted : Wanted) : Type 0 where
       (option_map (way_of call) (asked_of wanted).target))
   pub named : unnamed_by call wanted ≡ None
   pub version : version_lost call wanted ≡ None
+  pub opened : unopened call wanted ≡ None
+  pub unmade : opened_by call wanted ≡ None
   pub free : taken call.state.tables.nodes (places_at call wanted) (asked_of wanted).makes ≡ None
   pub fits : unfit call.state.tables.nodes (root_of call) (asked_of wanted) (ways_for call (asked_of wanted)) ≡ None
   pub few : limited call.state.tables (places_at call wanted) (asked_of wanted).makes ≡ None
   pub sharing : fault_by (access_of call.state) call wanted ≡ None
+  pub upload : fault_with call wanted ≡ None
   pub room : limit_by call wanted ≡ None
 
 module _ (call : Call) (sound : AreSound call.state.tables) (is : IsAsking call) where
@@ -369,6 +377,18 @@ module _ (call : Call) (sound : AreSound call.state.tables) (is : IsAsking call)
       alone all call.now (purges (map (λ item. item.node) (items_of all (asker_of call)))) (emptied_known all sound call.now (asker_of call))
   trash_known (trash.Restore user item) few = restored_known all sound call.now (asker_of call) item (own_item call item) refl few
 
+  upload_known : (asked : UploadAsk) → WantedPasses call (Upload asked) → IsKnown (upload_done call (places_at call (Upload asked)) asked)
+  upload_known (upload.New user dir to) p =
+      let asker = not_files (Upload (upload.New user dir to)) p refl in begun_known call asker.0 sound asker.1 dir to p.unmade p.room
+  upload_known (upload.Chunk user dir name to length) p =
+      let asker = not_files (Upload (upload.Chunk user dir name to length)) p refl in sent_known call asker.0 sound asker.1 dir name length p.bounds
+  upload_known (upload.Drop user dir) p =
+      let asker = not_files (Upload (upload.Drop user dir)) p refl in abandoned_known call asker.0 sound asker.1 dir p.opened
+  upload_known (upload.Join dir spot total) p =
+      let asker = not_files (Upload (upload.Join dir spot total)) p refl in
+      joined_known call asker.0 sound asker.1 dir spot (found call spot) p.place.target refl (unless _ _ p.free) p.opened
+      (subst (λ (places : Places). option_and_then (assembled_limit all (asker_of call) dir) places.target ≡ None) p.led p.room)
+
   pub wanted_known : (wanted : Wanted) → WantedPasses call wanted → IsKnown (given (access_of call.state) call (places_at call wanted) wanted)
   wanted_known (Get spot) p = served_known call spot sound is (p.place.source refl) (found call spot) refl
   wanted_known (Put spot length) p =
@@ -386,20 +406,26 @@ module _ (call : Call) (sound : AreSound call.state.tables) (is : IsAsking call)
   wanted_known (People asked) p = persons_known asked (not_taken _ rule.Taken p.sharing) p.room
   wanted_known (Trash asked) p = trash_known asked p.few
   wanted_known (Version asked) p = versions_known call sound (places_at call (Version asked)) asked p.named p.version p.few
+  wanted_known (Upload asked) p = upload_known asked p
 
 pub wanted_passes : (call : Call) → MayWant call.request → Passes (access_of call.state) call → WantedPasses call call.request.wanted
-unfolding named_rule version_rule exists_rule target_rule limit_rule sharing_rule room_rule
+unfolding named_rule version_rule target_rule limit_rule sharing_rule upload_rule room_rule
 wanted_passes call may p = record {
+  led = refl;
+  bounds = may.bounds;
   files = only_files call p.token;
   short = may.short;
   place = place_passes (access_of call.state) call p.place;
   may = acts_pass (access_of call.state) call p.acts;
   named = p.named;
   version = p.version;
-  free = p.exists;
+  opened = (place_passes (access_of call.state) call p.place).opened;
+  unmade = (exists_passes (access_of call.state) call p.exists).1;
+  free = (exists_passes (access_of call.state) call p.exists).0;
   fits = no_fault _ p.target;
   few = no_limit _ p.limit;
   sharing = no_rule _ p.sharing;
+  upload = no_upload_fault _ p.upload;
   room = no_limit _ p.room;
 }
 

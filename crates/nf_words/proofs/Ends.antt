@@ -1,31 +1,30 @@
 -- What is known of an End, and of every step, that no rule refuses.
-use Rattle.std.proofs.Common.{◌≡◌, ℕ, ◌+◌, ◌≤◌, ◌==◌, ◌&&◌, inl, not, sym, Bool, true, false, List, [], length, max, ap, ◌∙◌, Result, Ok, Option, refl, subst, arith, flat_map}
+use Rattle.std.proofs.Common.{◌≡◌, ℕ, ◌+◌, ◌≤◌, ◌==◌, ◌&&◌, inl, not, sym, Bool, true, false, List, [], length, Result, Ok, Option, refl, subst, arith, filter, flat_map, ◌++◌}
 use Rattle.std.specs.Prelude.{None, Some, is_some, option_map, if◌then◌else◌}
 use Rattle.std.specs.Option.{IfSome, option_map_or}
-use Rattle.std.proofs.lemmas.Bool.{eqb-true, not-true}
+use Rattle.std.proofs.lemmas.Bool.{not-true}
 use Rattle.nf_access.specs.Mounts.{mount_at}
 use Rattle.nf_base.specs.declared.limits.TheConstants.{MAX_BODY}
 use Rattle.nf_base.specs.declared.rows.NodeKind.TheVariants.{File}
 use Rattle.nf_base.specs.declared.rows.NodeRow.{NodeRow}
 use Rattle.nf_defs.specs.Prelude.{Access, depth, is_folder_kind, is_root, node_row, owner_of, Tables}
 use Rattle.nf_words.proofs.Begins.{call_known}
-use Rattle.nf_words.proofs.Asks.{nothing_known}
-use Rattle.nf_words.proofs.Bodies.{body_known, IsOfBody, refills_none}
+use Rattle.nf_words.proofs.Chunked.{chunk_known}
+use Rattle.nf_words.proofs.Bodies.{body_known}
 use Rattle.nf_words.proofs.Forgetting.{unsettled_there, unsettled_two}
-use Rattle.nf_words.proofs.Refilling.{added_one, refills_known}
-use Rattle.nf_base.specs.declared.content.Piece.{Piece}
+use Rattle.nf_words.proofs.Refilling.{over_known}
 use Rattle.nf_words.proofs.Fits.{KnownChange, Within, new_known, within}
-use Rattle.nf_words.proofs.Found.{found_has, found_passes}
-use Rattle.nf_words.proofs.Known.{alone, by_going, Known}
+use Rattle.nf_words.proofs.Found.{found_has}
+use Rattle.nf_words.proofs.Known.{alone, by_sweeping, Known}
 use Rattle.nf_words.proofs.Passing.{end_passes, not_refused}
-use Rattle.nf_words.proofs.Sweeping.{swept_goes}
-use Rattle.nf_words.specs.Prelude.{access_of, AreSound, blob_after, blob_for, call_of, charged, content_size, is_same, IsNodeSound, last_number, new_node, purges, refills, unsettled, versions_added, content_in, decision_of, end_lost, end_refusal, ends_at, ends_goal, goal_at, gone_from, HoldsFor, IsGoalSound, IsHeld, IsSound, IsStorable, IsTicketSound, IsUnmounted, LeadsToRoot, limit_at, MayAsk, MayBring, MayEnd, node_of_key, owners_of, pieces_of, place_of, refilled, State, stored_at, swept, ticket_of}
+use Rattle.nf_words.proofs.Sweeping.{swept_goes, swept_idle}
+use Rattle.nf_words.specs.Prelude.{abandons, access_of, AreSound, blob_for, call_of, chunk_refusal, chunk_stored, charged, content_size, new_node, purges, unsettled, versions_added, content_in, decision_of, end_lost, end_refusal, ends_at, ends_goal, goal_at, gone_from, HoldsFor, is_idle, IsGoalSound, IsHeld, IsSound, IsStorable, IsTicketSound, IsUnmounted, LeadsToRoot, limit_at, MayAsk, MayBring, MayEnd, node_of_key, owners_of, pieces_of, place_of, refilled, State, stored_at, swept, ticket_of}
 use Rattle.nf_words.specs.declared.answer.Allowed.{Allowed}
 use Rattle.nf_words.specs.declared.answer.Allowed.TheVariants as allowed
 use Rattle.nf_words.specs.declared.answer.Denial.TheVariants as denial
 use Rattle.nf_words.specs.declared.answer.Denial.{Denial}
 use Rattle.nf_words.specs.declared.answer.Goal.{Goal}
-use Rattle.nf_words.specs.declared.answer.Goal.TheVariants.{Serve, Store}
+use Rattle.nf_words.specs.declared.answer.Goal.TheVariants.{Chunk, Serve, Store}
 use Rattle.nf_words.specs.declared.answer.Hold.{Hold}
 use Rattle.nf_words.specs.declared.answer.LockKey.{LockKey}
 use Rattle.nf_words.specs.declared.answer.LockKey.TheVariants.{Node, Slot}
@@ -51,28 +50,6 @@ file_row : (o : Option NodeRow) → option_map_or (λ row. not (is_folder_kind r
 file_row None is = absurd (cc)
 file_row (Some row) is = (row, refl, not-true (is_folder_kind row.kind) is)
 
-over_known : (t : Tables) (now node : ℕ) (content : List Piece) (blob : Option ℕ) (row : NodeRow) → AreSound t → node_row t.nodes node ≡ Some row
-    → is_folder_kind row.kind ≡ false → LeadsToRoot t.nodes node → Within t 0 0 (versions_added t node None) (length content) (length content)
-    → blob_after t.meta.next_blob blob ≤ max t.meta.next_blob last_number → IsOfBody t.meta blob content
-    → KnownChange t now (refilled t now content row) blob
-over_known t now node content blob row sound there file present fits counts body = here (is_same now content row) refl
-  where
-    id : row.id ≡ node
-    id = eqb-true row.id node (found_passes (λ (one : NodeRow). one.id == node) t.nodes row there)
-
-    none : is_same now content row ≡ true → blob ≡ None
-    none same = refills_none t row now content blob is.pieces body same
-      where
-        is : IsNodeSound t row
-        is = subst (λ (o : Option NodeRow). IfSome o (IsNodeSound t)) there
-            (found_has (IsNodeSound t) (λ (one : NodeRow). one.id == node) t.nodes sound.nodes)
-
-    here : (b : Bool) → is_same now content row ≡ b → KnownChange t now (if b then [] else refills t now None content row) blob
-    here true e = subst (λ (o : Option ℕ). KnownChange t now [] o) (sym (none e)) (nothing_known t now)
-    here false e =
-        refills_known t now None content row sound (ap (node_row t.nodes) id ∙ there) file (subst (LeadsToRoot t.nodes) (sym id) present) tt blob
-        fits.pieces (λ becomes. omega (arith, fits.versions, added_one t node None row there becomes)) counts (inl body) none
-
 key_known : (t : Tables) (now : ℕ) (key : LockKey) (digest : List ℕ) (size : ℕ) → AreSound t → size ≤ MAX_BODY
     → IsHeld t key × LeadsToRoot t.nodes (node_of_key key) → end_lost t key ≡ None → limit_at t (pieces_of size) (place_of key) ≡ None
     → Known t now (stored_at t now key digest size)
@@ -84,8 +61,8 @@ key_known t now (Node node) digest size sound few held there some =
     let added = versions_added t node None in
     let fits = within t 0 0 added (pieces_of size) (pieces_of size) some in
     subst (λ (o : Option NodeRow). KnownChange t now (option_map_or (refilled t now content) o []) blob) (sym file.1)
-    (over_known t now node content blob file.0 sound file.1 file.2 held.1
-    (subst (λ (n : ℕ). Within t 0 0 added n n) (sym body.pieces) fits) (omega (arith, body.counted, fits.next_blob)) body.of_body)
+    (over_known t now node content blob (pieces_of size) file.0 sound file.1 file.2 held.1
+    (subst (λ (n : ℕ). Within t 0 0 added n (pieces_of size)) (sym body.pieces) fits) (omega (arith, body.counted, fits.next_blob)) (inl body.of_body))
 key_known t now (Slot folder name) digest size sound few held there some =
     let body = body_known t.meta digest size few in
     let blob = blob_for t.meta.next_blob size in
@@ -96,7 +73,7 @@ key_known t now (Slot folder name) digest size sound few held there some =
     (name_unmounted t folder name there)
     (subst (λ (n : ℕ). Within t 1 (depth t.nodes folder + 1) 0 n (pieces_of size)) (sym body.pieces)
     (within t 1 (depth t.nodes folder + 1) 0 (pieces_of size) (pieces_of size) some))
-    (omega (arith, body.counted)) body.of_body (λ e. absurd (cc)) (unsettled_there t to []) (unsettled_two t to [] sound.others.versions_rise)
+    (omega (arith, body.counted)) (inl body.of_body) (λ e. absurd (cc)) (unsettled_there t to []) (unsettled_two t to [] sound.others.versions_rise)
 
 closes : (t : Tables) (now : ℕ) (act : Allowed) → ◌≡◌ {A = Result Allowed Denial} (Ok allowed.Close) (Ok act) → Known t now act
 closes t now act is = let e : allowed.Close ≡ act = cc in subst (λ (a : Allowed). Known t now a) e tt
@@ -109,6 +86,10 @@ goal_known access t now (Store by key wanted) (Body digest size) act sound goal 
     let short : size ≤ MAX_BODY = omega (arith, may, goal.0) in
     let passes = end_passes access t now by key size h.0 in
     subst (λ (a : Allowed). Known t now a) h.1 (key_known t now key digest size sound short held passes.there passes.limit)
+goal_known access t now (Chunk user dir number wanted) (Body digest size) act sound goal held may is =
+    let h = not_refused (chunk_refusal t user dir number size) (chunk_stored t now user dir number digest size) act is in
+    let short : size ≤ MAX_BODY = omega (arith, may, goal.0) in
+    subst (λ (a : Allowed). Known t now a) h.1 (chunk_known t now user dir number digest size sound short goal.1.0 goal.1.1 h.0)
 goal_known access t now goal without act sound of held may is = closes t now act is
 
 end_known : (access : Access) (t : Tables) (now : ℕ) (goal : Option Goal) (outcome : Outcome) (act : Allowed) → AreSound t
@@ -129,6 +110,7 @@ goal_sound s seat sound = here (ticket_of s seat) (found_has (IsTicketSound s.ta
 stored_held : (t : Tables) (goal : Goal) (hold : Option Hold) → HoldsFor goal hold → IfSome hold (λ (hold : Hold). IsHeld t hold.key)
     → IfSome hold (λ (hold : Hold). LeadsToRoot t.nodes (node_of_key hold.key)) → IsStorable t goal
 stored_held t (Serve content) hold for held present = tt
+stored_held t (Chunk user dir number length) hold for held present = tt
 stored_held t (Store by key length) hold for held present = (
   subst (λ (o : Option Hold). IfSome o (λ (hold : Hold). IsHeld t hold.key)) for held,
   subst (λ (o : Option Hold). IfSome o (λ (hold : Hold). LeadsToRoot t.nodes (node_of_key hold.key))) for present,
@@ -151,4 +133,7 @@ known_change s seat now (End outcome) act sound asked is =
 known_change s seat now Sweep act sound asked is =
     let same : swept s.tables now ≡ act = cc in
     let gone = flat_map (gone_from s.tables now) (owners_of s.tables.items) in
-    subst (Known s.tables now) same (alone s.tables now (purges gone) (by_going gone (swept_goes s.tables sound.rows now)))
+    let idle = filter (is_idle now) s.tables.uploads in
+    subst (Known s.tables now) same
+    (alone s.tables now (purges gone ++ abandons idle)
+    (by_sweeping gone idle (swept_goes s.tables sound.rows now) (swept_idle s.tables sound.rows now)))

@@ -1,10 +1,10 @@
 -- What is known of a new node, and of another content of a file, where no limit is passed.
-use Rattle.std.proofs.Common.{◌≡◌, ◌≢◌, ◌⊎◌, ℕ, ◌+◌, ◌<◌, ◌≤◌, ◌==◌, ◌||◌, inl, sym, Bool, true, false, List, [], ◌∷◌, length, map, max, ◌∙◌, Option, if◌then◌else◌, refl, ap, subst, arith, le_refl}
+use Rattle.std.proofs.Common.{◌≡◌, ◌≢◌, ◌⊎◌, ℕ, ◌+◌, ◌<◌, ◌≤◌, ◌==◌, ◌||◌, flat_map, inl, inr, sym, Bool, true, false, List, [], ◌∷◌, length, map, max, ◌∙◌, Option, if◌then◌else◌, refl, ap, subst, arith, le_refl}
 use Rattle.std.specs.Prelude.{None, Some}
 use Rattle.std.specs.List.{All, AllPairs}
 use Rattle.std.specs.Option.{IfSome}
 use Rattle.std.proofs.lemmas.Bool.{eq-eqb, eqb-true, ltb-false}
-use Rattle.std.proofs.lemmas.List.Elements.{All-cons, All-map, All-nil, All-weaker}
+use Rattle.std.proofs.lemmas.List.Elements.{All-append, All-cons, All-filter, All-head, All-map, All-nil, All-tail, All-weaker}
 use Rattle.std.proofs.lemmas.List.Kept.{AllPairs-cons}
 use Rattle.nf_base.specs.declared.changes.Change.{Change}
 use Rattle.nf_base.specs.declared.changes.Change.TheVariants.{Drop, Put}
@@ -18,15 +18,16 @@ use Rattle.nf_base.specs.declared.rows.Row.TheVariants as rows
 use Rattle.nf_base.specs.declared.rows.ShareRow.{ShareRow}
 use Rattle.nf_base.specs.declared.rows.MetaRow.{MetaRow}
 use Rattle.nf_base.specs.declared.rows.UserRow.{UserRow}
+use Rattle.nf_base.specs.declared.rows.ChunkRow.{ChunkRow}
 use Rattle.nf_base.specs.declared.rows.VersionRow.{VersionRow}
 use Rattle.nf_retention.specs.declared.versions.Version.{Version}
 use Rattle.nf_words.proofs.Forgetting.{AreTwo, drop_differs, IsVersion, pairs_map}
 use Rattle.nf_words.specs.Lean.{changed_key}
 use Rattle.nf_words.specs.Versions.{drop_version, version_for, version_row}
 use Rattle.nf_defs.specs.Prelude.{child_of, depth, is_folder, is_folder_kind, made, node_key, node_row, put, Tables}
-use Rattle.nf_words.proofs.Bodies.{IsOfBody, body_sound, IsNext, body_next}
+use Rattle.nf_words.proofs.Bodies.{IsOfBody, body_sound, IsNext, body_next, next_le, none_next, pieces_still}
 use Rattle.nf_words.proofs.Found.{found_has, put_is_found}
-use Rattle.nf_words.specs.Prelude.{AreSound, blob_after, counted, IsBorn, IsFilled, IsLean, IsMountSound, IsNewMount, IsNewShare, IsNewUser, IsNewVersion, IsNodeSound, IsOfPeople, IsOtherShare, IsRemounted, IsShareSound, IsUnmounted, last_number, LeadsToRoot, last_short, limit_passed, new_node, raised, stored_pieces}
+use Rattle.nf_words.specs.Prelude.{AreSound, blob_after, chunks_of, counted, IsBorn, is_chunk_of, IsChunkSound, IsFilled, IsLean, IsMountSound, IsNewChunk, IsNewMount, IsNewShare, IsNewUpload, IsNewUser, IsNewVersion, IsNodeSound, IsOfPeople, IsOtherShare, IsPieceSound, IsRemounted, IsShareSound, IsTouched, IsUnmounted, last_number, LeadsToRoot, last_short, limit_passed, new_node, raised, stored_pieces, whole_of}
 use Rattle.nf_words.specs.declared.answer.Limit.TheVariants as limit
 
 -- ---- limits
@@ -62,21 +63,47 @@ within t nodes deep versions pieces blobs none =
 
 -- ---- what is known of changes
 
--- a new node, with a number that wasn't given before and the content of a body
+-- what the chunks of an upload have together
+abbrev pub IsOfUpload : Tables → List Piece → Type 0
+IsOfUpload t content = (user : ℕ) × (dir : List ℕ) × (content ≡ whole_of t.chunks user dir)
+
+-- the pieces of chunks, one after the other
+whole_has : (P : Piece → Type 0) (chunks : List ChunkRow) → All (λ (row : ChunkRow). All P row.content) chunks
+    → All P (flat_map (λ row. row.content) chunks)
+whole_has P [] all = All-nil P
+whole_has P (row ∷ chunks) all =
+    All-append P row.content (flat_map (λ row. row.content) chunks) (All-head (λ (row : ChunkRow). All P row.content) row chunks all)
+    (whole_has P chunks (All-tail (λ (row : ChunkRow). All P row.content) row chunks all))
+
+-- they are sound, since those of each chunk are
+pub upload_sound : (t u : Tables) (content : List Piece) → All (IsChunkSound t) t.chunks → t.meta.next_blob ≤ u.meta.next_blob → IsOfUpload t content
+    → All (IsPieceSound u) content
+upload_sound t u content chunks up of =
+    subst (λ (c : List Piece). All (IsPieceSound u) c) (sym of.2)
+    (pieces_still t u (whole_of t.chunks of.0 of.1) up
+    (whole_has (IsPieceSound t) (chunks_of t.chunks of.0 of.1)
+    (All-filter (is_chunk_of of.0 of.1) (λ (row : ChunkRow). All (IsPieceSound t) row.content) t.chunks
+    (All-weaker (IsChunkSound t) (λ (row : ChunkRow). All (IsPieceSound t) row.content) (λ row s. s.pieces) t.chunks chunks))))
+
+-- a new node, with a number that wasn't given before and the content of a body or of an upload
 pub record KnownBorn (first : Tables) (blob : Option ℕ) (t : Tables) (row : NodeRow) : Type 0 where
   pub born : IsBorn t row
   pub fresh : first.meta.next_node ≤ row.id
-  pub body : IsOfBody first.meta blob row.content
+  pub body : IsOfBody first.meta blob row.content ⊎ ((blob ≡ None) × IsOfUpload first row.content)
 
 -- the content of a version of a file
 abbrev pub IsOfVersion : Tables → ℕ → List Piece → Type 0
 IsOfVersion t node content = (version : VersionRow) × (at : ℕ) × (version_row t.versions node at ≡ Some version) × (content ≡ version.content)
 
--- a file, with the content of a body or of a version of it
+-- a content that rows have already: that of a version of the file, or of an upload
+abbrev pub IsAgain : Tables → ℕ → List Piece → Type 0
+IsAgain t node content = IsOfVersion t node content ⊎ IsOfUpload t content
+
+-- a file, with the content of a body, of a version of it or of an upload
 pub record KnownFilled (first : Tables) (blob : Option ℕ) (t : Tables) (row : NodeRow) : Type 0 where
   pub filled : IsFilled t row
   pub given : row.id < first.meta.next_node
-  pub body : IsOfBody first.meta blob row.content ⊎ ((blob ≡ None) × IsOfVersion first row.id row.content)
+  pub body : IsOfBody first.meta blob row.content ⊎ ((blob ≡ None) × IsAgain first row.id row.content)
 
 -- a version, of what a file had before the step
 pub record KnownVersion (first t : Tables) (row : VersionRow) : Type 0 where
@@ -91,13 +118,20 @@ IsTurned first t (Put (rows.Version row)) = KnownVersion first t row
 IsTurned first t (Drop (keys.Version node at)) = Unit {0}
 IsTurned first t other = ⊥
 
--- what is known of a change in the tables that it meets, by the kind of its row; a kind that isn't built yet isn't changed
+-- a chunk, with the content of a body
+pub record KnownChunk (first : Tables) (blob : Option ℕ) (t : Tables) (row : ChunkRow) : Type 0 where
+  pub chunk : IsNewChunk t row
+  pub body : IsOfBody first.meta blob row.content
+
+-- what is known of a change in the tables that it meets, by the kind of its row
 abbrev pub KnownRow : Tables → Option ℕ → Tables → Change → Type 0
 KnownRow first blob t (Put (rows.Node row)) = KnownBorn first blob t row ⊎ KnownFilled first blob t row
 KnownRow first blob t (Put (rows.Mount row)) = (blob ≡ None) × (IsRemounted t row ⊎ IsNewMount t row)
 KnownRow first blob t (Put (rows.Share row)) =
     (blob ≡ None) × ((IsNewShare t row × (first.meta.next_share ≤ row.id)) ⊎ (IsOtherShare t row × (row.id < first.meta.next_share)))
 KnownRow first blob t (Put (rows.Version row)) = IsTurned first t (Put (rows.Version row))
+KnownRow first blob t (Put (rows.Upload row)) = IsNewUpload t row ⊎ IsTouched t row
+KnownRow first blob t (Put (rows.Chunk row)) = KnownChunk first blob t row
 KnownRow first blob t (Drop (keys.Version node at)) = IsTurned first t (Drop (keys.Version node at))
 KnownRow first blob t other = (blob ≡ None) × IsOfPeople t other
 
@@ -184,6 +218,19 @@ none_lean t = record { once = λ i j d before within. absurd (omega arith); diff
 
 -- ---- a new node
 
+-- its pieces are sound, be they of a body or of an upload
+born_sound : (t u : Tables) (blob : Option ℕ) (content : List Piece) → AreSound t
+    → IsOfBody t.meta blob content ⊎ ((blob ≡ None) × IsOfUpload t content) → blob_after t.meta.next_blob blob ≤ u.meta.next_blob
+    → All (IsPieceSound u) content
+born_sound t u blob content sound (inl of) given = body_sound t.meta u blob content sound.counters of given
+born_sound t u blob content sound (inr (none, of)) given =
+    upload_sound t u content sound.others.chunks (omega (arith, given, next_le t.meta.next_blob blob)) of
+
+born_next : (t : Tables) (blob : Option ℕ) (content : List Piece) → IsOfBody t.meta blob content ⊎ ((blob ≡ None) × IsOfUpload t content)
+    → IsNext t.meta.next_blob blob
+born_next t blob content (inl of) = body_next t.meta blob content of
+born_next t blob content (inr (none, of)) = none_next t.meta.next_blob blob none
+
 -- its number is above all others
 pub newest : (t : Tables) → AreSound t → All (λ (old : NodeRow). old.id < t.meta.next_node) t.nodes
 newest t sound = All-weaker (IsNodeSound t) (λ (old : NodeRow). old.id < t.meta.next_node) (λ old s. s.given) t.nodes sound.nodes
@@ -197,7 +244,8 @@ not_there t row sound id = λ is.
 pub new_known : (t : Tables) (now folder : ℕ) (name : List ℕ) (kind : NodeKind) (content : List Piece) (blob : Option ℕ) (blobs : ℕ) (gone : List Version)
     → AreSound t → is_folder t.nodes folder ≡ true → LeadsToRoot t.nodes folder → child_of t.nodes folder name ≡ None → IsUnmounted t folder name
     → Within t 1 (depth t.nodes folder + 1) 0 (length content) blobs → blob_after t.meta.next_blob blob ≤ t.meta.next_blob + blobs
-    → IsOfBody t.meta blob content → (is_folder_kind kind ≡ true → content ≡ []) → All (IsVersion t) gone → AllPairs AreTwo gone
+    → IsOfBody t.meta blob content ⊎ ((blob ≡ None) × IsOfUpload t content) → (is_folder_kind kind ≡ true → content ≡ [])
+    → All (IsVersion t) gone → AllPairs AreTwo gone
     → KnownChange t now (Put (rows.Node (new_node t now folder name kind content)) ∷ drops gone) blob
 new_known t now folder name kind content blob blobs gone sound there present free unmounted fits counts body empty versions two =
     let row = new_node t now folder name kind content in
@@ -220,7 +268,7 @@ new_known t now folder name kind content blob blobs gone sound there present fre
               unused = All-weaker (IsMountSound t) (λ (mount : MountRow). mount.node < t.meta.next_node) (λ mount s. s.node) t.mounts sound.others.mounts;
               given = omega (arith, next);
               changed = le_refl _;
-              pieces = body_sound t.meta up blob content sound.counters body (le_refl _);
+              pieces = born_sound t up blob content sound body (le_refl _);
               empty = empty;
               deep = fits.deep;
               few_nodes = fits.nodes;
@@ -232,7 +280,7 @@ new_known t now folder name kind content blob blobs gone sound there present fre
           (drops_rows t blob (made up (Put (rows.Node row))) gone);
       lean = lean_more t (Put (rows.Node row)) (drops gone) (put_differs t row (not_there t row sound refl)) (node_apart row gone) (drops_lean t gone versions two);
       stored = λ none. absurd (cc);
-      next = body_next t.meta blob content body;
+      next = born_next t blob content body;
       next_user = omega (arith, ap (λ (meta : MetaRow). meta.next_user) count);
       next_group = omega (arith, ap (λ (meta : MetaRow). meta.next_group) count);
       next_node = omega (arith, fits.next_node, next);

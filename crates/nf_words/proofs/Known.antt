@@ -2,22 +2,24 @@
 use Rattle.std.proofs.Common.{◌≡◌, ◌≢◌, ℕ, ◌+◌, ◌≤◌, ◌==◌, true, false, List, [], ◌∷◌, ◌++◌, ◌⊎◌, length, flat_map, refl, sym}
 use Rattle.std.proofs.lemmas.List.{append-nil}
 use Rattle.std.proofs.lemmas.List.Elements.{All-nil}
-use Rattle.std.specs.Prelude.{Some, is_some}
+use Rattle.std.specs.Prelude.{None, Some, is_some}
 use Rattle.std.specs.List.{All, AllPairs}
 use Rattle.std.specs.Option.{option_map_or}
 use Rattle.nf_base.specs.declared.content.Piece.{Piece}
-use Rattle.nf_base.specs.declared.limits.TheConstants.{MAX_BODY, MAX_DEPTH, MAX_NODES, MAX_STORED_PIECES}
+use Rattle.nf_base.specs.declared.limits.TheConstants.{MAX_BODY, MAX_DEPTH, MAX_NODES, MAX_PIECES, MAX_STORED_PIECES}
 use Rattle.nf_base.specs.declared.rows.ItemRow.{ItemRow}
 use Rattle.nf_base.specs.declared.rows.NodeRow.{NodeRow}
 use Rattle.nf_base.specs.declared.rows.Place.TheVariants.{Inside}
+use Rattle.nf_base.specs.declared.changes.Change.{Change}
+use Rattle.nf_base.specs.declared.rows.UploadRow.{UploadRow}
 use Rattle.nf_base.specs.declared.rows.UserRow.{UserRow}
-use Rattle.nf_defs.specs.Prelude.{child_of, content_of, is_folder, is_root, is_under, item_row, node_row, Tables, walk_of}
+use Rattle.nf_defs.specs.Prelude.{child_of, content_of, is_folder, is_root, is_under, item_row, node_row, Tables, upload_key, walk_of}
 use Rattle.nf_words.proofs.Fits.{IsOfVersion, KnownChange}
 use Rattle.nf_words.proofs.Forgetting.{IsVersion, unsettled_there}
 use Rattle.nf_words.specs.Changes.{Charged}
 use Rattle.nf_retention.specs.declared.versions.Version.{Version}
 use Rattle.nf_words.proofs.Ways.{HasRow}
-use Rattle.nf_words.specs.Prelude.{beside, copies, crosses, crossing, deepest_in, discard, forgets, home_of, IsHeld, IsRequoted, IsUnmounted, last_number, LeadsToRoot, MayStoreAt, moves, name_back, node_of_key, pieces_in, purged_by, purges, settled_by, stored_pieces, unsettled}
+use Rattle.nf_words.specs.Prelude.{abandons, beside, copies, crosses, crossing, deepest_in, discard, forgets, home_of, IsHeld, IsRequoted, IsUnmounted, last_number, LeadsToRoot, MayStoreAt, moves, name_back, node_of_key, pieces_in, purged_by, purges, settled_by, stored_pieces, unsettled, upload_row}
 use Rattle.nf_words.specs.declared.answer.Allowed.{Allowed}
 use Rattle.nf_words.specs.declared.answer.Allowed.TheVariants as allowed
 use Rattle.nf_words.specs.declared.answer.By.{By}
@@ -38,6 +40,21 @@ pub record KnownGranted (t : Tables) (by : By) (key : LockKey) (length : ℕ) : 
   pub held : IsHeld t key
   pub present : LeadsToRoot t.nodes (node_of_key key)
   pub storer : MayStoreAt t by (node_of_key key)
+
+-- a chunk that may be sent
+pub record KnownSent (number length : ℕ) : Type 0 where
+  pub short : length ≤ MAX_BODY
+  pub some : 1 ≤ number
+  pub few : number ≤ MAX_PIECES
+
+-- an upload that is there
+abbrev pub IsOpen : Tables → ℕ → List ℕ → Type 0
+IsOpen t user dir = is_some (upload_row t.uploads user dir) ≡ true
+
+-- some that are there, each once
+pub record KnownIdle (t : Tables) (rows : List UploadRow) : Type 0 where
+  pub there : All (λ (row : UploadRow). upload_row t.uploads row.user row.dir ≡ Some row) rows
+  pub once : AllPairs (λ (a b : UploadRow). upload_key a ≢ upload_key b) rows
 
 -- ---- what leaves its place
 
@@ -115,6 +132,12 @@ pub data KnownDeeds (t : Tables) (now : ℕ) : List Deed → Type 0 where
   by_moving : (transfer : Transfer) (name : List ℕ) → KnownMove t transfer name → KnownDeeds t now (moves t now name transfer)
   by_copying : (transfer : Transfer) (name : List ℕ) → KnownCopies t transfer name → KnownDeeds t now (copies t now name transfer)
   by_crossing : (transfer : Transfer) (name : List ℕ) → KnownCross t transfer name → KnownDeeds t now (crossing t now name transfer)
+  -- an upload becomes the content of a file, and one goes
+  by_joining : (changes : List Change) (user : ℕ) (dir : List ℕ) → KnownChange t now changes None → IsOpen t user dir
+      → KnownDeeds t now (deed.Store changes ∷ deed.Abandon user dir ∷ [])
+  by_abandoning : (user : ℕ) (dir : List ℕ) → IsOpen t user dir → KnownDeeds t now (deed.Abandon user dir ∷ [])
+  -- a sweep
+  by_sweeping : (nodes : List ℕ) (rows : List UploadRow) → KnownGoes t nodes → KnownIdle t rows → KnownDeeds t now (purges nodes ++ abandons rows)
 
 -- deeds that are known, and then versions that go
 pub record KnownSettled (t : Tables) (now : ℕ) (deeds : List Deed) : Type 0 where
@@ -142,6 +165,7 @@ abbrev pub Known : Tables → ℕ → Allowed → Type 0
 Known t now (allowed.Get node content) = KnownServed t node content
 Known t now (allowed.List listing) = Unit {0}
 Known t now (allowed.Put by key length) = KnownGranted t by key length
+Known t now (allowed.Chunk user dir number length) = KnownSent number length
 Known t now (allowed.Change changes blob report) = KnownChange t now changes blob
 Known t now (allowed.Deeds deeds report) = KnownSettled t now deeds
 Known t now allowed.Close = Unit {0}

@@ -6,6 +6,7 @@ pub mod Forgetting
 pub mod Fits
 pub mod Refilling
 pub mod Known
+pub mod Sparing
 pub mod Spared
 pub mod Starts
 pub mod Transfers
@@ -13,6 +14,9 @@ pub mod Ways
 pub mod Mounting
 pub mod Ensured
 pub mod Versioned
+pub mod Chunked
+pub mod Uploaded
+pub mod Wholes
 pub mod Begins
 pub mod Ends
 pub mod Histories

@@ -18,7 +18,7 @@ use Rattle.nf_words.specs.declared.request.Spot.{Spot}
 use Rattle.nf_defs.specs.Prelude.{Access, is_root, owner_of, Tables}
 use Rattle.nf_defs.specs.declared.Found.{Found}
 use Rattle.nf_defs.specs.declared.Found.TheVariants.{At, Missing}
-use Rattle.nf_words.specs.Prelude.{access_of, acts_rule, allowed_of, answer_at, answered_by, answer_to, asked_by, asks_by_link, broken_by, Call, caller_row, call_of, decision_of, earlier_rules, end_lost, end_refusal, ends_at, ends_goal, end_unallowed, end_unreached, exceeded, excess_at, exists_rule, fault_by, first_refused, first_that_holds, forbidden_rule, goal_at, has_forbidden, is_caller, is_kept, is_owner, is_refused, is_transfer, key_in_way, lacks_item, later_rules, limit_at, limit_by, limited, limit_rule, locked_rule, may_ask, named_rule, Need, need_broken, needed, needed_by, needed_for, node_of_key, not_you_rule, overwrite_rule, own_item, Pass, paths_of, pieces_of, place_of, place_rule, places_of, quota_rule, refusal_of, room_rule, root_of, Rule, seeker_of, sharing_rule, source_lost, source_refused, State, stored_at, taken, target_lost, target_refused, target_rule, token_rule, told_broken, touches, unfit, unless_refused, unlinked, unnamed, unnamed_by, unreached, unreached_by, untrashed, users_of, version_lost, version_rule, Way, way_of, ways_of}
+use Rattle.nf_words.specs.Prelude.{access_of, acts_rule, allowed_of, answer_at, answered_by, answer_to, asked_by, asks_by_link, assembled_excess, broken_by, Call, caller_row, call_of, chunk_limit, chunk_refusal, chunk_stored, decision_of, dir_asked, earlier_rules, end_lost, end_refusal, ends_at, ends_goal, end_unallowed, end_unreached, exceeded, excess_at, exists_rule, fault_by, fault_with, first_refused, first_that_holds, forbidden_rule, goal_at, has_forbidden, is_caller, is_kept, is_owner, is_refused, is_transfer, key_in_way, lacks_item, lacks_upload, later_rules, limit_at, limit_by, limited, limit_rule, locked_rule, may_ask, named_rule, Need, need_broken, needed, needed_by, needed_for, node_of_key, not_you_rule, opened_by, overwrite_rule, own_item, Pass, paths_of, pieces_of, place_of, place_rule, places_of, quota_rule, refusal_of, room_rule, root_of, Rule, seeker_of, sharing_rule, source_lost, source_refused, State, stored_at, taken, target_lost, target_refused, target_rule, token_rule, told_broken, touches, unfit, unless_refused, unlinked, unnamed, unnamed_by, unopened, unreached, unreached_by, untrashed, upload_row, upload_rule, users_of, version_lost, version_rule, Way, way_of, ways_of}
 use Rattle.nf_words.specs.declared.answer.Allowed.{Allowed}
 use Rattle.nf_words.specs.declared.answer.By.{By}
 use Rattle.nf_words.specs.declared.answer.Denial.{Denial}
@@ -28,11 +28,12 @@ use Rattle.nf_words.specs.declared.request.Caller.TheVariants.{Link}
 use Rattle.nf_words.specs.declared.answer.Denial.TheVariants as denial
 use Rattle.nf_words.specs.declared.answer.Excess.{Excess}
 use Rattle.nf_words.specs.declared.answer.Goal.{Goal}
-use Rattle.nf_words.specs.declared.answer.Goal.TheVariants.{Store}
+use Rattle.nf_words.specs.declared.answer.Goal.TheVariants.{Chunk, Store}
 use Rattle.nf_words.specs.declared.answer.Limit.{Limit}
 use Rattle.nf_words.specs.declared.answer.LockKey.{LockKey}
 use Rattle.nf_words.specs.declared.answer.LockKey.TheVariants.{Node, Slot}
 use Rattle.nf_words.specs.declared.answer.TargetFault.{TargetFault}
+use Rattle.nf_words.specs.declared.answer.UploadFault.{UploadFault}
 use Rattle.nf_words.specs.declared.history.Entry.{Entry}
 use Rattle.nf_words.specs.declared.history.Event.{Event}
 use Rattle.nf_words.specs.declared.history.Event.TheVariants.{Begin, End, Sweep}
@@ -48,7 +49,9 @@ use Rattle.nf_words.specs.declared.request.ShareAsk.TheVariants as ask
 use Rattle.nf_words.specs.declared.request.Wanted.{Wanted}
 use Rattle.nf_words.specs.declared.request.Wanted.TheVariants as wanted
 use Rattle.nf_words.specs.declared.answer.Breach.{Breach}
-use Rattle.nf_words.specs.declared.route.Route.TheVariants.{Files}
+use Rattle.nf_words.specs.declared.request.UploadAsk.{UploadAsk}
+use Rattle.nf_words.specs.declared.request.UploadAsk.TheVariants as upload
+use Rattle.nf_words.specs.declared.route.Route.TheVariants.{Assembly, Files, Upload}
 use Rattle.nf_base.specs.declared.rows.ItemRow.{ItemRow}
 use Rattle.nf_words.specs.declared.request.TrashAsk.{TrashAsk}
 use Rattle.nf_words.specs.declared.request.TrashAsk.TheVariants as trash
@@ -121,6 +124,7 @@ target_fine place = tt
 taken_fine : (rows : List NodeRow) (places : Places) (makes : Making) → IsEarly (taken rows places makes)
 taken_fine rows places (making.File length) = if_test _ (denial.Exists Files) refl
 taken_fine rows places making.Folder = if_test _ (denial.Exists Files) refl
+taken_fine rows places making.Assembled = if_test _ (denial.Exists Assembly) refl
 taken_fine rows places makes = tt
 
 -- each of some rules refuses so
@@ -175,13 +179,26 @@ unreached_fine access g seeker now (Some mount) =
 reach_fine : (access : Access) (call : Call) (way : Way) → IsEarly (unreached access call way)
 reach_fine access call way = unreached_fine access (ground_of call.state.tables) (seeker_of call) call.now way.mount
 
+-- an upload that has to be there is or not
+open_fine : (call : Call) (wanted : Wanted) → IsEarly (unopened call wanted)
+open_fine call (wanted.Upload asked) = here (dir_asked asked)
+  where
+    here : (o : Option (List ℕ)) → IsEarly (option_and_then (lacks_upload call) o)
+    here None = tt
+    here (Some dir) = unless_test _ denial.NotFound refl
+open_fine call other = tt
+
 place_fine : (access : Access) (call : Call) → IsEarly (place_rule access call)
 unfolding place_rule
 place_fine access call =
-    either (unlinked call) (option_or (option_and_then of_source (asked_by call).source) (option_and_then of_target (asked_by call).target))
+    either (unlinked call)
+    (option_or (option_and_then of_source (asked_by call).source)
+    (option_or (unopened call call.request.wanted) (option_and_then of_target (asked_by call).target)))
     (linked call.request.caller)
-    (either (option_and_then of_source (asked_by call).source) (option_and_then of_target (asked_by call).target)
-    (sources (asked_by call).source) (targets (asked_by call).target))
+    (either (option_and_then of_source (asked_by call).source)
+    (option_or (unopened call call.request.wanted) (option_and_then of_target (asked_by call).target)) (sources (asked_by call).source)
+    (either (unopened call call.request.wanted) (option_and_then of_target (asked_by call).target) (open_fine call call.request.wanted)
+    (targets (asked_by call).target)))
   where
     linked : (who : Caller) → IsEarly (unlinked_by call.state who)
     linked (Link token) = unless_test (is_some (link_row call.state.tables.shares token)) denial.NotFound refl
@@ -271,7 +288,17 @@ version_fine access call = here call.request.wanted
 
 exists_fine : (access : Access) (call : Call) → IsEarly (exists_rule access call)
 unfolding exists_rule
-exists_fine access call = taken_fine call.state.tables.nodes (places_of call) (asked_by call).makes
+exists_fine access call =
+    either (taken call.state.tables.nodes (places_of call) (asked_by call).makes) (opened_by call call.request.wanted)
+    (taken_fine call.state.tables.nodes (places_of call) (asked_by call).makes) (here call.request.wanted)
+  where
+    of_upload : (asked : UploadAsk) → IsEarly (opened_by call (wanted.Upload asked))
+    of_upload (upload.New user dir to) = if_test _ (denial.Exists Upload) refl
+    of_upload other = tt
+
+    here : (wanted : Wanted) → IsEarly (opened_by call wanted)
+    here (wanted.Upload asked) = of_upload asked
+    here other = tt
 
 fit_fine : (access : Access) (call : Call) → IsEarly (target_rule access call)
 unfolding target_rule
@@ -286,6 +313,14 @@ unfolding sharing_rule
 sharing_fine access call = here (fault_by access call call.request.wanted)
   where
     here : (o : Option Breach) → IsEarly (option_map denial.Rule o)
+    here None = tt
+    here (Some fault) = refl
+
+upload_fine : (access : Access) (call : Call) → IsEarly (upload_rule access call)
+unfolding upload_rule
+upload_fine access call = here (fault_with call call.request.wanted)
+  where
+    here : (o : Option UploadFault) → IsEarly (option_map denial.Upload o)
     here None = tt
     here (Some fault) = refl
 
@@ -308,11 +343,12 @@ room_fine access call = limits (limit_by call call.request.wanted)
 
 quota_fine : (access : Access) (call : Call) → IsRefusal (quota_rule access call)
 unfolding quota_rule
-quota_fine access call = quotas (exceeded call.state.tables (places_of call) (asked_by call).makes)
+quota_fine access call =
+    quotas (option_or (exceeded call.state.tables (places_of call) (asked_by call).makes) (assembled_excess call call.request.wanted))
 
 pub early : AreEarly earlier_rules
 early =
-    (token_fine, (not_you_fine, (forbidden_fine, (place_fine, (named_fine, (acts_fine, (version_fine, (exists_fine, (fit_fine, (overwrite_fine, (sharing_fine, tt)))))))))))
+    (token_fine, (not_you_fine, (forbidden_fine, (place_fine, (named_fine, (acts_fine, (version_fine, (exists_fine, (fit_fine, (overwrite_fine, (sharing_fine, (upload_fine, tt))))))))))))
 
 any_later : (a b c d : Option Denial) → IsRefusal a → IsRefusal b → IsRefusal c → IsRefusal d
     → IsRefusal (option_or a (option_or b (option_or c (option_or d None))))
@@ -377,6 +413,12 @@ goal_fine access t now (Body digest size) (Store by key wanted) =
     (either_first (end_unreached access t now by (node_of_key key)) _ fine.0
     (either_first (end_unallowed access t now by key) _ fine.1
     (either_first (end_lost t key) _ fine.2 (unfit_fine (limit_at t (pieces_of size) (place_of key)) (excess_at t size (place_of key))))))
+goal_fine access t now (Body digest size) (Chunk user dir number wanted) =
+    unless_fine (chunk_refusal t user dir number size) (chunk_stored t now user dir number digest size) (here (is_some (upload_row t.uploads user dir)))
+  where
+    here : (b : Bool) → IsRefusal (if b then option_map denial.Limit (chunk_limit t user dir size number) else Some denial.NotFound)
+    here true = limits (chunk_limit t user dir size number)
+    here false = refl
 goal_fine access t now outcome goal = tt
 
 at_fine : (access : Access) (t : Tables) (now : ℕ) (outcome : Outcome) (goal : Option Goal) → IsDecided (ends_at access t now outcome goal)

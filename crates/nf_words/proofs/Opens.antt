@@ -6,14 +6,14 @@ use Rattle.nf_base.specs.declared.rows.NodeRow.{NodeRow}
 use Rattle.nf_defs.specs.Prelude.{Access, content_of, is_folder, Tables}
 use Rattle.nf_defs.specs.declared.Found.{Found}
 use Rattle.nf_defs.specs.declared.Found.TheVariants.{At, Free, Missing}
-use Rattle.nf_words.specs.Prelude.{access_of, allowed_of, answered_by, answer_to, asked_of, by_of, Call, call_of, charged_to, copied, decided, decision_of, deleted, done, end_refusal, ends_at, exists_rule, found, given, goal_at, goal_of, hold_of, is_off_mount, is_root_at, item_dropped, item_restored, last_name, listing_of, made_folder, mount_left, mount_renamed, moved, node_at, node_found, nothing_done, offered, own_item, people_done, perms_after, refusal_of, reply_to, reported, requoted, root_of, row_named, served, shared, share_ended, share_made, share_set, share_shown, share_steered, share_told, shown, source_lost, State, step, stored, stored_at, taken, target_lost, target_rule, transfer_between, transfer_by, transfer_of, transfer_to, trash_done, unfit, unfit_between, unless_refused, until_after, Way, way_of, ways_for, with_goal, requoting, settled_by, brought_back, version_done, version_row}
+use Rattle.nf_words.specs.Prelude.{access_of, allowed_of, answered_by, answer_to, asked_of, asker_of, by_of, Call, call_of, charged_to, chunk_number, chunk_refusal, chunk_sent, chunk_stored, copied, decided, decision_of, deleted, done, end_refusal, ends_at, found, given, goal_at, goal_of, hold_of, is_off_mount, is_root_at, item_dropped, item_restored, last_name, listing_of, made_folder, mount_left, mount_renamed, moved, node_at, node_found, nothing_done, offered, own_item, people_done, perms_after, refusal_of, reply_to, reported, requoted, root_of, row_named, served, shared, share_ended, share_made, share_set, share_shown, share_steered, share_told, shown, source_lost, State, step, stored, stored_at, taken, target_lost, target_rule, transfer_between, transfer_by, transfer_of, transfer_to, trash_done, unfit, unfit_between, unless_refused, until_after, upload_done, Way, way_of, ways_for, with_goal, requoting, settled_by, brought_back, version_done, version_row}
 use Rattle.nf_words.specs.declared.answer.Allowed.{Allowed}
 use Rattle.nf_words.specs.declared.answer.Allowed.TheVariants as allowed
 use Rattle.nf_words.specs.declared.answer.Denial.{Denial}
 use Rattle.nf_words.specs.declared.answer.By.{By}
 use Rattle.nf_words.specs.declared.answer.Denial.TheVariants as denial
 use Rattle.nf_words.specs.declared.answer.Goal.{Goal}
-use Rattle.nf_words.specs.declared.answer.Goal.TheVariants.{Serve, Store}
+use Rattle.nf_words.specs.declared.answer.Goal.TheVariants.{Chunk, Serve, Store}
 use Rattle.nf_words.specs.declared.answer.LockKey.{LockKey}
 use Rattle.nf_words.specs.declared.answer.LockKey.TheVariants.{Node, Slot}
 use Rattle.nf_words.specs.declared.answer.Reply.{Reply}
@@ -33,9 +33,9 @@ use Rattle.nf_words.specs.declared.request.Transfer.{Transfer}
 use Rattle.nf_words.specs.declared.request.Words.{Words}
 use Rattle.nf_words.specs.declared.request.Wanted.{Wanted}
 use Rattle.nf_words.specs.declared.route.Route.TheVariants.{Files}
-use Rattle.nf_words.specs.declared.request.Wanted.TheVariants.{Get, Put, Mkcol, Delete, Move, Copy, Share, People, Trash, Version}
+use Rattle.nf_words.specs.declared.request.Wanted.TheVariants.{Get, Put, Mkcol, Delete, Move, Copy, Share, People, Trash, Upload, Version}
 use Rattle.nf_words.proofs.Begins.{only_at, places_at}
-use Rattle.nf_words.proofs.Passing.{no_fault, PlacePasses, place_passes, unrefused}
+use Rattle.nf_words.proofs.Passing.{exists_passes, no_fault, PlacePasses, place_passes, unrefused}
 use Rattle.nf_words.proofs.Transfers.{fit_parts, FitParts, same_transfer}
 use Rattle.nf_words.proofs.Steps.{end_nothing, never_granted, ok_reply}
 use Rattle.nf_base.specs.declared.rows.ItemRow.{ItemRow}
@@ -47,6 +47,8 @@ use Rattle.nf_words.specs.declared.request.VersionAsk.TheVariants as version
 use Rattle.nf_base.specs.declared.rows.VersionRow.{VersionRow}
 use Rattle.nf_words.specs.declared.request.PeopleAsk.TheVariants as people
 use Rattle.nf_words.specs.declared.request.TrashAsk.TheVariants as trash
+use Rattle.nf_words.specs.declared.request.UploadAsk.{UploadAsk}
+use Rattle.nf_words.specs.declared.request.UploadAsk.TheVariants as upload
 use Rattle.std.proofs.lemmas.Bool.{cond_both}
 
 -- ---- never as the End of what stores nothing
@@ -128,6 +130,17 @@ open_version t now (version.Restore user node at) = here (version_row t.versions
     here : (o : Option VersionRow) → option_map_or (brought_back t now node) o nothing_done ≢ allowed.Close
     here None = λ is. cc
     here (Some row) = λ is. cc
+
+-- an upload that is joined is put somewhere
+open_upload : (call : Call) (asked : UploadAsk) → upload_done call (places_at call (Upload asked)) asked ≢ allowed.Close
+open_upload call (upload.New user dir to) = λ is. cc
+open_upload call (upload.Chunk user dir name to length) = here (chunk_number name)
+  where
+    here : (o : Option ℕ) → option_map_or (chunk_sent (asker_of call) dir length) o nothing_done ≢ allowed.Close
+    here None = λ is. cc
+    here (Some number) = λ is. cc
+open_upload call (upload.Drop user dir) = λ is. cc
+open_upload call (upload.Join dir spot total) = λ is. cc
 
 open_put : (by : By) (name : List ℕ) (length : ℕ) (place : Found) → target_lost place ≡ None → stored by name length (Some place) ≢ allowed.Close
 open_put by name length (Missing depth) there = absurd (cc)
@@ -226,15 +239,17 @@ open_given call (Share asked) led free fits = open_shared (access_of call.state)
 open_given call (People asked) led free fits = open_people call.state.tables call.now asked
 open_given call (Trash asked) led free fits = open_trash call asked
 open_given call (Version asked) led free fits = open_version call.state.tables call.now asked
+open_given call (Upload asked) led free fits = open_upload call asked
 
 -- a Begin isn't
 pub begins_open : (s : State) (seat now : ℕ) (words : Words) (request : Request) → answer_to s seat now (Begin words request) ≢ Ok Closed
-unfolding exists_rule target_rule
+unfolding target_rule
 begins_open s seat now words request =
     let call = call_of s seat now words request in
     let access = access_of s in
     open_answer (refusal_of access call) (allowed_of access call) (λ none.
-    let pass = unrefused access call none in open_given call request.wanted (place_passes access call pass.place) pass.exists (no_fault _ pass.target))
+    let pass = unrefused access call none in
+    open_given call request.wanted (place_passes access call pass.place) (exists_passes access call pass.exists).0 (no_fault _ pass.target))
 
 open_stored : (t : Tables) (now : ℕ) (key : LockKey) (digest : List ℕ) (length : ℕ) → stored_at t now key digest length ≢ allowed.Close
 open_stored t now (Node node) digest length = λ is. cc
@@ -247,6 +262,14 @@ pub bodies_open : (s : State) (seat now : ℕ) (digest : List ℕ) (length : ℕ
 bodies_open s seat now digest length by key wanted has =
     subst (λ (goal : Option Goal). answered_by (ends_at (access_of s) s.tables now (Body digest length) goal) ≢ Ok Closed) (sym has)
     (open_answer (end_refusal (access_of s) s.tables now by key length) (stored_at s.tables now key digest length) (λ none. open_stored s.tables now key digest length))
+
+-- nor that of a chunk
+pub chunks_open : (s : State) (seat now : ℕ) (digest : List ℕ) (length user : ℕ) (dir : List ℕ) (number wanted : ℕ)
+    → goal_at s seat ≡ Some (Chunk user dir number wanted)
+    → answer_to s seat now (End (Body digest length)) ≢ Ok Closed
+chunks_open s seat now digest length user dir number wanted has =
+    subst (λ (goal : Option Goal). answered_by (ends_at (access_of s) s.tables now (Body digest length) goal) ≢ Ok Closed) (sym has)
+    (open_answer (chunk_refusal s.tables user dir number length) (chunk_stored s.tables now user dir number digest length) (λ none is. cc))
 
 -- ---- what grants nothing
 
@@ -261,6 +284,7 @@ IsPlain answer = (goal : Goal) → answer ≢ Ok (Granted goal)
 no_goal : (act : Allowed) → IsPlain (Ok (reply_to act)) → goal_of act ≡ None
 no_goal (allowed.Get node content) plain = absurd (plain (Serve content) refl)
 no_goal (allowed.Put by key length) plain = absurd (plain (Store by key length) refl)
+no_goal (allowed.Chunk user dir number length) plain = absurd (plain (Chunk user dir number length) refl)
 no_goal act plain = refl
 
 plain_decided : (s : State) (seat now : ℕ) (decision : Result Allowed Denial) → IsPlain (answered_by decision)

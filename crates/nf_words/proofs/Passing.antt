@@ -8,7 +8,7 @@ use Rattle.nf_access.specs.Shares.{Ground, ground_of}
 use Rattle.nf_defs.specs.Prelude.{Access, Tables}
 use Rattle.nf_defs.specs.declared.Seeker.{Seeker}
 use Rattle.nf_words.specs.Asked.{Asked}
-use Rattle.nf_words.specs.Prelude.{access_of, acts_rule, allowed_of, asked_by, Call, call_decision, end_lost, end_refusal, end_unallowed, end_unreached, excess_at, exists_rule, first_refused, first_that_holds, forbidden_rule, found, is_refused, limit_at, limit_rule, locked_rule, may_by, named_rule, Need, need_broken, needed, needed_for, node_of_key, not_you_rule, overwrite_rule, Pass, pieces_of, place_of, place_rule, quota_rule, refusal_of, room_rule, Rule, rules, seeker_of, sharing_rule, source_lost, source_refused, target_lost, target_refused, target_rule, token_rule, unless_refused, unlinked, unreached, version_rule, Way, way_of}
+use Rattle.nf_words.specs.Prelude.{access_of, acts_rule, allowed_of, asked_by, assembled_excess, Call, call_decision, end_lost, end_refusal, end_unallowed, end_unreached, exceeded, excess_at, exists_rule, first_refused, first_that_holds, forbidden_rule, found, is_refused, limit_at, limit_rule, locked_rule, may_by, named_rule, Need, need_broken, needed, needed_for, node_of_key, not_you_rule, opened_by, overwrite_rule, Pass, pieces_of, place_of, place_rule, places_of, quota_rule, refusal_of, room_rule, Rule, rules, seeker_of, sharing_rule, source_lost, source_refused, taken, target_lost, target_refused, target_rule, token_rule, unless_refused, unlinked, unopened, unreached, upload_rule, version_rule, Way, way_of}
 use Rattle.nf_words.specs.declared.answer.Allowed.{Allowed}
 use Rattle.nf_words.specs.declared.answer.By.{By}
 use Rattle.nf_words.specs.declared.answer.Denial.{Denial}
@@ -18,6 +18,7 @@ use Rattle.nf_words.specs.declared.answer.Limit.{Limit}
 use Rattle.nf_words.specs.declared.answer.LockKey.{LockKey}
 use Rattle.nf_words.specs.declared.answer.Breach.{Breach}
 use Rattle.nf_words.specs.declared.answer.TargetFault.{TargetFault}
+use Rattle.nf_words.specs.declared.answer.UploadFault.{UploadFault}
 use Rattle.nf_words.specs.declared.request.Spot.{Spot}
 
 -- the rules pass it. A new rule adds a field, and its place in `named` and `in_order`
@@ -33,13 +34,14 @@ pub record Passes (access : Access) (call : Call) : Type 0 where
   pub target : target_rule access call ≡ None
   pub overwrite : overwrite_rule access call ≡ None
   pub sharing : sharing_rule access call ≡ None
+  pub upload : upload_rule access call ≡ None
   pub locked : locked_rule access call ≡ None
   pub limit : limit_rule access call ≡ None
   pub room : room_rule access call ≡ None
   pub quota : quota_rule access call ≡ None
 
 named : (access : Access) (call : Call) → Pass rules access call → Passes access call
-named access call (token, (not_you, (forbidden, (place, (names, (acts, (version, (exists, (target, (overwrite, (sharing, (locked, (limit, (room, (quota, end))))))))))))))) = record {
+named access call (token, (not_you, (forbidden, (place, (names, (acts, (version, (exists, (target, (overwrite, (sharing, (upload, (locked, (limit, (room, (quota, end)))))))))))))))) = record {
   token = token;
   not_you = not_you;
   forbidden = forbidden;
@@ -51,6 +53,7 @@ named access call (token, (not_you, (forbidden, (place, (names, (acts, (version,
   target = target;
   overwrite = overwrite;
   sharing = sharing;
+  upload = upload;
   locked = locked;
   limit = limit;
   room = room;
@@ -80,7 +83,7 @@ in_order access call p = (
                     p.overwrite,
                     (
                       p.sharing,
-                      (p.locked, (p.limit, (p.room, (p.quota, tt)))),
+                      (p.upload, (p.locked, (p.limit, (p.room, (p.quota, tt))))),
                     ),
                   ),
                 ),
@@ -104,11 +107,13 @@ each_passes [] access call none = tt
 each_passes (rule ∷ others) access call none =
     let h = both_none (rule access call) (first_that_holds others access call) none in (h.0, each_passes others access call h.1)
 
--- what isn't refused of the paths is of a link that is there, is reached, where it isn't a mount that is asked for itself, and isn't lost
+-- what isn't refused of the paths is of a link that is there, is reached, where it isn't a mount that is asked for itself, and isn't lost; and an upload
+-- that has to be there is
 pub record PlacePasses (access : Access) (call : Call) (asked : Asked) : Type 0 where
   pub linked : unlinked call ≡ None
   pub source : IfSome asked.source (λ (spot : Spot). (asked.removes && (way_of call spot).itself) ≡ false → unreached access call (way_of call spot) ≡ None)
   pub there : option_and_then source_lost (option_map (found call) asked.source) ≡ None
+  pub opened : unopened call call.request.wanted ≡ None
   pub target : IfSome asked.target (λ (spot : Spot). unreached access call (way_of call spot) ≡ None)
   pub in_folder : option_and_then target_lost (option_map (found call) asked.target) ≡ None
 
@@ -118,17 +123,20 @@ place_passes access call none = here (asked_by call) refl none
   where
     here : (asked : Asked) → asked_by call ≡ asked
         → option_or (unlinked call) (option_or (option_and_then (λ spot. source_refused access call (way_of call spot)) asked.source)
-        (option_and_then (λ spot. target_refused access call (way_of call spot)) asked.target)) ≡ None
+        (option_or (unopened call call.request.wanted)
+        (option_and_then (λ spot. target_refused access call (way_of call spot)) asked.target))) ≡ None
         → PlacePasses access call asked
     here asked same none =
         let first = both_none (unlinked call) _ none in
         let both = both_none (option_and_then (λ spot. source_refused access call (way_of call spot)) asked.source) _ first.1 in
+        let last = both_none (unopened call call.request.wanted) _ both.1 in
         record {
           linked = first.0;
           source = (sources asked.source both.0).0;
           there = (sources asked.source both.0).1;
-          target = (targets asked.target both.1).0;
-          in_folder = (targets asked.target both.1).1;
+          opened = last.0;
+          target = (targets asked.target last.1).0;
+          in_folder = (targets asked.target last.1).1;
         }
       where
         removes : (asked_by call).removes ≡ asked.removes
@@ -230,6 +238,10 @@ pub no_rule : (fault : Option Breach) → option_map denial.Rule fault ≡ None 
 no_rule None none = refl
 no_rule (Some fault) none = absurd (cc)
 
+pub no_upload_fault : (fault : Option UploadFault) → option_map denial.Upload fault ≡ None → fault ≡ None
+no_upload_fault None none = refl
+no_upload_fault (Some fault) none = absurd (cc)
+
 pub no_limit : (passed : Option Limit) → option_map denial.Limit passed ≡ None → passed ≡ None
 no_limit None none = refl
 no_limit (Some passed) none = absurd (cc)
@@ -241,6 +253,26 @@ no_excess (Some excess) none = absurd (cc)
 pub if_none : (b : Bool) (refusal : Denial) → (if b then None else Some refusal) ≡ None → b ≡ true
 if_none true refusal none = refl
 if_none false refusal none = absurd (cc)
+
+-- ---- of what is asked about uploads
+
+-- nothing is where something is to be made, and no upload of the name of a new one is there
+pub exists_passes : (access : Access) (call : Call) → exists_rule access call ≡ None
+    → (taken call.state.tables.nodes (places_of call) (asked_by call).makes ≡ None) × (opened_by call call.request.wanted ≡ None)
+unfolding exists_rule
+exists_passes access call none =
+    both_none (taken call.state.tables.nodes (places_of call) (asked_by call).makes) (opened_by call call.request.wanted) none
+
+-- no quota is passed
+pub quota_passes : (access : Access) (call : Call) → quota_rule access call ≡ None
+    → (exceeded call.state.tables (places_of call) (asked_by call).makes ≡ None) × (assembled_excess call call.request.wanted ≡ None)
+unfolding quota_rule
+quota_passes access call none =
+    both (exceeded call.state.tables (places_of call) (asked_by call).makes) (assembled_excess call call.request.wanted) (no_excess _ none)
+  where
+    both : (a b : Option Excess) → option_or a b ≡ None → (a ≡ None) × (b ≡ None)
+    both None b none = (refl, none)
+    both (Some excess) b none = absurd (cc)
 
 -- ---- of an End
 

@@ -24,11 +24,12 @@ use Rattle.nf_base.specs.declared.rows.VersionRow.{VersionRow}
 use Rattle.nf_defs.proofs.Puts.{below_one, key_total, same_one}
 use Rattle.nf_defs.specs.Prelude.{by_order, filled, is_folder_kind, key_cmp, made, node_key, node_row, piece_count, put, Tables, version_key}
 use Rattle.nf_retention.specs.declared.versions.Version.{Version}
-use Rattle.nf_words.proofs.Bodies.{IsOfBody, body_sound, content_decides, IsNext, body_next, none_next}
-use Rattle.nf_words.proofs.Fits.{AreApart, Differs, drops, drops_count, drops_lean, drops_rows, IsOfVersion, KnownChange, KnownRows, KnownVersion, lean_more, node_apart, one_more, put_differs, put_found}
+use Rattle.nf_words.proofs.Asks.{nothing_known}
+use Rattle.nf_words.proofs.Bodies.{IsOfBody, body_sound, content_decides, IsNext, body_next, next_le, none_next, pieces_still, refills_none}
+use Rattle.nf_words.proofs.Fits.{AreApart, Differs, drops, drops_count, drops_lean, drops_rows, IsAgain, KnownChange, KnownRows, KnownVersion, lean_more, node_apart, one_more, put_differs, put_found, upload_sound, Within}
 use Rattle.nf_words.proofs.Forgetting.{AreTwo, gone_may, gone_two, heads, IsVersion, tails}
-use Rattle.nf_words.proofs.Found.{found_has, put_is_found}
-use Rattle.nf_words.specs.Changes.{Charged, charged, is_same, refills, turns_over}
+use Rattle.nf_words.proofs.Found.{found_has, found_passes, put_is_found}
+use Rattle.nf_words.specs.Changes.{Charged, charged, is_same, refilled, refills, turns_over}
 use Rattle.nf_words.specs.Prelude.{AreSound, blob_after, counted, IsLean, IsNodeSound, IsPieceSound, last_number, LeadsToRoot, raised, stored_pieces, versions_added}
 use Rattle.nf_words.specs.Others.{IsVersionSound}
 use Rattle.nf_words.specs.Versions.{becomes_version, content_size, drop_back, drop_gone, drop_version, gone_after, has_already, is_at, is_empty, is_version, put_replaced, stays_version, version_for, version_row}
@@ -79,11 +80,6 @@ added_one t node back row there becomes = ap added there ∙ ap count becomes
 
     added : Option NodeRow → ℕ
     added o = option_map_or (λ one. count (becomes_version t.versions back one)) o 0
-
--- a blob that is stored raises the next one
-next_le : (n : ℕ) (blob : Option ℕ) → n ≤ blob_after n blob
-next_le n None = omega arith
-next_le n (Some id) = omega arith
 
 module _ (t : Tables) (now : ℕ) (back : Option ℕ) (content : List Piece) (row : NodeRow) (sound : AreSound t)
     (there : node_row t.nodes row.id ≡ Some row) (file : is_folder_kind row.kind ≡ false) (present : LeadsToRoot t.nodes row.id)
@@ -257,12 +253,6 @@ module _ (t : Tables) (now : ℕ) (back : Option ℕ) (content : List Piece) (ro
       subst (λ (o : Option NodeRow). IfSome o (IsNodeSound t)) there
       (found_has (IsNodeSound t) (λ (one : NodeRow). one.id == row.id) t.nodes sound.nodes)
 
-  -- pieces are sound where more blobs were given
-  still : (u : Tables) (pieces : List Piece) → t.meta.next_blob ≤ u.meta.next_blob → All (IsPieceSound t) pieces → All (IsPieceSound u) pieces
-  still u pieces up all =
-      All-weaker (IsPieceSound t) (IsPieceSound u)
-      (λ piece s. record { some = s.some; few = s.few; first = s.first; given = omega (arith, s.given, up) }) pieces all
-
   has_some : becomes ≡ true → row.content ≢ []
   has_some is = λ none.
       both_ways (is_empty row.content) (not-true _ (and_parts (not (is_empty row.content)) _ is).0)
@@ -276,7 +266,7 @@ module _ (t : Tables) (now : ℕ) (back : Option ℕ) (content : List Piece) (ro
     version = record {
       file = ap (λ (o : Option NodeRow). option_map_or (λ one. not (is_folder_kind one.kind)) o false) found ∙ ap not kind;
       some = has_some (stays_becomes (and_parts stays _ is).0);
-      pieces = still u row.content up fine.pieces;
+      pieces = pieces_still t u row.content up fine.pieces;
       few = omega (arith, ap length same, few (stays_becomes (and_parts stays _ is).0));
       few_pieces = pieces;
     };
@@ -297,26 +287,27 @@ module _ (t : Tables) (now : ℕ) (back : Option ℕ) (content : List Piece) (ro
       (and_from (content_eq row.content content) (row.changed == now) ((content_decides row.content content).1 (ap (λ (r : NodeRow). r.content) it))
       (eq-eqb row.changed now (ap (λ (r : NodeRow). r.changed) it)))
 
-  -- its pieces are sound, be they of a body or of a version
-  sound_in : (u : Tables) (blob : Option ℕ) → IsOfBody t.meta blob content ⊎ ((blob ≡ None) × IsOfVersion t row.id content)
+  -- its pieces are sound, be they of a body, of a version or of an upload
+  sound_in : (u : Tables) (blob : Option ℕ) → IsOfBody t.meta blob content ⊎ ((blob ≡ None) × IsAgain t row.id content)
       → blob_after t.meta.next_blob blob ≤ u.meta.next_blob → All (IsPieceSound u) content
   sound_in u blob body given =
       elim body [
         | inl of ↦ body_sound t.meta u blob content sound.counters of given
-        | inr (none, (version, at, found, same)) ↦
+        | inr (none, inl (version, at, found, same)) ↦
             (let is = subst (λ (o : Option VersionRow). IfSome o (IsVersionSound t)) found
             (found_has (IsVersionSound t) (λ (one : VersionRow). one.node == row.id && one.at == at) t.versions sound.others.versions) in
             subst (λ (c : List Piece). All (IsPieceSound u) c) (sym same)
-            (still u version.content (omega (arith, given, next_le t.meta.next_blob blob)) is.pieces))
+            (pieces_still t u version.content (omega (arith, given, next_le t.meta.next_blob blob)) is.pieces))
+        | inr (none, inr of) ↦ upload_sound t u content sound.others.chunks (omega (arith, given, next_le t.meta.next_blob blob)) of
       ]
 
-  next_in : (blob : Option ℕ) → IsOfBody t.meta blob content ⊎ ((blob ≡ None) × IsOfVersion t row.id content) → IsNext t.meta.next_blob blob
+  next_in : (blob : Option ℕ) → IsOfBody t.meta blob content ⊎ ((blob ≡ None) × IsAgain t row.id content) → IsNext t.meta.next_blob blob
   next_in blob (inl of) = body_next t.meta blob content of
   next_in blob (inr (none, of)) = none_next t.meta.next_blob blob none
 
   pub refills_known : (blob : Option ℕ) → stored_pieces t + length content ≤ MAX_STORED_PIECES
       → (becomes ≡ true → length t.versions + 1 ≤ MAX_VERSIONS) → blob_after t.meta.next_blob blob ≤ max t.meta.next_blob last_number
-      → IsOfBody t.meta blob content ⊎ ((blob ≡ None) × IsOfVersion t row.id content) → (is_same now content row ≡ true → blob ≡ None)
+      → IsOfBody t.meta blob content ⊎ ((blob ≡ None) × IsAgain t row.id content) → (is_same now content row ≡ true → blob ≡ None)
       → KnownChange t now (refills t now back content row) blob
   refills_known blob few few_versions counts body stored =
       subst (λ (changes : List Change). KnownChange t now ((if is_same now content row then [] else Put (rows.Node new) ∷ []) ++ changes) blob)
@@ -370,3 +361,31 @@ module _ (t : Tables) (now : ℕ) (back : Option ℕ) (content : List Piece) (ro
             next_share = omega (arith, ap (λ (meta : MetaRow). meta.next_share) count);
             next_blob = counts;
           }
+
+-- ---- a content over that of a file, unless the file has it since that moment
+
+pub over_known : (t : Tables) (now node : ℕ) (content : List Piece) (blob : Option ℕ) (blobs : ℕ) (row : NodeRow) → AreSound t
+    → node_row t.nodes node ≡ Some row → is_folder_kind row.kind ≡ false → LeadsToRoot t.nodes node
+    → Within t 0 0 (versions_added t node None) (length content) blobs → blob_after t.meta.next_blob blob ≤ max t.meta.next_blob last_number
+    → IsOfBody t.meta blob content ⊎ ((blob ≡ None) × IsAgain t row.id content) → KnownChange t now (refilled t now content row) blob
+over_known t now node content blob blobs row sound there file present fits counts body = here (is_same now content row) refl
+  where
+    id : row.id ≡ node
+    id = eqb-true row.id node (found_passes (λ (one : NodeRow). one.id == node) t.nodes row there)
+
+    is : IsNodeSound t row
+    is = subst (λ (o : Option NodeRow). IfSome o (IsNodeSound t)) there
+        (found_has (IsNodeSound t) (λ (one : NodeRow). one.id == node) t.nodes sound.nodes)
+
+    none : is_same now content row ≡ true → blob ≡ None
+    none same =
+        elim body [
+          | inl of ↦ refills_none t row now content blob is.pieces of same
+          | inr again ↦ again.0
+        ]
+
+    here : (b : Bool) → is_same now content row ≡ b → KnownChange t now (if b then [] else refills t now None content row) blob
+    here true e = subst (λ (o : Option ℕ). KnownChange t now [] o) (sym (none e)) (nothing_known t now)
+    here false e =
+        refills_known t now None content row sound (ap (node_row t.nodes) id ∙ there) file (subst (LeadsToRoot t.nodes) (sym id) present) tt blob
+        fits.pieces (λ becomes. omega (arith, fits.versions, added_one t node None row there becomes)) counts body none

@@ -1,25 +1,23 @@
 -- What a step that no rule refuses leaves to the others who hold something.
-use Rattle.std.proofs.Common.{◌≡◌, ◌≢◌, ℕ, ◌<◌, ◌≤◌, ◌==◌, ◌&&◌, ◌||◌, not, find, filter, get_or, Bool, true, false, List, [], ◌∷◌, ◌++◌, length, suc, Option, Ok, Result, if◌then◌else◌, refl, sym, subst, arith, ◌⊎◌, inl, inr, map, flat_map}
+use Rattle.std.proofs.Common.{◌≡◌, ◌≢◌, ℕ, ◌≤◌, ◌==◌, ◌&&◌, not, find, filter, get_or, Bool, true, false, List, [], ◌∷◌, ◌++◌, length, suc, Option, Ok, Result, if◌then◌else◌, refl, sym, subst, arith, ◌⊎◌, inl, inr, map, flat_map}
 use Rattle.std.specs.Prelude.{None, Some, IsNone, nat_lt, option_and_then, option_map}
 use Rattle.std.specs.List.{All, AllPairs, list_any}
 use Rattle.std.specs.Option.{IfSome, option_map_or}
-use Rattle.std.proofs.lemmas.Bool.{both_ways, cond_both, eq-eqb, eqb-true, not-true}
+use Rattle.std.proofs.lemmas.Bool.{both_ways, cond_both, eqb-true, not-true}
 use Rattle.std.proofs.lemmas.List.Elements.{All-append, All-cons, All-filter, All-head, All-map, All-nil, All-tail, All-weaker, filter_passes}
 use Rattle.std.proofs.lemmas.Option.{none-some, same_Some}
-use Rattle.std.proofs.lemmas.Slice.Eq.{bytes_eq-Decides}
 use Rattle.nf_base.specs.declared.changes.Change.{Change}
 use Rattle.nf_base.specs.declared.changes.Change.TheVariants.{Drop, Put}
 use Rattle.nf_base.specs.declared.changes.RowKey.TheVariants as keys
 use Rattle.nf_base.specs.declared.content.Piece.{Piece}
-use Rattle.nf_base.specs.declared.rows.NodeKind.{NodeKind}
-use Rattle.nf_base.specs.declared.rows.NodeKind.TheVariants.{File, Folder}
+use Rattle.nf_base.specs.declared.rows.NodeKind.TheVariants.{Folder}
 use Rattle.nf_base.specs.declared.rows.MemberRow.{MemberRow}
 use Rattle.nf_base.specs.declared.rows.MountRow.{MountRow}
 use Rattle.nf_base.specs.declared.rows.NodeRow.{NodeRow}
-use Rattle.nf_base.specs.declared.rows.Place.TheVariants.{Inside}
 use Rattle.nf_base.specs.declared.rows.Row.TheVariants as rows
+use Rattle.nf_base.specs.declared.rows.UploadRow.{UploadRow}
 use Rattle.nf_base.specs.declared.rows.UserRow.{UserRow}
-use Rattle.nf_defs.specs.Prelude.{Access, content_of, filled, is_folder, is_under, node_row, owner_of, Tables, user_named, walk_of}
+use Rattle.nf_defs.specs.Prelude.{Access, content_of, is_folder, is_under, node_row, Tables, user_named, walk_of}
 use Rattle.nf_defs.specs.declared.Found.{Found}
 use Rattle.nf_defs.specs.declared.Found.TheVariants.{At, Free, Missing}
 use Rattle.nf_words.proofs.Begins.{delete_leaves, only_at, places_at, wanted_passes, WantedPasses}
@@ -30,13 +28,13 @@ use Rattle.nf_words.proofs.Passing.{place_passes, call_passes, no_key, not_refus
 use Rattle.nf_words.proofs.Starts.{has_asker, IsAsking}
 use Rattle.nf_words.proofs.Steps.{fails_each}
 use Rattle.nf_words.proofs.Transfers.{copies_known, replaced_leaves, row_leaves, transfer_known}
-use Rattle.nf_words.specs.Prelude.{access_of, AreApartHolds, AreKeysApart, AreSound, asked_by, asked_of, asked_of_trash, asker_of, beside, besides, blob_for, blocks, by_of, Call, call_decision, call_of, carry_limit, clashes, content_in, copied, copies, copies_to, copy_limit, crosses, crossing, decision_of, deepest_in, deleted, discard, discards, done, end_decision, ended_row, end_refusal, ends_at, ends_goal, found, given, goes_itself, gone_beside, gone_from, gone_of, HoldsFor, home_of, is_exclusive, is_member, IsNodeSound, IsSound, IsTicketSound, item_dropped, item_for, item_restored, items_of, joined_by, key_in_way, last_name, least, left_by, left_row, lesser, limited, listing_of, locked_rule, made_folder, MayAsk, MayWant, membership, mount_left, mount_renamed, mounts_for, mounts_joined, moved, move_limit, moves, name_back, named_row, new_node, new_root, new_share, new_user, node_at, node_of_key, nothing_done, offered, owners_of, own_item, own_mount, people_changed, people_done, perms_after, pieces_in, places_of, purges, put_mounts, refilled, requoted, restore_touches, root_of, row_at, row_named, same_end, same_key, served, set_row, shared, share_ended, share_made, share_set, share_shown, share_steered, share_told, source_touches, State, stored, stored_at, swept, target_touches, ticket_of, Touch, touched, touches, touch_key, touch_under, transfer_of, transfer_touches, trash_done, unfit_between, unreached, until_after, way_of, with_mount_row, without, without_ticket, asked_of_version, becomes_version, brought_back, charged, charged_for, charged_to, content_size, drop_version, forgets, gone_after, is_same, item_size, purged_by, refills, requoting, restoring, settled_by, turned_over, turns_over, unsettled, version_done, version_row}
+use Rattle.nf_words.specs.Prelude.{access_of, AreApartHolds, AreKeysApart, AreSound, asked_by, asked_of, asked_of_trash, asker_of, beside, besides, blob_for, blocks, by_of, Call, call_decision, call_of, carry_limit, clashes, content_in, copied, copies, copies_to, copy_limit, crosses, crossing, decision_of, deepest_in, deleted, discard, discards, done, end_decision, ended_row, end_refusal, ends_at, ends_goal, found, given, goes_itself, gone_beside, gone_from, gone_of, HoldsFor, home_of, is_member, IsSound, IsTicketSound, item_dropped, item_for, item_restored, items_of, joined_by, key_in_way, last_name, least, left_by, left_row, lesser, limited, listing_of, locked_rule, made_folder, MayAsk, MayWant, membership, mount_left, mount_renamed, mounts_for, mounts_joined, moved, move_limit, moves, name_back, named_row, new_root, new_share, new_user, node_at, node_of_key, nothing_done, offered, owners_of, own_item, own_mount, people_changed, people_done, perms_after, pieces_in, places_of, purges, put_mounts, requoted, restore_touches, root_of, row_at, row_named, same_end, served, set_row, shared, share_ended, share_made, share_set, share_shown, share_steered, share_told, source_touches, State, stored, stored_at, swept, target_touches, ticket_of, Touch, touched, touches, touch_key, touch_under, transfer_of, transfer_touches, trash_done, unfit_between, unreached, until_after, way_of, with_mount_row, without, without_ticket, asked_of_version, brought_back, charged, charged_for, charged_to, item_size, refills, requoting, restoring, settled_by, version_done, version_row, abandons, assembled_at, asked_of_upload, chunk_number, chunk_refusal, chunk_sent, chunk_stored, is_idle, upload_done, upload_row, whole_of}
 use Rattle.nf_words.specs.declared.answer.Allowed.{Allowed}
 use Rattle.nf_words.specs.declared.answer.Allowed.TheVariants as allowed
 use Rattle.nf_words.specs.declared.answer.By.{By}
 use Rattle.nf_words.specs.declared.answer.Denial.{Denial}
 use Rattle.nf_words.specs.declared.answer.Goal.{Goal}
-use Rattle.nf_words.specs.declared.answer.Goal.TheVariants.{Serve, Store}
+use Rattle.nf_words.specs.declared.answer.Goal.TheVariants.{Chunk, Serve, Store}
 use Rattle.nf_words.specs.declared.answer.Hold.{Hold}
 use Rattle.nf_words.specs.declared.answer.LockKey.{LockKey}
 use Rattle.nf_words.specs.declared.answer.LockKey.TheVariants.{Node, Slot}
@@ -64,160 +62,20 @@ use Rattle.nf_words.specs.declared.request.Transfer.{Transfer}
 use Rattle.nf_words.specs.declared.request.Wanted.{Wanted}
 use Rattle.nf_words.specs.declared.request.Wanted.TheVariants.{Copy, Delete, Get, Mkcol, Move}
 use Rattle.nf_words.specs.declared.request.Wanted.TheVariants as wanted
+pub use Rattle.nf_words.proofs.Sparing.{same_self, Spares, SparesChange, SparesDeed, SparesRow, SparesTarget, SparesUnder}
+use Rattle.nf_words.proofs.Sparing.{chunk_spared, file_spared, new_spared, no_other, other_key, over_spared, refills_spared, settled_spared, alone, apart}
 use Rattle.nf_words.proofs.Sweeping.{swept_goes}
 use Rattle.nf_words.proofs.Trashing.{beside_goes, emptied_items, own_is, own_there, rest_goes, user_goes}
 use Rattle.nf_base.specs.declared.rows.ItemRow.{ItemRow}
 use Rattle.nf_words.specs.declared.answer.Deed.{Deed}
 use Rattle.nf_words.specs.declared.answer.Deed.TheVariants as deed
 use Rattle.nf_words.specs.declared.request.TrashAsk.{TrashAsk}
+use Rattle.nf_words.specs.declared.request.UploadAsk.{UploadAsk}
+use Rattle.nf_words.specs.declared.request.UploadAsk.TheVariants as upload
 use Rattle.nf_words.specs.declared.request.VersionAsk.{VersionAsk}
 use Rattle.nf_words.specs.declared.request.VersionAsk.TheVariants as version
 use Rattle.nf_base.specs.declared.rows.VersionRow.{VersionRow}
-use Rattle.nf_retention.specs.declared.versions.Version.{Version}
-use Rattle.nf_words.specs.Changes.{Charged}
-use Rattle.nf_words.specs.Versions.{drop_back, drop_gone, has_already, is_version, put_replaced, stays_version, version_for}
 use Rattle.nf_words.specs.declared.request.TrashAsk.TheVariants as trash
-
--- ---- what a step leaves alone
-
--- a file that is there and put again isn't held, and no new row is under a name that is
-pub record SparesRow (t : Tables) (key : LockKey) (row : NodeRow) : Type 0 where
-  pub node : row.id < t.meta.next_node → key ≢ Node row.id
-  pub slot : t.meta.next_node ≤ row.id → (folder : ℕ) → row.place ≡ Inside folder → key ≢ Slot folder row.name
-
-abbrev pub SparesChange : Tables → LockKey → Change → Type 0
-SparesChange t key (Put (rows.Node row)) = SparesRow t key row
-SparesChange t key other = Unit {0}
-
--- what is held isn't under a node
-abbrev pub SparesUnder : Tables → LockKey → ℕ → Type 0
-SparesUnder t key top = is_under t.nodes (node_of_key key) top ≡ false
-
--- nothing is put under a name that is held, nor what is held replaced
-pub record SparesTarget (t : Tables) (key : LockKey) (transfer : Transfer) (name : List ℕ) : Type 0 where
-  pub slot : key ≢ Slot transfer.folder name
-  pub replaced : IfSome transfer.replaced (SparesUnder t key)
-
--- a deed leaves alone what is held: that isn't under what leaves its place, unless that is an item, since what is held isn't in the
--- trash; and nothing is put under a name that is held
-abbrev pub SparesDeed : Tables → ℕ → LockKey → Deed → Type 0
-SparesDeed t now key (deed.Discard item) = SparesUnder t key item.node
-SparesDeed t now key (deed.Purge node) = IsItem t node ⊎ SparesUnder t key node
-SparesDeed t now key (deed.Restore node folder name) = key ≢ Slot folder name
-SparesDeed t now key (deed.Relink node folder name) = SparesUnder t key node × key ≢ Slot folder name
-SparesDeed t now key (deed.Join rows) =
-    (transfer : Transfer) × (name : List ℕ) × (rows ≡ copies_to t now transfer name) × key ≢ Slot transfer.folder name
-SparesDeed t now key (deed.Requote row) = Unit {0}
-SparesDeed t now key (deed.Forget node at) = Unit {0}
-
--- an act leaves alone what is held, and what it grants is another key, or both read
-abbrev pub Spares : Tables → ℕ → Hold → Allowed → Type 0
-Spares t now hold (allowed.Get node content) = AreKeysApart (Node node) Shared hold.key hold.mode
-Spares t now hold (allowed.List listing) = Unit {0}
-Spares t now hold (allowed.Put by key length) = AreKeysApart key Exclusive hold.key hold.mode
-Spares t now hold (allowed.Change changes blob report) = All (SparesChange t hold.key) changes
-Spares t now hold (allowed.Deeds deeds report) = All (SparesDeed t now hold.key) deeds
-Spares t now hold allowed.Close = Unit {0}
-
--- ---- keys
-
-pub same_self : (key : LockKey) → same_key key key ≡ true
-same_self (Node node) = eq-eqb node node refl
-same_self (Slot folder name) = simp (eq-eqb folder folder refl) ((bytes_eq-Decides name name).1 refl)
-
-both_read : (a b : Mode) → is_exclusive a b ≡ false → (a ≡ Shared) × (b ≡ Shared)
-both_read Shared Shared h = (refl, refl)
-both_read Shared Exclusive h = absurd (cc)
-both_read Exclusive Shared h = absurd (cc)
-both_read Exclusive Exclusive h = absurd (cc)
-
-alone : (b : Bool) (mode : Mode) → (b && is_exclusive Exclusive mode) ≡ false → b ≡ false
-alone false mode h = refl
-alone true Shared h = absurd (cc)
-alone true Exclusive h = absurd (cc)
-
--- a key that doesn't clash is another, or both read
-apart : (key : LockKey) (mode : Mode) (hold : Hold) → (same_key key hold.key && is_exclusive mode hold.mode) ≡ false
-    → AreKeysApart key mode hold.key hold.mode
-apart key mode hold clear same =
-    both_read mode hold.mode (simp (subst (λ (k : LockKey). same_key key k ≡ true) same (same_self key)) at clear)
-
--- one that is to be alone is another
-other_key : (key : LockKey) (hold : Hold) → AreKeysApart key Exclusive hold.key hold.mode → hold.key ≢ key
-other_key key hold apart = λ same. let both = apart (sym same) in absurd (cc)
-
-no_other : (f : Touch → Bool) (touch : Touch) (others : List Touch) → list_any f (touch ∷ others) ≡ false → (f touch ≡ false) × (list_any f others ≡ false)
-no_other f touch others = here (f touch) (list_any f others)
-  where
-    here : (a b : Bool) → (a || b) ≡ false → (a ≡ false) × (b ≡ false)
-    here false false h = (refl, refl)
-    here false true h = absurd (cc)
-    here true b h = absurd (cc)
-
--- ---- rows
-
--- a new row is under no name that is held
-new_spared : (t : Tables) (now folder : ℕ) (name : List ℕ) (kind : NodeKind) (content : List Piece) (hold : Hold) (more : List Change)
-    → hold.key ≢ Slot folder name → All (SparesChange t hold.key) more
-    → All (SparesChange t hold.key) (Put (rows.Node (new_node t now folder name kind content)) ∷ more)
-new_spared t now folder name kind content hold more other rest =
-    All-cons (SparesChange t hold.key) (Put (rows.Node (new_node t now folder name kind content))) more
-    (record {
-      node = λ given. absurd (omega (arith, given));
-      slot = λ fresh at place. subst (λ (n : ℕ). hold.key ≢ Slot n name) (inside folder at place) other;
-    }) rest
-  where
-    inside : (a b : ℕ) → Inside a ≡ Inside b → a ≡ b
-    inside a b same = cc
-
--- ---- versions, which nobody holds
-
--- those that go behind other deeds
-settled_spared : (t : Tables) (now : ℕ) (key : LockKey) (to : Charged) (deeds : List Deed) → All (SparesDeed t now key) deeds
-    → All (SparesDeed t now key) (settled_by t to deeds)
-settled_spared t now key to deeds all =
-    let gone = unsettled t to (flat_map purged_by deeds) in
-    All-append (SparesDeed t now key) deeds (forgets gone) all
-    (All-map (SparesDeed t now key) (λ (version : Version). deed.Forget version.node version.at) gone (λ k d within. tt))
-
-drops_spared : (t : Tables) (key : LockKey) (gone : List Version) → All (SparesChange t key) (map drop_version gone)
-drops_spared t key gone = All-map (SparesChange t key) drop_version gone (λ k d within. tt)
-
--- what becomes of them where a content becomes another
-turned_spared : (t : Tables) (key : LockKey) (back : Option ℕ) (row : NodeRow) (gone : List Version) → All (SparesChange t key) (turned_over t back row gone)
-turned_spared t key back row gone =
-    let stays = stays_version t back row gone in
-    All-append (SparesChange t key) (put_replaced t row stays) (drop_back back row stays ++ drop_gone (becomes_version t.versions back row) row gone)
-    (cond_both (stays && not (has_already t.versions row)) (Put (rows.Version (version_for row)) ∷ []) [] (All (SparesChange t key))
-    (λ e. All-cons (SparesChange t key) (Put (rows.Version (version_for row))) [] tt (All-nil (SparesChange t key))) (λ e. All-nil (SparesChange t key)))
-    (All-append (SparesChange t key) (drop_back back row stays) (drop_gone (becomes_version t.versions back row) row gone) (here back stays)
-    (drops_spared t key (filter (λ version. not (becomes_version t.versions back row && is_version row.id row.changed version)) gone)))
-  where
-    here : (o : Option ℕ) (b : Bool) → All (SparesChange t key) (drop_back o row b)
-    here None b = All-nil (SparesChange t key)
-    here (Some at) b =
-        cond_both (b && at == row.changed) [] (Drop (keys.Version row.id at) ∷ []) (All (SparesChange t key)) (λ e. All-nil (SparesChange t key))
-        (λ e. All-cons (SparesChange t key) (Drop (keys.Version row.id at)) [] tt (All-nil (SparesChange t key)))
-
--- a file that is there and isn't held
-refills_spared : (t : Tables) (now node : ℕ) (back : Option ℕ) (content : List Piece) (row : NodeRow) (key : LockKey) → AreSound t → key ≢ Node node
-    → node_row t.nodes node ≡ Some row → All (SparesChange t key) (refills t now back content row)
-refills_spared t now node back content row key sound other there =
-    let to = charged t row.owner (content_size row.content) (content_size content) in
-    All-append (SparesChange t key) (if is_same now content row then [] else Put (rows.Node (filled content now row)) ∷ []) (turns_over t now back content row)
-    (cond_both (is_same now content row) [] (Put (rows.Node (filled content now row)) ∷ []) (All (SparesChange t key)) (λ e. All-nil (SparesChange t key))
-    (λ e. All-cons (SparesChange t key) (Put (rows.Node (filled content now row))) [] one (All-nil (SparesChange t key))))
-    (turned_spared t key back row (gone_after t now back row to.quota to.charge))
-  where
-    one : SparesRow t key (filled content now row)
-    one =
-        let id : row.id ≡ node = eqb-true row.id node (found_passes (λ (row : NodeRow). row.id == node) t.nodes row there) in
-        let is = subst (λ (o : Option NodeRow). IfSome o (IsNodeSound t)) there
-        (found_has (IsNodeSound t) (λ (row : NodeRow). row.id == node) t.nodes sound.nodes) in
-        record {
-          node = λ given. subst (λ (n : ℕ). key ≢ Node n) (sym id) other;
-          slot = λ fresh folder place. absurd (omega (arith, fresh, is.given));
-        }
 
 -- ---- what a Begin leaves alone
 
@@ -597,6 +455,32 @@ module _ (call : Call) (hold : Hold) (sound : AreSound call.state.tables) (is : 
       here None = All-nil (SparesChange t hold.key)
       here (Some one) = of_row one (node_row t.nodes node) refl
 
+  -- an upload changes no node but where it is joined, at a place that isn't held
+  joined_spares : (name : List ℕ) (content : List Piece) (place : Found) → IsClear t hold (target_touches name place)
+      → All (SparesChange t hold.key) (assembled_at t call.now name content place)
+  joined_spares name content (At node) clear =
+      over_spared t call.now node content hold.key sound (other_key (Node node) hold (key_apart t hold (Node node) Exclusive [] clear))
+  joined_spares name content (Free folder) clear =
+      file_spared t call.now folder name content hold (other_key (Slot folder name) hold (key_apart t hold (Slot folder name) Exclusive [] clear))
+  joined_spares name content (Missing depth) clear = All-nil (SparesChange t hold.key)
+
+  uploads_spare : (asked : UploadAsk) → IsClear t hold (touches t (asked_of_upload asked) (places_at call (wanted.Upload asked)))
+      → IsSpared (upload_done call (places_at call (wanted.Upload asked)) asked)
+  uploads_spare (upload.New user dir to) clear = All-cons (SparesChange t hold.key) _ [] tt (All-nil (SparesChange t hold.key))
+  uploads_spare (upload.Chunk user dir name to length) clear = here (chunk_number name)
+    where
+      here : (o : Option ℕ) → IsSpared (option_map_or (chunk_sent (asker_of call) dir length) o nothing_done)
+      here None = All-nil (SparesChange t hold.key)
+      here (Some number) = tt
+  uploads_spare (upload.Drop user dir) clear =
+      All-cons (SparesDeed t call.now hold.key) (deed.Abandon (asker_of call) dir) [] tt (All-nil (SparesDeed t call.now hold.key))
+  uploads_spare (upload.Join dir spot total) clear =
+      let content = whole_of t.chunks (asker_of call) dir in
+      let leaves : Deed = deed.Abandon (asker_of call) dir in
+      All-cons (SparesDeed t call.now hold.key) (deed.Store (assembled_at t call.now (last_name spot) content (found call spot))) (leaves ∷ [])
+      (joined_spares (last_name spot) content (found call spot) clear)
+      (All-cons (SparesDeed t call.now hold.key) leaves [] tt (All-nil (SparesDeed t call.now hold.key)))
+
   wanted_spares : (wanted : Wanted) → WantedPasses call wanted → IsClear t hold (touches t (asked_of wanted) (places_at call wanted))
       → IsSpared (given (access_of call.state) call (places_at call wanted) wanted)
   wanted_spares (Get spot) p clear = served_spares (access_of call.state) call hold (way_of call spot).mount (node_at (Some (found call spot))) clear
@@ -613,6 +497,7 @@ module _ (call : Call) (hold : Hold) (sound : AreSound call.state.tables) (is : 
   wanted_spares (wanted.People asked) p clear = persons_spare asked
   wanted_spares (wanted.Trash asked) p clear = trash_spares asked clear
   wanted_spares (wanted.Version asked) p clear = versions_spare asked clear
+  wanted_spares (wanted.Upload asked) p clear = uploads_spare asked clear
 
 -- ---- nobody is in the way
 
@@ -703,24 +588,12 @@ begin_spares call act sound may none is k d within =
 
 -- ---- what an End leaves alone
 
-put_again : (t : Tables) (now node : ℕ) (content : List Piece) (blob : Option ℕ) (hold : Hold) → AreSound t → hold.key ≢ Node node
-    → Spares t now hold (allowed.Change (option_map_or (refilled t now content) (node_row t.nodes node) []) blob report.Done)
-put_again t now node content blob hold sound other = here (node_row t.nodes node) refl
-  where
-    here : (o : Option NodeRow) → node_row t.nodes node ≡ o → All (SparesChange t hold.key) (option_map_or (refilled t now content) o [])
-    here None there = All-nil (SparesChange t hold.key)
-    here (Some row) there =
-        cond_both (is_same now content row) [] (refills t now None content row) (All (SparesChange t hold.key)) (λ e. All-nil (SparesChange t hold.key))
-        (λ e. refills_spared t now node None content row hold.key sound other there)
-
 key_spares : (t : Tables) (now : ℕ) (hold : Hold) (key : LockKey) (digest : List ℕ) (size : ℕ) → AreSound t → hold.key ≢ key
     → Spares t now hold (stored_at t now key digest size)
 key_spares t now hold (Node node) digest size sound other =
-    put_again t now node (content_in (blob_for t.meta.next_blob size) digest size) (blob_for t.meta.next_blob size) hold sound other
+    over_spared t now node (content_in (blob_for t.meta.next_blob size) digest size) hold.key sound other
 key_spares t now hold (Slot folder name) digest size sound other =
-    let content = content_in (blob_for t.meta.next_blob size) digest size in
-    let gone = unsettled t (charged t (owner_of t.nodes folder) 0 (content_size content)) [] in
-    new_spared t now folder name File content hold (map drop_version gone) other (drops_spared t hold.key gone)
+    file_spared t now folder name (content_in (blob_for t.meta.next_blob size) digest size) hold other
 
 closed_spares : (t : Tables) (now : ℕ) (act : Allowed) → ◌≡◌ {A = Result Allowed Denial} (Ok allowed.Close) (Ok act)
     → (hold : Hold) → Spares t now hold act
@@ -734,6 +607,11 @@ goal_spares access t now (Store by key wanted) own (Body digest size) act hold s
     subst (λ (a : Allowed). Spares t now hold a) h.1
     (key_spares t now hold key digest size sound
     (other_key key hold (subst (λ (o : Option Hold). AreApartHolds o (Some hold)) holds other)))
+goal_spares access t now (Chunk user dir number wanted) own (Body digest size) act hold sound holds other is =
+    let h = not_refused (chunk_refusal t user dir number size) (chunk_stored t now user dir number digest size) act is in
+    let content = content_in (blob_for t.meta.next_blob size) digest size in
+    subst (λ (a : Allowed). Spares t now hold a) h.1
+    (chunk_spared t now hold.key (record { user = user; dir = dir; number = number; content = content }) (upload_row t.uploads user dir))
 goal_spares access t now (Serve content) own (Body digest size) act hold sound holds other is = closed_spares t now act is hold
 goal_spares access t now goal own Sent act hold sound holds other is = closed_spares t now act is hold
 goal_spares access t now goal own Gone act hold sound holds other is = closed_spares t now act is hold
@@ -821,4 +699,8 @@ step_spares s seat now Sweep act sound asked is =
     some_spared : (hold : Option Hold) → IfSome hold (λ hold. Spares s.tables now hold (swept s.tables now))
     some_spared None = tt
     some_spared (Some hold) =
-        gone_spared s.tables now hold (flat_map (gone_from s.tables now) (owners_of s.tables.items)) (swept_goes s.tables sound.rows now).items
+        let gone = flat_map (gone_from s.tables now) (owners_of s.tables.items) in
+        let idle = filter (is_idle now) s.tables.uploads in
+        All-append (SparesDeed s.tables now hold.key) (purges gone) (abandons idle)
+        (gone_spared s.tables now hold gone (swept_goes s.tables sound.rows now).items)
+        (All-map (SparesDeed s.tables now hold.key) (λ (row : UploadRow). deed.Abandon row.user row.dir) idle (λ k d within. tt))

@@ -8,12 +8,12 @@ use Rattle.std.proofs.lemmas.List.Kept.{AllPairs-filter}
 use Rattle.std.proofs.lemmas.List.Quantifiers.{all_pairs_push}
 use Rattle.std.proofs.lemmas.Grind.{common_steps}
 use Rattle.nf_defs.specs.Prelude.{Access, Tables}
-use Rattle.nf_words.specs.Prelude.{access_of, after, after_mark, answer_to, answered_by, decided, decision_of, end_decision, end_refusal, ends_at, ends_goal, failed, goal_at, goal_of, hold_of, IsLegalFrom, MayAsk, replay, reply_to, reported, State, step, stored_at, ticket_for, ticket_of, unless_refused, with_goal, without, without_ticket}
+use Rattle.nf_words.specs.Prelude.{access_of, after, after_mark, answer_to, answered_by, chunk_refusal, chunk_stored, decided, decision_of, end_decision, end_refusal, ends_at, ends_goal, failed, goal_at, goal_of, hold_of, IsLegalFrom, MayAsk, replay, reply_to, reported, State, step, stored_at, ticket_for, ticket_of, unless_refused, with_goal, without, without_ticket}
 use Rattle.nf_words.specs.declared.answer.Allowed.{Allowed}
 use Rattle.nf_words.specs.declared.answer.Allowed.TheVariants as allowed
 use Rattle.nf_words.specs.declared.answer.Denial.{Denial}
 use Rattle.nf_words.specs.declared.answer.Goal.{Goal}
-use Rattle.nf_words.specs.declared.answer.Goal.TheVariants.{Store}
+use Rattle.nf_words.specs.declared.answer.Goal.TheVariants.{Chunk, Store}
 use Rattle.nf_words.specs.declared.answer.Hold.{Hold}
 use Rattle.nf_words.specs.declared.answer.LockKey.{LockKey}
 use Rattle.nf_words.specs.declared.answer.LockKey.TheVariants.{Node, Slot}
@@ -106,6 +106,11 @@ stores_nothing None t now (Slot folder name) digest length = refl
 
 goal_nothing : (access : Access) (t : Tables) (now : ℕ) (outcome : Outcome) (goal : Goal) → GrantsNothing (ends_goal access t now outcome goal)
 goal_nothing access t now (Body digest length) (Store by key wanted) = stores_nothing (end_refusal access t now by key length) t now key digest length
+goal_nothing access t now (Body digest length) (Chunk user dir number wanted) = here (chunk_refusal t user dir number length)
+  where
+    here : (refusal : Option Denial) → GrantsNothing (unless_refused refusal (chunk_stored t now user dir number digest length))
+    here None = refl
+    here (Some refusal) = tt
 goal_nothing access t now outcome goal = refl
 
 at_nothing : (access : Access) (t : Tables) (now : ℕ) (outcome : Outcome) (goal : Option Goal) → GrantsNothing (ends_at access t now outcome goal)

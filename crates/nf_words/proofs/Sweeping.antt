@@ -1,19 +1,23 @@
--- What a sweep takes: items alone, each once.
-use Rattle.std.proofs.Common.{◌≡◌, ◌≢◌, ◌⊎◌, inl, inr, ℕ, ◌==◌, List, [], ◌∷◌, ◌++◌, filter, get_or, not, true, Option, refl, sym, ap, ◌∙◌, arith, Bool, subst, IfSome}
+-- What a sweep takes: items and uploads, each once.
+use Rattle.std.proofs.Common.{◌≡◌, ◌≢◌, ◌⊎◌, inl, inr, bytes_eq, length, ◌&&◌, ℕ, ◌==◌, List, [], ◌∷◌, ◌++◌, filter, get_or, not, true, Option, refl, sym, ap, ◌∙◌, arith, Bool, subst, IfSome}
 use Rattle.std.specs.Prelude.{None, Some, is_some}
-use Rattle.std.specs.List.{All, flat_map}
-use Rattle.std.proofs.lemmas.Bool.{both_ways, eq-eqb, eqb-true, not-true}
+use Rattle.std.specs.List.{All, AllPairs, flat_map}
+use Rattle.std.proofs.lemmas.Bool.{and_from, and_parts, both_ways, cond_both, eq-eqb, eqb-true, not-true}
+use Rattle.std.proofs.lemmas.Cmp.{tied_itself}
 use Rattle.std.proofs.lemmas.List.Elements.{All-append, All-cons, All-filter, All-head, All-nil, All-tail, All-weaker, filter_passes}
 use Rattle.std.proofs.lemmas.List.Kept.{AllPairs-cons, AllPairs-filter}
 use Rattle.std.proofs.lemmas.Option.{same_Some}
+use Rattle.std.proofs.lemmas.Slice.Eq.{bytes_eq-Decides}
 use Rattle.nf_base.specs.declared.rows.ItemRow.{ItemRow}
 use Rattle.nf_base.specs.declared.rows.NodeRow.{NodeRow}
-use Rattle.nf_defs.specs.Prelude.{item_row, node_row, Tables}
+use Rattle.nf_base.specs.declared.rows.UploadRow.{UploadRow}
+use Rattle.nf_defs.proofs.Puts.{key_total, tail_rising}
+use Rattle.nf_defs.specs.Prelude.{IsRising, item_row, key_cmp, node_row, Tables, upload_key}
 use Rattle.nf_words.proofs.Forgetting.{heads, tails}
 use Rattle.nf_words.proofs.Found.{found_has}
-use Rattle.nf_words.proofs.Known.{IsItem, KnownGoes}
+use Rattle.nf_words.proofs.Known.{IsItem, KnownGoes, KnownIdle}
 use Rattle.nf_words.proofs.Trashing.{Distinct, gone_has, item_is, of_user, user_goes, user_once}
-use Rattle.nf_words.specs.Prelude.{AreSound, gone_from, gone_with, item_for, IsItemSound, items_of, owners_of, quota_of}
+use Rattle.nf_words.specs.Prelude.{AreSound, gone_from, gone_with, item_for, is_idle, IsItemSound, items_of, owners_of, quota_of, upload_row}
 
 some_there : {X : Type 0} (o : Option X) → is_some o ≡ true → (x : X) × (o ≡ Some x)
 some_there None is = absurd (cc)
@@ -41,6 +45,36 @@ owners_once (item ∷ items) =
   where
     off : ℕ → Bool
     off user = not (user == item.owner)
+
+-- ---- uploads
+
+abbrev AreOtherUploads : UploadRow → UploadRow → Type 0
+AreOtherUploads a b = upload_key a ≢ upload_key b
+
+uploads_once : (uploads : List UploadRow) → IsRising upload_key uploads → AllPairs AreOtherUploads uploads
+uploads_once uploads rising i j d before within = λ same.
+    let a = get_or uploads i d in
+    let b = get_or uploads j d in
+    let equal = tied_itself key_total (upload_key b) in
+    let less = ap (λ (key : List ℕ). key_cmp key (upload_key b)) (sym same) ∙ rising i j d before within in absurd (cc)
+
+-- the row of an upload among those by rising key is what a look-up finds
+pub uploads_there : (uploads : List UploadRow) → IsRising upload_key uploads
+    → All (λ (row : UploadRow). upload_row uploads row.user row.dir ≡ Some row) uploads
+uploads_there [] rising = All-nil (λ (row : UploadRow). upload_row [] row.user row.dir ≡ Some row)
+uploads_there (first ∷ uploads) rising =
+    All-cons (λ (row : UploadRow). upload_row (first ∷ uploads) row.user row.dir ≡ Some row) first uploads
+    (rw (and_from (first.user == first.user) (bytes_eq first.dir first.dir) (eq-eqb first.user first.user refl) ((bytes_eq-Decides first.dir first.dir).1 refl)) refl)
+    (λ k d within.
+    let row = get_or uploads k d in
+    cond_both (first.user == row.user && bytes_eq first.dir row.dir) (Some first) (upload_row uploads row.user row.dir)
+    (λ (o : Option UploadRow). o ≡ Some row)
+    (λ e.
+    let both = and_parts (first.user == row.user) (bytes_eq first.dir row.dir) e in
+    absurd (heads AreOtherUploads first uploads (uploads_once (first ∷ uploads) rising) k d within
+    (ap (λ (n : ℕ). n ∷ length first.dir ∷ first.dir) (eqb-true first.user row.user both.0)
+    ∙ ap (λ (dir : List ℕ). row.user ∷ length dir ∷ dir) ((bytes_eq-Decides first.dir row.dir).0 both.1))))
+    (λ e. uploads_there uploads (tail_rising upload_key first uploads rising) k d within))
 
 module _ (t : Tables) (sound : AreSound t) where
   -- the node is that of an item of the user's
@@ -91,6 +125,14 @@ module _ (t : Tables) (sound : AreSound t) where
 
   pub swept_goes : (now : ℕ) → KnownGoes t (flat_map (gone_from t now) (owners_of t.items))
   swept_goes now = record { items = all_items now (owners_of t.items); once = all_once now (owners_of t.items) (owners_once t.items) }
+
+  -- each upload is found, and no two are of one user and one name
+  pub swept_idle : (now : ℕ) → KnownIdle t (filter (is_idle now) t.uploads)
+  swept_idle now = record {
+    there = All-filter (is_idle now) (λ (row : UploadRow). upload_row t.uploads row.user row.dir ≡ Some row) t.uploads
+        (uploads_there t.uploads sound.others.uploads_rise);
+    once = AllPairs-filter AreOtherUploads (is_idle now) t.uploads (uploads_once t.uploads sound.others.uploads_rise);
+  }
 
   -- of what goes with a node that leaves its place, all but the node are of its owner's items
   pub rest_owned : (now : ℕ) (row : NodeRow) → All (IsOf row.owner) (filter (λ node. not (node == row.id)) (gone_with t now row))

@@ -1,5 +1,5 @@
 -- What is known of what is asked about versions.
-use Rattle.std.proofs.Common.{◌≡◌, ℕ, zero, suc, ◌==◌, ◌||◌, ◌&&◌, ⊎_elim, inr, Bool, true, false, List, [], ◌∙◌, length, Option, if◌then◌else◌, refl, sym, ap, subst, arith}
+use Rattle.std.proofs.Common.{◌≡◌, ℕ, zero, suc, ◌==◌, ◌||◌, ◌&&◌, ⊎_elim, inl, inr, Bool, true, false, List, [], ◌∙◌, length, Option, if◌then◌else◌, refl, sym, ap, subst, arith}
 use Rattle.std.specs.Prelude.{None, Some, is_some}
 use Rattle.std.specs.Option.{option_and_then, option_map_or}
 use Rattle.std.proofs.lemmas.Bool.{and_parts, eqb-true, or_cases}
@@ -98,7 +98,7 @@ module _ (call : Call) (sound : AreSound call.state.tables) where
           refills_known t call.now (Some one.at) one.content row sound (ap (node_row t.nodes) id ∙ there) (file_kind node row there folds)
           (subst (LeadsToRoot t.nodes) (sym id) leads) (ap is_some its) None fits.pieces
           (λ becomes. omega (arith, fits.versions, added_one t node (Some one.at) row there becomes))
-          (omega arith) (inr (refl, (one, one.at, its, refl))) (λ is. refl)
+          (omega arith) (inr (refl, inl (one, one.at, its, refl))) (λ is. refl)
 
   pub versions_known : (places : Places) (ask : VersionAsk) → unversioned call ask ≡ None → version_lost call (wanted.Version ask) ≡ None
       → limited t places (asked_of_version ask).makes ≡ None

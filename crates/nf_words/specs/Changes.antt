@@ -1,5 +1,5 @@
 -- What each act changes and is answered, where no rule refuses it.
-use Rattle.std.specs.Prelude.{ℕ, ◌+◌, ◌-◌, ◌==◌, ◌&&◌, not, Bool, true, false, List, [], ◌∷◌, ◌++◌, filter, length, map, max, Option, None, Some, is_none, option_map, option_and_then, if◌then◌else◌}
+use Rattle.std.specs.Prelude.{ℕ, ◌+◌, ◌-◌, ◌==◌, ◌&&◌, not, Bool, true, false, List, [], ◌∷◌, ◌++◌, filter, length, map, nat_le, Option, None, Some, is_none, option_map, option_and_then, if◌then◌else◌}
 use Rattle.std.specs.Option.{option_map_or}
 use Rattle.nf_access.specs.Mounts.{mount_row}
 use Rattle.nf_base.specs.Content.{content_eq}
@@ -9,7 +9,7 @@ use Rattle.nf_base.specs.declared.content.Piece.{Piece}
 use Rattle.nf_base.specs.declared.rows.MetaRow.{MetaRow}
 use Rattle.nf_base.specs.declared.rows.MountRow.{MountRow}
 use Rattle.nf_base.specs.declared.rows.NodeKind.{NodeKind}
-use Rattle.nf_base.specs.declared.rows.NodeKind.TheVariants.{Folder}
+use Rattle.nf_base.specs.declared.rows.NodeKind.TheVariants.{File, Folder}
 use Rattle.nf_base.specs.declared.rows.NodeRow.{NodeRow}
 use Rattle.nf_base.specs.declared.rows.Place.TheVariants.{Inside}
 use Rattle.nf_base.specs.declared.rows.Row.TheVariants as rows
@@ -22,7 +22,7 @@ use Rattle.nf_words.specs.Calls.{asker_of, Call, last_name, places_of, seeker_of
 use Rattle.nf_words.specs.Copies.{copies_to}
 use Rattle.nf_words.specs.Listing.{listing_of, size_of}
 use Rattle.nf_words.specs.People.{people_changed, put_mounts, row_named}
-use Rattle.nf_words.specs.Places.{crosses, node_at, transfer_of}
+use Rattle.nf_words.specs.Places.{crosses, node_at, node_found, transfer_of}
 use Rattle.nf_words.specs.Sharing.{mounts_for, new_share, offered, perms_after, share_line, share_lines, share_shown, share_steered, until_after}
 use Rattle.nf_words.specs.declared.request.Offer.{Offer}
 use Rattle.nf_words.specs.declared.request.Places.{Places}
@@ -36,7 +36,7 @@ use Rattle.nf_words.specs.declared.answer.Allowed.{Allowed}
 use Rattle.nf_words.specs.declared.answer.Allowed.TheVariants as allowed
 use Rattle.nf_words.specs.declared.answer.By.{By}
 use Rattle.nf_words.specs.declared.answer.Goal.{Goal}
-use Rattle.nf_words.specs.declared.answer.Goal.TheVariants.{Serve, Store}
+use Rattle.nf_words.specs.declared.answer.Goal.TheVariants.{Chunk, Serve, Store}
 use Rattle.nf_words.specs.declared.answer.Hold.{Hold}
 use Rattle.nf_words.specs.declared.answer.LockKey.TheVariants.{Node, Slot}
 use Rattle.nf_words.specs.declared.answer.Mode.TheVariants.{Exclusive, Shared}
@@ -47,10 +47,11 @@ use Rattle.nf_words.specs.declared.answer.Report.{Report}
 use Rattle.nf_words.specs.declared.answer.Report.TheVariants as report
 use Rattle.nf_words.specs.declared.history.Ticket.{Ticket}
 use Rattle.nf_words.specs.Charges.{charge_of, quota_of}
+use Rattle.nf_words.specs.Counters.{blob_after, counted}
 use Rattle.nf_words.specs.Deeds.{deeds_done, ended_row, told_deeds}
 use Rattle.nf_words.specs.declared.answer.Deed.{Deed}
 use Rattle.nf_words.specs.Trash.{gone_of, item_for, item_lines, item_size, items_but, items_of, own_item, owners_of}
-use Rattle.nf_words.specs.Versions.{beyond_bound, content_size, gone_after, held_without, turned_over, version_lines, version_row}
+use Rattle.nf_words.specs.Versions.{beyond_bound, content_size, drop_version, gone_after, held_without, turned_over, version_lines, version_row}
 use Rattle.nf_retention.specs.declared.versions.Version.{Version}
 use Rattle.nf_base.specs.declared.rows.VersionRow.{VersionRow}
 use Rattle.nf_words.specs.declared.request.VersionAsk.{VersionAsk}
@@ -60,6 +61,11 @@ use Rattle.nf_base.specs.declared.rows.ItemRow.{ItemRow}
 use Rattle.nf_base.specs.declared.rows.UserRow.{UserRow}
 use Rattle.nf_words.specs.declared.request.PeopleAsk.{PeopleAsk}
 use Rattle.nf_words.specs.declared.request.PeopleAsk.TheVariants as people
+use Rattle.nf_base.specs.declared.rows.UploadRow.{UploadRow}
+use Rattle.nf_words.specs.declared.limits.TheConstants.{MAX_IDLE}
+use Rattle.nf_words.specs.declared.request.UploadAsk.{UploadAsk}
+use Rattle.nf_words.specs.declared.request.UploadAsk.TheVariants as upload
+use Rattle.nf_words.specs.Uploads.{chunk_number, whole_of}
 use Rattle.nf_words.specs.declared.request.TrashAsk.{TrashAsk}
 use Rattle.nf_words.specs.declared.request.TrashAsk.TheVariants as trash
 use Rattle.nf_words.specs.declared.answer.Deed.TheVariants as deed
@@ -344,13 +350,57 @@ version_done t now (version.Get user node at) =
 version_done t now (version.Restore user node at) =
     option_map_or (brought_back t now node) (version_row t.versions node at) nothing_done
 
+-- ---- uploads
+
+-- an upload that begins
+abbrev pub upload_begun : Tables → ℕ → ℕ → List ℕ → List (List ℕ) → Allowed
+upload_begun t now user dir to =
+    allowed.Change (Put (rows.Upload (record { user = user; dir = dir; to = to; touched = now })) ∷ []) None report.Made
+
+-- a chunk of that number is sent, by who has the upload
+abbrev pub chunk_sent : ℕ → List ℕ → ℕ → ℕ → Allowed
+chunk_sent user dir length number = allowed.Chunk user dir number length
+
+-- a new file, and the versions that go for it
+abbrev pub new_file : Tables → NodeRow → List Change
+new_file t row = Put (rows.Node row) ∷ map drop_version (unsettled t (charged t row.owner 0 (content_size row.content)) [])
+
+-- that content is stored over the file that is there, or in a file under the name that is free
+abbrev pub assembled_at : Tables → ℕ → List ℕ → List Piece → Found → List Change
+assembled_at t now name content (At node) = option_map_or (refilled t now content) (node_row t.nodes node) []
+assembled_at t now name content (Free folder) = new_file t (new_node t now folder name File content)
+assembled_at t now name content (Missing depth) = []
+
+abbrev pub joined_report : Found → Report
+joined_report place = made_or_done (node_found place)
+
+-- what the chunks of an upload have, one after the other, is the content of a file, and the upload goes
+abbrev pub assembled : Tables → ℕ → List ℕ → ℕ → List ℕ → Found → Allowed
+assembled t now name user dir place =
+    done (deed.Store (assembled_at t now name (whole_of t.chunks user dir) place) ∷ deed.Abandon user dir ∷ []) (joined_report place)
+
+abbrev pub upload_done : Call → Places → UploadAsk → Allowed
+upload_done call places (upload.New user dir to) = upload_begun call.state.tables call.now (asker_of call) dir to
+upload_done call places (upload.Chunk user dir name to length) =
+    option_map_or (chunk_sent (asker_of call) dir length) (chunk_number name) nothing_done
+upload_done call places (upload.Drop user dir) = done (deed.Abandon (asker_of call) dir ∷ []) report.Done
+upload_done call places (upload.Join dir spot total) =
+    option_map_or (assembled call.state.tables call.now (last_name spot) (asker_of call) dir) places.target allowed.Close
+
 -- what the trash of a user doesn't hold any more
 abbrev pub gone_from : Tables → ℕ → ℕ → List ℕ
 gone_from t now user = gone_of t now (quota_of t user) (items_of t user)
 
--- a sweep: of the trash of each user that goes
+-- the uploads that nobody sent a chunk of for a day
+abbrev pub is_idle : ℕ → UploadRow → Bool
+is_idle now row = nat_le (row.touched + MAX_IDLE) now
+
+abbrev pub abandons : List UploadRow → List Deed
+abandons rows = map (λ row. deed.Abandon row.user row.dir) rows
+
+-- a sweep: of the trash of each user that goes, and so do these uploads
 abbrev pub swept : Tables → ℕ → Allowed
-swept t now = done (purges (flat_map (gone_from t now) (owners_of t.items))) report.Plain
+swept t now = done (purges (flat_map (gone_from t now) (owners_of t.items)) ++ abandons (filter (is_idle now) t.uploads)) report.Plain
 
 -- ---- people
 
@@ -387,29 +437,13 @@ given access call places (wanted.Share ask) = shared access call places ask
 given access call places (wanted.People asked) = people_done call.state.tables call.now asked
 given access call places (wanted.Trash asked) = trash_done call asked
 given access call places (wanted.Version asked) = version_done call.state.tables call.now asked
+given access call places (wanted.Upload asked) = upload_done call places asked
 
 -- what a call that no rule refuses may do, by what shares let their seekers do
 abbrev pub allowed_of : Access → Call → Allowed
 allowed_of access call = given access call (places_of call) call.request.wanted
 
 -- ---- the rows, but for the moment of the meta row
-
--- the next blob, where that one is stored or none
-abbrev pub blob_after : ℕ → Option ℕ → ℕ
-blob_after next None = next
-blob_after next (Some id) = next + 1
-
--- each counter is above the numbers that are put
-abbrev pub above : MetaRow → Change → MetaRow
-above meta (Put (rows.User row)) = record meta { next_user = max meta.next_user (row.id + 1) }
-above meta (Put (rows.Group row)) = record meta { next_group = max meta.next_group (row.id + 1) }
-above meta (Put (rows.Node row)) = record meta { next_node = max meta.next_node (row.id + 1) }
-above meta (Put (rows.Share row)) = record meta { next_share = max meta.next_share (row.id + 1) }
-above meta other = meta
-
-abbrev pub counted : MetaRow → List Change → MetaRow
-counted meta [] = meta
-counted meta (change ∷ changes) = counted (above meta change) changes
 
 -- the tables with their counters raised for some changes and a blob, at a moment: so each change meets tables that know its numbers
 abbrev pub raised : Tables → ℕ → List Change → Option ℕ → Tables
@@ -421,6 +455,7 @@ abbrev pub altered : Tables → ℕ → Allowed → Tables
 altered t now (allowed.Get node content) = t
 altered t now (allowed.List listing) = t
 altered t now (allowed.Put by key length) = t
+altered t now (allowed.Chunk user dir number length) = t
 altered t now (allowed.Change changes blob report) = record (put_all t changes) { meta = (raised t now changes blob).meta }
 altered t now (allowed.Deeds deeds report) = deeds_done t deeds
 altered t now allowed.Close = t
@@ -432,6 +467,7 @@ abbrev pub told : Tables → Allowed → List Change
 told t (allowed.Get node content) = []
 told t (allowed.List listing) = []
 told t (allowed.Put by key length) = []
+told t (allowed.Chunk user dir number length) = []
 told t (allowed.Change changes blob report) = changes
 told t (allowed.Deeds deeds report) = told_deeds t deeds
 told t allowed.Close = []
@@ -441,6 +477,7 @@ abbrev pub meta_after : Tables → ℕ → Allowed → MetaRow
 meta_after t now (allowed.Get node content) = record t.meta { last = now }
 meta_after t now (allowed.List listing) = record t.meta { last = now }
 meta_after t now (allowed.Put by key length) = record t.meta { last = now }
+meta_after t now (allowed.Chunk user dir number length) = record t.meta { last = now }
 meta_after t now (allowed.Change changes blob report) = (raised t now changes blob).meta
 meta_after t now (allowed.Deeds deeds report) = record (deeds_done t deeds).meta { last = now }
 meta_after t now allowed.Close = record t.meta { last = now }
@@ -480,6 +517,7 @@ abbrev pub goal_of : Allowed → Option Goal
 goal_of (allowed.Get node content) = Some (Serve content)
 goal_of (allowed.List listing) = None
 goal_of (allowed.Put by key length) = Some (Store by key length)
+goal_of (allowed.Chunk user dir number length) = Some (Chunk user dir number length)
 goal_of (allowed.Change changes blob report) = None
 goal_of (allowed.Deeds deeds report) = None
 goal_of allowed.Close = None
@@ -489,6 +527,7 @@ abbrev pub hold_of : Allowed → Option Hold
 hold_of (allowed.Get node content) = Some (record { key = Node node; mode = Shared })
 hold_of (allowed.List listing) = None
 hold_of (allowed.Put by key length) = Some (record { key = key; mode = Exclusive })
+hold_of (allowed.Chunk user dir number length) = None
 hold_of (allowed.Change changes blob report) = None
 hold_of (allowed.Deeds deeds report) = None
 hold_of allowed.Close = None
@@ -504,6 +543,7 @@ abbrev pub blob_of : Allowed → Option ℕ
 blob_of (allowed.Get node content) = None
 blob_of (allowed.List listing) = None
 blob_of (allowed.Put by key length) = None
+blob_of (allowed.Chunk user dir number length) = None
 blob_of (allowed.Change changes blob report) = blob
 blob_of (allowed.Deeds deeds report) = None
 blob_of allowed.Close = None
@@ -528,6 +568,7 @@ abbrev pub reply_to : Allowed → Reply
 reply_to (allowed.Get node content) = Granted (Serve content)
 reply_to (allowed.List listing) = Listing listing
 reply_to (allowed.Put by key length) = Granted (Store by key length)
+reply_to (allowed.Chunk user dir number length) = Granted (Chunk user dir number length)
 reply_to (allowed.Change changes blob report) = reported report
 reply_to (allowed.Deeds deeds report) = reported report
 reply_to allowed.Close = Closed

@@ -1,11 +1,11 @@
 -- What a user's files take up, and the rule that no quota is passed.
 use Rattle.std.specs.Prelude.{ℕ, ◌+◌, ◌-◌, ◌==◌, ◌&&◌, Bool, nat_lt, sum_by, Option, None, Some, option_map, option_and_then, if◌then◌else◌}
-use Rattle.std.specs.Option.{option_map_or}
+use Rattle.std.specs.Option.{option_map_or, option_or}
 use Rattle.nf_base.specs.declared.rows.NodeRow.{NodeRow}
 use Rattle.nf_defs.specs.Prelude.{Access, is_present, item_row, owner_of, Tables, user_row}
 use Rattle.nf_defs.specs.declared.Found.{Found}
 use Rattle.nf_defs.specs.declared.Found.TheVariants.{At, Free, Missing}
-use Rattle.nf_words.specs.Calls.{Call, asked_by, places_of}
+use Rattle.nf_words.specs.Calls.{Call, asked_by, asker_of, places_of}
 use Rattle.nf_words.specs.Listing.{bytes_of, size_of}
 use Rattle.nf_words.specs.Places.{crosses, transfer_of}
 use Rattle.nf_words.specs.declared.request.Making.{Making}
@@ -19,6 +19,10 @@ use Rattle.nf_base.specs.declared.rows.ItemRow.{ItemRow}
 use Rattle.nf_words.specs.Trash.{item_size}
 use Rattle.nf_base.specs.declared.rows.VersionRow.{VersionRow}
 use Rattle.nf_words.specs.Versions.{content_size, version_row}
+use Rattle.nf_words.specs.Uploads.{whole_of}
+use Rattle.nf_words.specs.declared.request.UploadAsk.TheVariants as upload
+use Rattle.nf_words.specs.declared.request.Wanted.{Wanted}
+use Rattle.nf_words.specs.declared.request.Wanted.TheVariants as wanted
 
 -- the bytes of a row that count for a user: those of what is the user's and present, whoever wrote it
 abbrev pub counted_for : Tables → ℕ → NodeRow → ℕ
@@ -75,7 +79,17 @@ exceeded t places making.Told = None
 exceeded t places (making.Restored item) = option_and_then (restore_excess t) (item_row t.items item)
 exceeded t places (making.Sent node) = None
 exceeded t places (making.Refilled node at) = option_and_then (back_excess t node) (version_row t.versions node at)
+exceeded t places making.Assembled = None
+
+-- and what the chunks of an upload have together
+abbrev pub assembled_excess : Call → Wanted → Option Excess
+assembled_excess call (wanted.Upload (upload.Join dir spot total)) =
+    let t = call.state.tables in
+    option_and_then (excess_at t (content_size (whole_of t.chunks (asker_of call) dir))) (places_of call).target
+assembled_excess call other = None
 
 -- `quota`: the step would take a charge beyond its quota
 unfoldable pub quota_rule : Access → Call → Option Denial
-quota_rule access call = option_map denial.Quota (exceeded call.state.tables (places_of call) (asked_by call).makes)
+quota_rule access call =
+    option_map denial.Quota
+    (option_or (exceeded call.state.tables (places_of call) (asked_by call).makes) (assembled_excess call call.request.wanted))

@@ -8,10 +8,12 @@ use Rattle.nf_base.specs.declared.rows.ItemRow.{ItemRow}
 use Rattle.nf_base.specs.declared.rows.NodeRow.{NodeRow}
 use Rattle.nf_base.specs.declared.rows.Row.TheVariants as kinds
 use Rattle.nf_base.specs.declared.rows.ShareRow.{ShareRow}
-use Rattle.nf_defs.specs.Prelude.{dropped, is_under, item_key, item_row, node_row, put, relinked, Tables, user_key, version_key, walk_of, with_node, without_under}
+use Rattle.nf_defs.specs.Prelude.{dropped, is_under, item_key, item_row, node_row, put, put_all, relinked, Tables, upload_key, user_key, version_key, walk_of, with_node, without_under}
 use Rattle.nf_defs.specs.Tree.{trashed}
 use Rattle.nf_words.specs.declared.answer.Deed.{Deed}
 use Rattle.nf_words.specs.declared.answer.Deed.TheVariants as deed
+use Rattle.nf_words.specs.Counters.{counted}
+use Rattle.nf_words.specs.Uploads.{chunks_of, is_chunk_of}
 use Rattle.nf_words.specs.Versions.{forgotten_under, versions_there}
 
 -- ---- what goes for good
@@ -73,6 +75,17 @@ restored t node folder name = record t {
 abbrev pub joined : Tables → List NodeRow → Tables
 joined t rows = record t { meta = record t.meta { next_node = t.meta.next_node + length rows }; nodes = t.nodes ++ rows }
 
+-- an upload is there no more, and so are its chunks
+abbrev pub abandoned : Tables → ℕ → List ℕ → Tables
+abandoned t user dir = record t {
+  uploads = dropped upload_key (user ∷ length dir ∷ dir) t.uploads;
+  chunks = filter (λ row. not (is_chunk_of user dir row)) t.chunks;
+}
+
+-- rows are put and dropped, and each counter is above the numbers that are put
+abbrev pub replaced : Tables → List Change → Tables
+replaced t changes = record (put_all t changes) { meta = counted t.meta changes }
+
 abbrev pub deed_done : Tables → Deed → Tables
 deed_done t (deed.Discard item) = discarded t item
 deed_done t (deed.Purge node) = purged t node
@@ -81,6 +94,8 @@ deed_done t (deed.Relink node folder name) = record t { nodes = with_node t.node
 deed_done t (deed.Join rows) = joined t rows
 deed_done t (deed.Requote row) = record t { users = put user_key row t.users }
 deed_done t (deed.Forget node at) = forgotten t node at
+deed_done t (deed.Store changes) = replaced t changes
+deed_done t (deed.Abandon user dir) = abandoned t user dir
 
 -- one after the other
 abbrev pub deeds_done : Tables → List Deed → Tables
@@ -97,6 +112,9 @@ told_node row change = option_map_or (λ row. Put (kinds.Node (change row)) ∷ 
 abbrev pub told_item : Tables → ℕ → List Change
 told_item t node = if is_some (item_row t.items node) then Drop (keys.Item node) ∷ [] else []
 
+abbrev pub told_chunks : Tables → ℕ → List ℕ → List Change
+told_chunks t user dir = map (λ row. Drop (keys.Chunk row.user row.dir row.number)) (chunks_of t.chunks user dir)
+
 abbrev pub told_deed : Tables → Deed → List Change
 told_deed t (deed.Discard item) =
     told_node (node_row t.nodes item.node) trashed ++ Put (kinds.Item item) ∷ closed_under t.nodes t.shares item.node
@@ -106,6 +124,8 @@ told_deed t (deed.Relink node folder name) = told_node (node_row t.nodes node) (
 told_deed t (deed.Join rows) = map (λ row. Put (kinds.Node row)) rows
 told_deed t (deed.Requote row) = Put (kinds.User row) ∷ []
 told_deed t (deed.Forget node at) = Drop (keys.Version node at) ∷ []
+told_deed t (deed.Store changes) = changes
+told_deed t (deed.Abandon user dir) = told_chunks t user dir ++ Drop (keys.Upload user dir) ∷ []
 
 -- each is told of the tables after those before it
 abbrev pub told_deeds : Tables → List Deed → List Change

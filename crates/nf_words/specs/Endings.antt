@@ -1,5 +1,5 @@
 -- The End of a request in two steps. One with a body is decided by the tables of its own moment, not by those of its Begin.
-use Rattle.std.specs.Prelude.{ℕ, ◌==◌, ◌&&◌, is_some, List, [], ◌∷◌, map, Option, None, Some, option_map, option_and_then, Result, Ok, Err, if◌then◌else◌}
+use Rattle.std.specs.Prelude.{ℕ, ◌==◌, ◌&&◌, is_some, List, [], ◌∷◌, ◌++◌, false, Option, None, Some, option_map, option_and_then, Result, Ok, Err, if◌then◌else◌}
 use Rattle.std.specs.Option.{option_map_or, option_or}
 use Rattle.nf_access.specs.Mounts.{mount_at}
 use Rattle.nf_access.specs.Shares.{ground_of}
@@ -8,12 +8,17 @@ use Rattle.nf_base.specs.declared.rows.NodeKind.TheVariants.{File}
 use Rattle.nf_defs.specs.Prelude.{Access, is_root, node_row, owner_of, Tables}
 use Rattle.nf_defs.specs.declared.Found.{Found}
 use Rattle.nf_defs.specs.declared.Found.TheVariants.{At, Free}
-use Rattle.nf_words.specs.Changes.{charged, new_node, refilled, unsettled}
+use Rattle.nf_words.specs.Changes.{new_file, new_node, refilled}
 use Rattle.nf_base.specs.declared.rows.NodeRow.{NodeRow}
-use Rattle.nf_words.specs.Versions.{content_size, drop_version}
 use Rattle.nf_base.specs.declared.changes.Change.TheVariants.{Put}
 use Rattle.nf_base.specs.declared.rows.Row.TheVariants as rows
+use Rattle.nf_base.specs.Content.{content_eq}
+use Rattle.nf_base.specs.declared.changes.Change.{Change}
+use Rattle.nf_base.specs.declared.rows.ChunkRow.{ChunkRow}
+use Rattle.nf_base.specs.declared.rows.UploadRow.{UploadRow}
 use Rattle.nf_words.specs.Charges.{excess_at}
+use Rattle.nf_words.specs.Uploading.{chunk_limit}
+use Rattle.nf_words.specs.Uploads.{chunk_row, upload_row}
 use Rattle.nf_words.specs.Holds.{node_of_key}
 use Rattle.nf_words.specs.Limits.{limit_at, pieces_of}
 use Rattle.nf_words.specs.Needed.{is_owner, needed_by}
@@ -25,7 +30,7 @@ use Rattle.nf_words.specs.declared.answer.By.{By}
 use Rattle.nf_words.specs.declared.answer.Denial.{Denial}
 use Rattle.nf_words.specs.declared.answer.Denial.TheVariants as denial
 use Rattle.nf_words.specs.declared.answer.Goal.{Goal}
-use Rattle.nf_words.specs.declared.answer.Goal.TheVariants.{Serve, Store}
+use Rattle.nf_words.specs.declared.answer.Goal.TheVariants.{Chunk, Serve, Store}
 use Rattle.nf_words.specs.declared.answer.LockKey.{LockKey}
 use Rattle.nf_words.specs.declared.answer.LockKey.TheVariants.{Node, Slot}
 use Rattle.nf_words.specs.declared.history.Outcome.{Outcome}
@@ -81,9 +86,7 @@ content_in (Some blob) digest length = record { blob = blob; size = length; dige
 
 -- a new file, whose body is in that blob, and the versions that go for it
 abbrev pub stored_new : Tables → NodeRow → Option ℕ → Allowed
-stored_new t row blob =
-    allowed.Change (Put (rows.Node row) ∷ map drop_version (unsettled t (charged t row.owner 0 (content_size row.content)) [])) blob
-    report.Made
+stored_new t row blob = allowed.Change (new_file t row) blob report.Made
 
 -- what storing a body does: another content of the file, or a file under the free name. Versions go that are beyond their bound then
 abbrev pub stored_at : Tables → ℕ → LockKey → List ℕ → ℕ → Allowed
@@ -96,12 +99,43 @@ stored_at t now (Slot folder name) digest length =
 abbrev pub stores : Access → Tables → ℕ → By → LockKey → List ℕ → ℕ → Result Allowed Denial
 stores access t now by key digest length = unless_refused (end_refusal access t now by key length) (stored_at t now key digest length)
 
+-- ---- a chunk
+
+-- `not-found` and `limit`: the upload is gone, or the chunk doesn't fit
+abbrev pub chunk_refusal : Tables → ℕ → List ℕ → ℕ → ℕ → Option Denial
+chunk_refusal t user dir number length =
+    if is_some (upload_row t.uploads user dir) then option_map denial.Limit (chunk_limit t user dir length number) else Some denial.NotFound
+
+-- the row of a chunk, if it is another than the one that is there
+abbrev pub chunk_put : Tables → ChunkRow → List Change
+chunk_put t row =
+    if option_map_or (λ old. content_eq old.content row.content) (chunk_row t.chunks row.user row.dir row.number) false then []
+    else Put (rows.Chunk row) ∷ []
+
+-- its upload is touched
+abbrev pub touched_row : ℕ → UploadRow → UploadRow
+touched_row now row = record row { touched = now }
+
+abbrev pub upload_touched : ℕ → UploadRow → List Change
+upload_touched now row = if row.touched == now then [] else Put (rows.Upload (touched_row now row)) ∷ []
+
+abbrev pub chunk_stored : Tables → ℕ → ℕ → List ℕ → ℕ → List ℕ → ℕ → Allowed
+chunk_stored t now user dir number digest length =
+    let blob = blob_for t.meta.next_blob length in
+    let row : ChunkRow = record { user = user; dir = dir; number = number; content = content_in blob digest length } in
+    allowed.Change (chunk_put t row ++ option_map_or (upload_touched now) (upload_row t.uploads user dir) []) blob report.Made
+
+abbrev pub stores_chunk : Tables → ℕ → ℕ → List ℕ → ℕ → List ℕ → ℕ → Result Allowed Denial
+stores_chunk t now user dir number digest length =
+    unless_refused (chunk_refusal t user dir number length) (chunk_stored t now user dir number digest length)
+
 -- what an End may do, by the goal of its seat's ticket and by what shares let their seekers do
 abbrev pub ends_goal : Access → Tables → ℕ → Outcome → Goal → Result Allowed Denial
 ends_goal access t now Sent goal = Ok allowed.Close
 ends_goal access t now Gone goal = Ok allowed.Close
 ends_goal access t now (Body digest length) (Serve content) = Ok allowed.Close
 ends_goal access t now (Body digest length) (Store by key wanted) = stores access t now by key digest length
+ends_goal access t now (Body digest length) (Chunk user dir number wanted) = stores_chunk t now user dir number digest length
 
 -- of a seat that has none, nothing
 abbrev pub ends_at : Access → Tables → ℕ → Outcome → Option Goal → Result Allowed Denial

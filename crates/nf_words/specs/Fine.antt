@@ -3,7 +3,7 @@ use Rattle.std.specs.Prelude.{◌≡◌, ◌≢◌, ◌⊎◌, List, ℕ, ◌+�
 use Rattle.nf_access.specs.Mounts.{mount_at, mount_row, root_folder}
 use Rattle.nf_access.specs.Making.{is_token_taken}
 use Rattle.nf_access.specs.Shares.{chain_of, share_row}
-use Rattle.nf_base.specs.declared.limits.TheConstants.{MAX_CHAIN, MAX_DEPTH, MAX_GROUPS, MAX_MEMBERS, MAX_MOUNTS, MAX_NODES, MAX_SHARES, MAX_STORED_PIECES, MAX_TOKENS, MAX_USERS, MAX_VERSIONS}
+use Rattle.nf_base.specs.declared.limits.TheConstants.{MAX_CHAIN, MAX_DEPTH, MAX_GROUPS, MAX_MEMBERS, MAX_MOUNTS, MAX_NODES, MAX_PIECES, MAX_SHARES, MAX_STORED_PIECES, MAX_TOKENS, MAX_USERS, MAX_VERSIONS}
 use Rattle.nf_base.specs.declared.changes.Change.{Change}
 use Rattle.nf_base.specs.declared.changes.Change.TheVariants.{Put, Drop}
 use Rattle.nf_base.specs.declared.changes.RowKey.TheVariants as keys
@@ -15,12 +15,18 @@ use Rattle.nf_base.specs.declared.rows.Place.TheVariants.{Inside, Root}
 use Rattle.nf_base.specs.declared.rows.Row.TheVariants as rows
 use Rattle.nf_base.specs.declared.rows.ShareRow.{ShareRow}
 use Rattle.nf_base.specs.declared.rows.TokenRow.{TokenRow}
+use Rattle.nf_base.specs.declared.rows.ChunkRow.{ChunkRow}
+use Rattle.nf_base.specs.declared.rows.UploadRow.{UploadRow}
 use Rattle.nf_base.specs.declared.rows.UserRow.{UserRow}
 use Rattle.nf_base.specs.declared.rows.VersionRow.{VersionRow}
 use Rattle.nf_defs.specs.Prelude.{child_of, depth, filled, group_named, group_row, holder_of, is_file, is_folder, is_folder_kind, is_member_of, is_root, node_row, owner_of, Tables, user_named, user_row}
 use Rattle.nf_words.specs.Contents.{IsPieceSound, stored_pieces}
 use Rattle.nf_words.specs.Others.{IsKindSound, IsOfNode}
 use Rattle.nf_words.specs.Present.{LeadsToRoot}
+use Rattle.nf_words.specs.Uploading.{pending_with}
+use Rattle.nf_words.specs.Uploads.{upload_row, uploads_of}
+use Rattle.nf_words.specs.Versions.{content_size}
+use Rattle.nf_words.specs.declared.limits.TheConstants.{MAX_PENDING, MAX_UPLOADS}
 
 -- where the folder is a user's root, no mount of the user has that name
 abbrev pub IsUnmounted : Tables → ℕ → List ℕ → Type 0
@@ -65,6 +71,31 @@ pub record IsNewVersion (t : Tables) (row : VersionRow) : Type 0 where
   pub pieces : All (IsPieceSound t) row.content
   pub few : length t.versions + 1 ≤ MAX_VERSIONS
   pub few_pieces : stored_pieces t + length row.content ≤ MAX_STORED_PIECES
+
+-- a new upload of a user who is there and has room for it
+pub record IsNewUpload (t : Tables) (row : UploadRow) : Type 0 where
+  pub fresh : upload_row t.uploads row.user row.dir ≡ None
+  pub user : is_some (user_row t.users row.user) ≡ true
+  pub touched : row.touched ≤ t.meta.last
+  pub few : length (uploads_of t.uploads row.user) + 1 ≤ MAX_UPLOADS
+
+-- an upload that is there, of which a chunk was sent at another moment
+pub record IsTouched (t : Tables) (row : UploadRow) : Type 0 where
+  pub old : UploadRow
+  pub there : upload_row t.uploads row.user row.dir ≡ Some old
+  pub same : row ≡ record old { touched = row.touched }
+  pub touched : row.touched ≤ t.meta.last
+  pub other : row ≢ old
+
+-- a chunk of an upload that is there, in the place of one of its number or as one more
+pub record IsNewChunk (t : Tables) (row : ChunkRow) : Type 0 where
+  pub upload : is_some (upload_row t.uploads row.user row.dir) ≡ true
+  pub some : 1 ≤ row.number
+  pub few : row.number ≤ MAX_PIECES
+  pub one : length row.content ≤ 1
+  pub pieces : All (IsPieceSound t) row.content
+  pub few_pieces : stored_pieces t + length row.content ≤ MAX_STORED_PIECES
+  pub few_pending : pending_with t row.user row.dir row.number (content_size row.content) ≤ MAX_PENDING
 
 -- a mount that is there, and is left, or has a name that is free in its user's root
 pub record IsRemounted (t : Tables) (row : MountRow) : Type 0 where

@@ -16,7 +16,7 @@ use Rattle.nf_words.specs.declared.history.Mark.TheVariants as mark
 use Rattle.nf_words.specs.declared.history.Outcome.{Outcome}
 use Rattle.nf_words.specs.declared.history.Outcome.TheVariants.{Sent, Gone, Body}
 use Rattle.nf_words.specs.declared.answer.Goal.{Goal}
-use Rattle.nf_words.specs.declared.answer.Goal.TheVariants.{Serve, Store}
+use Rattle.nf_words.specs.declared.answer.Goal.TheVariants.{Chunk, Serve, Store}
 use Rattle.nf_words.specs.declared.request.Making.{Making}
 use Rattle.nf_words.specs.declared.request.Making.TheVariants as making
 use Rattle.nf_words.specs.declared.request.PeopleAsk.{PeopleAsk}
@@ -27,6 +27,8 @@ use Rattle.nf_words.specs.declared.request.ShareAsk.TheVariants as ask
 use Rattle.nf_words.specs.declared.request.Spot.{Spot}
 use Rattle.nf_words.specs.declared.request.Until.{Until}
 use Rattle.nf_words.specs.declared.request.Until.TheVariants as until
+use Rattle.nf_words.specs.declared.request.UploadAsk.{UploadAsk}
+use Rattle.nf_words.specs.declared.request.UploadAsk.TheVariants as upload
 use Rattle.nf_words.specs.declared.request.Wanted.{Wanted}
 use Rattle.nf_words.specs.declared.request.Wanted.TheVariants as wanted
 use Rattle.nf_words.specs.Sharing.{is_end_moment}
@@ -69,6 +71,7 @@ IsShort making.Told = Unit {0}
 IsShort (making.Restored item) = Unit {0}
 IsShort (making.Sent node) = Unit {0}
 IsShort (making.Refilled node at) = Unit {0}
+IsShort making.Assembled = Unit {0}
 
 -- a place names its user exactly where the caller isn't a link and nothing is asked about shares
 abbrev pub NamesUser : Request → Spot → Type 0
@@ -99,9 +102,17 @@ IsModest (people.DropMember user group) = Unit {0}
 IsModest (people.SetQuota user quota) = quota ≤ MAX_QUOTA
 IsModest (people.AddToken user token) = Unit {0}
 
+-- a chunk isn't too long
+abbrev pub IsSmall : UploadAsk → Type 0
+IsSmall (upload.New user dir to) = Unit {0}
+IsSmall (upload.Chunk user dir name to length) = length ≤ MAX_BODY
+IsSmall (upload.Drop user dir) = Unit {0}
+IsSmall (upload.Join dir spot total) = Unit {0}
+
 abbrev pub IsInBounds : Wanted → Type 0
 IsInBounds (wanted.Share asked) = EndsAtDays asked
 IsInBounds (wanted.People asked) = IsModest asked
+IsInBounds (wanted.Upload asked) = IsSmall asked
 IsInBounds other = Unit {0}
 
 pub record MayWant (request : Request) : Type 0 where
@@ -116,6 +127,7 @@ MayBring goal Sent = Unit {0}
 MayBring goal Gone = Unit {0}
 MayBring (Serve content) (Body digest length) = ⊥
 MayBring (Store by key wanted) (Body digest length) = length ≡ wanted
+MayBring (Chunk user dir number wanted) (Body digest length) = length ≡ wanted
 
 -- the End of what the seat was granted
 abbrev pub MayEnd : Option Goal → Outcome → Type 0

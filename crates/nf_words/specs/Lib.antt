@@ -5,10 +5,12 @@ pub mod Callers
 pub mod Places
 pub mod Contents
 pub mod Versions
+pub mod Uploads
 pub mod Present
 pub mod Needed
 pub mod Homes
 pub mod Limits
+pub mod Uploading
 pub mod Listing
 pub mod Trash
 pub mod Charges
@@ -18,13 +20,13 @@ pub mod Copies
 pub mod Holds
 pub mod Locks
 pub mod Rules
+pub mod Counters
 pub mod Deeds
 pub mod Changes
 pub mod Endings
 pub mod Step
 pub mod History
 pub mod Laws
-pub mod Later
 pub mod Others
 pub mod Sound
 pub mod Fine

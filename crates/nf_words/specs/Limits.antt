@@ -23,6 +23,7 @@ use Rattle.nf_base.specs.declared.rows.ItemRow.{ItemRow}
 use Rattle.nf_words.specs.Homes.{home_of}
 use Rattle.nf_base.specs.declared.rows.VersionRow.{VersionRow}
 use Rattle.nf_words.specs.Versions.{becomes_version, version_row}
+use Rattle.nf_words.specs.declared.limits.TheConstants.{MAX_PENDING, MAX_UPLOADS}
 
 -- the number of a limit
 abbrev pub count_of : Limit → ℕ
@@ -36,6 +37,8 @@ count_of limit.Shares = MAX_SHARES
 count_of limit.Mounts = MAX_MOUNTS
 count_of limit.Versions = MAX_VERSIONS
 count_of limit.Pieces = MAX_STORED_PIECES
+count_of limit.Uploads = MAX_UPLOADS
+count_of limit.Pending = MAX_PENDING
 
 -- the greatest number that a counter holds, of nodes, shares and blobs, and of users and groups
 abbrev pub last_number : ℕ
@@ -69,11 +72,15 @@ abbrev pub versions_added : Tables → ℕ → Option ℕ → ℕ
 versions_added t node back =
     option_map_or (λ row. if becomes_version t.versions back row then 1 else 0) (node_row t.nodes node) 0
 
--- the limit that is passed where a new content of so many pieces is put there; what it replaces still counts
+-- the limit that is passed where a content of so many pieces, of which so many are in new blobs, is put there; what it replaces still counts
+abbrev pub limit_with : Tables → ℕ → ℕ → Found → Option Limit
+limit_with t pieces blobs (At node) = limit_passed t 0 0 (versions_added t node None) pieces blobs
+limit_with t pieces blobs (Free folder) = limit_passed t 1 (depth t.nodes folder + 1) 0 pieces blobs
+limit_with t pieces blobs (Missing found) = None
+
+-- and where all of them are
 abbrev pub limit_at : Tables → ℕ → Found → Option Limit
-limit_at t pieces (At node) = limit_passed t 0 0 (versions_added t node None) pieces pieces
-limit_at t pieces (Free folder) = limit_passed t 1 (depth t.nodes folder + 1) 0 pieces pieces
-limit_at t pieces (Missing found) = None
+limit_at t pieces place = limit_with t pieces pieces place
 
 -- how deep the deepest of some nodes is
 abbrev pub deepest : List NodeRow → List ℕ → ℕ
@@ -121,6 +128,7 @@ limited t places making.Told = None
 limited t places (making.Restored item) = option_and_then (restore_limit t) (item_row t.items item)
 limited t places (making.Sent node) = None
 limited t places (making.Refilled node at) = option_and_then (back_limit t node) (version_row t.versions node at)
+limited t places making.Assembled = None
 
 -- `limit`: the step would pass a limit
 unfoldable pub limit_rule : Access → Call → Option Denial

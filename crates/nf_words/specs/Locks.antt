@@ -53,6 +53,7 @@ touched t removes name places making.Told = []
 touched t removes name places (making.Restored item) = option_map_or (restore_touches t) (item_row t.items item) []
 touched t removes name places (making.Sent node) = touch_key (Node node) Shared ∷ []
 touched t removes name places (making.Refilled node at) = touch_key (Node node) Exclusive ∷ []
+touched t removes name places making.Assembled = option_map_or (target_touches name) places.target []
 
 -- the name under which something is put
 abbrev pub target_name : Asked → List ℕ

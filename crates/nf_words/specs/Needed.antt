@@ -92,6 +92,8 @@ target_needs making.Told rows root within way = []
 target_needs (making.Restored item) rows root within way = []
 target_needs (making.Sent node) rows root within way = []
 target_needs (making.Refilled node at) rows root within way = []
+target_needs making.Assembled rows root within way =
+    if is_some (node_found way.place) then needs_at Update way else needs_in rows root way
 
 -- leaving or renaming one's own mount needs nothing
 abbrev pub needs_between : List NodeRow → ℕ → Asked → Option Way → Option Way → List Need

@@ -1,5 +1,5 @@
--- What the rows of shares, mounts, versions, the trash and uploads keep. As long as a kind isn't built, there is none of it.
-use Rattle.std.specs.Prelude.{◌≡◌, ◌≢◌, ℕ, ◌==◌, ◌&&◌, ◌<◌, ◌≤◌, All, false, true, bytes_eq, find, length, List, [], Option, None, Some, IfSome, is_some}
+-- What the rows of shares, mounts, versions, the trash and uploads keep.
+use Rattle.std.specs.Prelude.{◌≡◌, ◌≢◌, ℕ, ◌==◌, ◌<◌, ◌≤◌, All, false, true, length, [], None, Some, IfSome, is_some}
 use Rattle.std.specs.List.{AllPairs, list_any}
 use Rattle.nf_access.specs.Mounts.{root_folder}
 use Rattle.nf_access.specs.Shares.{chain_within, perms_of_share}
@@ -14,12 +14,11 @@ use Rattle.nf_base.specs.declared.rows.ShareKind.TheVariants as to
 use Rattle.nf_base.specs.declared.rows.ShareRow.{ShareRow}
 use Rattle.nf_base.specs.declared.rows.UploadRow.{UploadRow}
 use Rattle.nf_base.specs.declared.rows.VersionRow.{VersionRow}
-use Rattle.nf_defs.specs.Prelude.{child_of, is_file, is_root_place, IsRising, item_key, mount_key, node_row, share_key, Tables, user_row, version_key}
+use Rattle.nf_defs.specs.Prelude.{child_of, is_file, is_root_place, chunk_key, IsRising, item_key, mount_key, node_row, share_key, Tables, upload_key, user_row, version_key}
 use Rattle.nf_words.specs.Contents.{IsPieceSound}
+use Rattle.nf_words.specs.declared.limits.TheConstants.{MAX_PENDING, MAX_UPLOADS}
 use Rattle.nf_words.specs.Present.{LeadsToRoot}
-
-abbrev pub upload_row : List UploadRow → ℕ → List ℕ → Option UploadRow
-upload_row rows user dir = find (λ row. row.user == user && bytes_eq row.dir dir) rows
+use Rattle.nf_words.specs.Uploads.{pending_of, upload_row, uploads_of}
 
 -- the share names a user or a group that is there, or is a link
 abbrev pub IsKindSound : Tables → ShareKind → Type 0
@@ -84,6 +83,7 @@ pub record IsChunkSound (t : Tables) (row : ChunkRow) : Type 0 where
   pub upload : is_some (upload_row t.uploads row.user row.dir) ≡ true
   pub some : 1 ≤ row.number
   pub few : row.number ≤ MAX_PIECES
+  pub one : length row.content ≤ 1
   pub pieces : All (IsPieceSound t) row.content
 
 pub record AreOthersSound (t : Tables) : Type 0 where
@@ -100,4 +100,8 @@ pub record AreOthersSound (t : Tables) : Type 0 where
   pub items : All (IsItemSound t) t.items
   pub items_rise : IsRising item_key t.items
   pub uploads : All (IsUploadSound t) t.uploads
+  pub uploads_rise : IsRising upload_key t.uploads
+  pub few_uploads : (user : ℕ) → length (uploads_of t.uploads user) ≤ MAX_UPLOADS
   pub chunks : All (IsChunkSound t) t.chunks
+  pub chunks_rise : IsRising chunk_key t.chunks
+  pub few_pending : (user : ℕ) → pending_of t.chunks user ≤ MAX_PENDING

@@ -8,16 +8,20 @@ use Rattle.nf_defs.specs.Prelude.{Access, is_folder, is_root, is_under, owner_of
 use Rattle.nf_defs.specs.declared.Found.{Found}
 use Rattle.nf_defs.specs.declared.Found.TheVariants.{At, Free, Missing}
 use Rattle.nf_words.specs.Asked.{Asked, is_transfer, paths_of}
-use Rattle.nf_words.specs.Calls.{Call, Way, Ways, asked_by, is_mount_asked, place_at, places_of, root_of, ways_of}
+use Rattle.nf_words.specs.Calls.{Call, Way, Ways, asked_by, asker_of, is_mount_asked, place_at, places_of, root_of, ways_of}
 use Rattle.nf_words.specs.declared.request.Making.{Making}
 use Rattle.nf_words.specs.declared.request.Making.TheVariants as making
 use Rattle.nf_words.specs.declared.request.Places.{Places}
 use Rattle.nf_words.specs.declared.request.Transfer.{Transfer}
+use Rattle.nf_words.specs.declared.request.UploadAsk.TheVariants as upload
+use Rattle.nf_words.specs.declared.request.Wanted.{Wanted}
+use Rattle.nf_words.specs.declared.request.Wanted.TheVariants as wanted
+use Rattle.nf_words.specs.Uploads.{upload_row}
 use Rattle.nf_words.specs.declared.answer.Denial.{Denial}
 use Rattle.nf_words.specs.declared.answer.Denial.TheVariants as denial
 use Rattle.nf_words.specs.declared.answer.TargetFault.{TargetFault}
 use Rattle.nf_words.specs.declared.answer.TargetFault.TheVariants as target
-use Rattle.nf_words.specs.declared.route.Route.TheVariants.{Files}
+use Rattle.nf_words.specs.declared.route.Route.TheVariants.{Assembly, Files, Upload}
 
 -- a name of the path is `.htaccess`
 abbrev pub has_forbidden : List (List ℕ) → Bool
@@ -71,10 +75,21 @@ taken rows places making.Told = None
 taken rows places (making.Restored item) = None
 taken rows places (making.Sent node) = None
 taken rows places (making.Refilled node at) = None
+taken rows places making.Assembled = if is_there (is_folder rows) places.target then Some (denial.Exists Assembly) else None
+
+-- the caller has an upload of that name
+abbrev pub is_open : Call → List ℕ → Bool
+is_open call dir = is_some (upload_row call.state.tables.uploads (asker_of call) dir)
+
+-- one is to be made that is there
+abbrev pub opened_by : Call → Wanted → Option Denial
+opened_by call (wanted.Upload (upload.New user dir to)) = if is_open call dir then Some (denial.Exists Upload) else None
+opened_by call other = None
 
 -- `exists`
 unfoldable pub exists_rule : Access → Call → Option Denial
-exists_rule access call = taken call.state.tables.nodes (places_of call) (asked_by call).makes
+exists_rule access call =
+    option_or (taken call.state.tables.nodes (places_of call) (asked_by call).makes) (opened_by call call.request.wanted)
 
 -- ---- what is moved or copied, and where to
 

@@ -24,6 +24,7 @@ use Rattle.nf_words.specs.declared.request.VersionAsk.TheVariants as version
 use Rattle.nf_words.specs.declared.request.Wanted.{Wanted}
 use Rattle.nf_words.specs.declared.request.Wanted.TheVariants as wanted
 use Rattle.nf_words.specs.Versions.{version_row}
+use Rattle.nf_words.specs.Uploading.{unopened}
 
 -- ---- what is told
 
@@ -66,13 +67,14 @@ source_refused access call way =
 abbrev pub target_refused : Access → Call → Way → Option Denial
 target_refused access call way = option_or (unreached access call way) (target_lost way.place)
 
--- `no-share`, `broken-link`, `not-found` and `no-parent`: of the link, then of the source, then of the target
+-- `no-share`, `broken-link`, `not-found` and `no-parent`: of the link, then of the source or the upload, then of the target
 unfoldable pub place_rule : Access → Call → Option Denial
 place_rule access call =
     let asked = asked_by call in
     option_or (unlinked call)
     (option_or (option_and_then (λ spot. source_refused access call (way_of call spot)) asked.source)
-    (option_and_then (λ spot. target_refused access call (way_of call spot)) asked.target))
+    (option_or (unopened call call.request.wanted)
+    (option_and_then (λ spot. target_refused access call (way_of call spot)) asked.target)))
 
 -- ---- the acts
 

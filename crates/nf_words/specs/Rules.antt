@@ -10,13 +10,14 @@ use Rattle.nf_words.specs.Limits.{limit_rule}
 use Rattle.nf_words.specs.Sharing.{named_rule, room_rule, sharing_rule}
 use Rattle.nf_words.specs.Locks.{locked_rule}
 use Rattle.nf_words.specs.Charges.{quota_rule}
+use Rattle.nf_words.specs.Uploading.{upload_rule}
 use Rattle.nf_words.specs.declared.answer.Denial.{Denial}
 
 -- a test of a call by what shares let their seekers do, which refuses it or passes
 abbrev pub Rule : Type 0
 Rule = Access → Call → Option Denial
 
--- the rules of who asks, of names, of places, of what who asks may do there, and of sharing
+-- the rules of who asks, of names, of places, of what who asks may do there, of sharing, and of uploads
 abbrev pub earlier_rules : List Rule
 earlier_rules =
     token_rule
@@ -30,6 +31,7 @@ earlier_rules =
     ∷ target_rule
     ∷ overwrite_rule
     ∷ sharing_rule
+    ∷ upload_rule
     ∷ []
 
 -- those of what others hold, of limits and of quotas

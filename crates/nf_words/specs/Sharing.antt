@@ -48,6 +48,7 @@ use Rattle.nf_words.specs.declared.sharing.Recipient.TheVariants as recipient
 use Rattle.nf_words.specs.declared.sharing.ShareLine.{ShareLine}
 use Rattle.nf_words.specs.Trash.{untrashed}
 use Rattle.nf_words.specs.Reached.{unversioned}
+use Rattle.nf_words.specs.Uploading.{upload_limit}
 
 -- the midnight after one of the days from 1970-01-01 to 9998-12-31, in UTC
 abbrev pub is_end_moment : ℕ → Bool
@@ -263,9 +264,10 @@ limit_of_ask call other = None
 abbrev pub limit_by : Call → Wanted → Option Limit
 limit_by call (wanted.Share ask) = limit_of_ask call ask
 limit_by call (wanted.People ask) = people_limit call.state.tables ask
+limit_by call (wanted.Upload ask) = upload_limit call ask
 limit_by call other = None
 
--- `limit`: there would be too many shares, mounts, users, groups, tokens or members
+-- `limit`: there would be too many shares, mounts, users, groups, tokens, members or uploads, or too much in chunks
 unfoldable pub room_rule : Access → Call → Option Denial
 room_rule access call = option_map denial.Limit (limit_by call call.request.wanted)
 

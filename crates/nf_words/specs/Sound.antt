@@ -1,9 +1,9 @@
--- Sound states: their nodes and tickets keep the rules of the site. The acts that are built change no other row.
+-- Sound states: their rows and tickets keep the rules of the site.
 use Rattle.std.specs.Prelude.{◌≡◌, ◌≢◌, ℕ, ◌<◌, ◌≤◌, All, true, List, [], length, Option, None, Some, IfSome, is_some}
 use Rattle.std.specs.List.{AllPairs}
 use Rattle.std.specs.Option.{option_map_or}
 use Rattle.nf_access.specs.Shares.{is_link_kind, share_row}
-use Rattle.nf_base.specs.declared.limits.TheConstants.{MAX_BODY}
+use Rattle.nf_base.specs.declared.limits.TheConstants.{MAX_BODY, MAX_PIECES}
 use Rattle.nf_base.specs.declared.rows.GroupRow.{GroupRow}
 use Rattle.nf_base.specs.declared.rows.MemberRow.{MemberRow}
 use Rattle.nf_base.specs.declared.rows.MetaRow.{MetaRow}
@@ -16,7 +16,6 @@ use Rattle.nf_defs.specs.Prelude.{climb, folder_of, is_folder, is_folder_kind, i
 use Rattle.nf_defs.specs.declared.Seeker.{Seeker}
 use Rattle.nf_defs.specs.declared.Seeker.TheVariants as seeker
 use Rattle.nf_words.specs.Contents.{IsPieceSound, stored_pieces}
-use Rattle.nf_words.specs.Later.{HasNoLater}
 use Rattle.nf_words.specs.Holds.{AreApartHolds, IsHeld, node_of_key}
 use Rattle.nf_words.specs.Limits.{count_of}
 use Rattle.nf_words.specs.Others.{AreOthersSound}
@@ -24,7 +23,7 @@ use Rattle.nf_words.specs.Present.{LeadsToRoot}
 use Rattle.nf_words.specs.State.{State}
 use Rattle.nf_words.specs.declared.answer.By.{By}
 use Rattle.nf_words.specs.declared.answer.Goal.{Goal}
-use Rattle.nf_words.specs.declared.answer.Goal.TheVariants.{Serve, Store}
+use Rattle.nf_words.specs.declared.answer.Goal.TheVariants.{Chunk, Serve, Store}
 use Rattle.nf_words.specs.declared.answer.Hold.{Hold}
 use Rattle.nf_words.specs.declared.answer.Limit.TheVariants as limit
 use Rattle.nf_words.specs.declared.answer.LockKey.TheVariants.{Node}
@@ -95,7 +94,6 @@ pub record AreSound (t : Tables) : Type 0 where
   pub groups_given : All (λ (row : GroupRow). row.id < t.meta.next_group) t.groups
   pub few_nodes : length t.nodes ≤ count_of limit.Nodes
   pub few_pieces : stored_pieces t ≤ count_of limit.Pieces
-  pub later : HasNoLater t
   pub others : AreOthersSound t
 
 -- ---- tickets
@@ -122,20 +120,23 @@ MayStoreBy t (seeker.Link share) (Some mount) node = IsLinkTo t share mount
 abbrev pub MayStoreAt : Tables → By → ℕ → Type 0
 MayStoreAt t by node = MayStoreBy t by.seeker by.mount node
 
--- what is sent is in blobs whose numbers were given; what is stored is stored by an owner and isn't too long
+-- what is sent is in blobs whose numbers were given; what is stored is stored by an owner and isn't too long; nor is a chunk, and its number is one of a chunk
 abbrev pub IsGoalSound : Tables → Goal → Type 0
 IsGoalSound t (Serve content) = All (IsPieceSound t) content
 IsGoalSound t (Store by key length) = (length ≤ MAX_BODY) × MayStoreAt t by (node_of_key key)
+IsGoalSound t (Chunk user dir number length) = (length ≤ MAX_BODY) × ((1 ≤ number) × (number ≤ MAX_PIECES))
 
--- a node that is sent is held beside others who read it, and what is stored over alone
+-- a node that is sent is held beside others who read it, and what is stored over alone; for a chunk nothing is
 abbrev pub HoldsFor : Goal → Option Hold → Type 0
 HoldsFor (Serve content) hold = (node : ℕ) × (hold ≡ Some (record { key = Node node; mode = Shared }))
 HoldsFor (Store by key length) hold = hold ≡ Some (record { key = key; mode = Exclusive })
+HoldsFor (Chunk user dir number length) hold = hold ≡ None
 
 -- what is stored over is present, or its name is free in a folder that is
 abbrev pub IsStorable : Tables → Goal → Type 0
 IsStorable t (Serve content) = Unit {0}
 IsStorable t (Store by key length) = IsHeld t key × LeadsToRoot t.nodes (node_of_key key)
+IsStorable t (Chunk user dir number length) = Unit {0}
 
 pub record IsTicketSound (t : Tables) (ticket : Ticket) : Type 0 where
   pub goal : IsGoalSound t ticket.goal

@@ -3,12 +3,12 @@
 ghost use Rattle.std.specs.Prelude.{◌≡◌, IfOk};
 ghost use Rattle.nf_words.specs.Limits.{count_of};
 
-use crate::{Items, Listing, Route, ShareLine, ShareLines, Versions};
+use crate::{Items, Listing, MAX_PENDING, MAX_UPLOADS, Route, ShareLine, ShareLines, Versions};
 use nf_access::Cause;
 use nf_base::{
     BlobId, Changes, Content, Digest, ItemRow, MAX_DEPTH, MAX_GROUPS, MAX_MEMBERS, MAX_MOUNTS,
     MAX_NODES, MAX_SHARES, MAX_STORED_PIECES, MAX_TOKENS, MAX_USERS, MAX_VERSIONS, Moment, Name,
-    NameFault, NodeId, NodeRow, ShareId, UserRow,
+    NameFault, NodeId, NodeRow, ShareId, UserId, UserRow,
 };
 use nf_defs::Seeker;
 use std::alloc::AllocError;
@@ -23,6 +23,8 @@ pub enum Denial {
     BadName(NameFault),
     /// 400: a field that the request goes by can't be read, or isn't there.
     BadParameter(Parameter),
+    /// 400: what is sent or asked for doesn't fit the upload.
+    Upload(UploadFault),
     /// 401: the caller shows no token that is known, or asks by a link for something else than files.
     Token,
     /// 403: the user in the path isn't the caller; or users and groups are asked about by who isn't a member of the group `admin`.
@@ -68,8 +70,6 @@ pub enum Denial {
     RunFull,
     /// 501: the message has a transfer coding.
     Coding,
-    /// 501: what is asked for isn't built yet.
-    NotBuilt,
     /// 503: there is no memory.
     Memory,
     /// 507: the step would pass a limit of the site.
@@ -84,6 +84,8 @@ pub enum Parameter {
     Destination,
     Overwrite,
     Depth,
+    /// The number of bytes that an upload has in all.
+    Total,
     /// The number in the path.
     Id,
     /// The moment in the path.
@@ -103,6 +105,17 @@ pub enum Parameter {
     /// What of a user is to be another.
     Key,
     Value,
+}
+
+/// What doesn't fit an upload.
+#[derive(Clone, Copy, PartialEq, Eq)]
+pub enum UploadFault {
+    /// The name of a chunk tells no number from 1 to `MAX_PIECES`.
+    Number,
+    /// The path isn't the one that the upload is for.
+    Destination,
+    /// The chunks don't have that many bytes.
+    Total { declared: u64, sum: u64 },
 }
 
 /// Why a target can't be acted upon.
@@ -188,8 +201,12 @@ pub enum Limit {
     Mounts,
     /// `MAX_VERSIONS` versions.
     Versions,
-    /// `MAX_STORED_PIECES` pieces of all nodes and versions, and 2^64 - 1 numbers of blobs ever given.
+    /// `MAX_STORED_PIECES` pieces of all nodes, versions and chunks, and 2^64 - 1 numbers of blobs ever given.
     Pieces,
+    /// `MAX_UPLOADS` uploads of a user.
+    Uploads,
+    /// `MAX_PENDING` bytes in the chunks of a user.
+    Pending,
 }
 
 impl Limit {
@@ -208,6 +225,8 @@ impl Limit {
             Limit::Mounts => MAX_MOUNTS as u32,
             Limit::Versions => MAX_VERSIONS as u32,
             Limit::Pieces => MAX_STORED_PIECES,
+            Limit::Uploads => MAX_UPLOADS as u32,
+            Limit::Pending => MAX_PENDING as u32,
         }
     }
 }
@@ -263,7 +282,18 @@ pub enum Goal {
     /// Send this content.
     Serve(Content),
     /// Store a body of that many bytes for who asked.
-    Store { by: By, key: LockKey, length: u64 },
+    Store {
+        by: By,
+        key: LockKey,
+        length: u64,
+    },
+    /// Store a body of that many bytes as the chunk of that number of an upload of the user's.
+    Chunk {
+        user: UserId,
+        dir: Name,
+        number: u16,
+        length: u64,
+    },
 }
 
 /// What a request that isn't refused is answered.
@@ -345,7 +375,7 @@ pub enum Report {
     Plain,
 }
 
-/// One of the things that a step does to nodes and to who owns them.
+/// One of the things that a step does to nodes, to who owns them, and to uploads.
 #[derive(Drop)]
 pub enum Deed {
     /// A node is put in the trash with all under it, as that item of its owner's, and their shares end.
@@ -372,6 +402,13 @@ pub enum Deed {
     Forget {
         node: NodeId,
         at: Moment,
+    },
+    /// These rows are put and dropped, each of them once.
+    Store(Changes),
+    /// An upload is there no more, nor are its chunks.
+    Abandon {
+        user: UserId,
+        dir: Name,
     },
 }
 
@@ -426,14 +463,21 @@ pub enum Allowed {
         key: LockKey,
         length: u64,
     },
-    /// These rows are put and dropped, each of them once: MKCOL, PUT at its End, and what becomes of a mount or is asked about shares or
+    /// PUT of a chunk, at its Begin: the seat is given a ticket to store a body of that many bytes.
+    Chunk {
+        user: UserId,
+        dir: Name,
+        number: u16,
+        length: u64,
+    },
+    /// These rows are put and dropped, each of them once: MKCOL, PUT at its End, a new upload, and what becomes of a mount or is asked about shares or
     /// people. Where shares or the trash are only told, there is none.
     Change {
         changes: Changes,
         blob: Option<BlobId>,
         report: Report,
     },
-    /// DELETE, MOVE, COPY, what is asked about the trash, and another quota: what is done, one after the other.
+    /// DELETE, MOVE, COPY, what is asked about the trash, the end of an upload, and another quota: what is done, one after the other.
     Deeds {
         deeds: Deeds,
         report: Report,

@@ -21,7 +21,7 @@ pub enum Outcome {
 pub enum Event {
     Begin { words: Words, request: Request },
     End(Outcome),
-    /// Of the trash of each user goes what the trash doesn't hold any more.
+    /// Of the trash of each user goes what the trash doesn't hold any more, and so do the uploads that nobody sent a chunk of for a day.
     Sweep,
 }
 

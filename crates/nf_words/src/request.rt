@@ -1,7 +1,7 @@
 //! Requests.
 
 ghost use Rattle.std.specs.Prelude.{◌≡◌};
-ghost use Rattle.nf_words.specs.Asked.{asked_about, asked_of, asked_of_trash, asked_of_version, asks_nothing};
+ghost use Rattle.nf_words.specs.Asked.{asked_about, asked_of, asked_of_trash, asked_of_upload, asked_of_version, asks_nothing};
 ghost use Rattle.nf_words.specs.declared.request.Wanted.TheVariants as wanted;
 
 use nf_base::{Digest, GroupId, Moment, Name, NodeId, Path, Perms, ShareId, UserId};
@@ -61,6 +61,39 @@ pub enum Wanted {
     Trash(TrashAsk),
     /// Something about the versions of a file.
     Version(VersionAsk),
+    /// Something about an upload in chunks.
+    Upload(UploadAsk),
+}
+
+/// What is asked about an upload, which is known by its name among those of the user who asks.
+#[derive(Drop)]
+pub enum UploadAsk {
+    /// A new upload of what is to be the file there. What is there is looked at when it is joined.
+    New {
+        user: Name,
+        dir: Name,
+        to: Path,
+    },
+    /// That a body of that many bytes is the chunk of it whose number the name tells. `to` is the path that it is for, where that is told.
+    Chunk {
+        user: Name,
+        dir: Name,
+        name: Name,
+        to: Option<Path>,
+        length: u64,
+    },
+    /// That it goes, with its chunks.
+    Drop {
+        user: Name,
+        dir: Name,
+    },
+    /// That what its chunks have, by rising number, is the content of the file there. `total` is the bytes that they have, where that is
+    /// told.
+    Join {
+        dir: Name,
+        spot: Spot,
+        total: Option<u64>,
+    },
 }
 
 /// What is asked about the versions of a file, which is known by its number. The user is the one who asks.
@@ -204,17 +237,21 @@ pub enum Making {
     Sent { node: NodeId },
     /// That version of a file, as its content again.
     Refilled { node: NodeId, at: Moment },
+    /// A file of what the chunks of an upload have, or that as the content of the file that is there.
+    Assembled,
 }
 
 /// What a request asks for, as the rules see it.
 #[derive(Drop)]
 pub struct Asked<'a> {
-    /// The user whose trash it is about, or who asks about versions.
+    /// The user whose trash it is about, or who asks about versions or an upload.
     pub user: Option<&'a Name>,
     /// The place of what it acts upon.
     pub source: Option<&'a Spot>,
     /// The place of what it makes, or stores over.
     pub target: Option<&'a Spot>,
+    /// The path that an upload is for, or a chunk.
+    pub intended: Option<&'a Path>,
     pub makes: Making,
     /// Whether what is at the source doesn't stay there.
     pub removes: bool,
@@ -232,6 +269,7 @@ impl<'a> Model for Asked<'a> {
       user = option_copied asked.user;
       source = option_copied asked.source;
       target = option_copied asked.target;
+      intended = option_copied asked.intended;
       makes = asked.makes;
       removes = asked.removes;
       overwrites = asked.overwrites;
@@ -247,6 +285,7 @@ impl<'a> Asked<'a> {
             user: None,
             source: None,
             target: None,
+            intended: None,
             makes: Making::Nothing,
             removes: false,
             overwrites: false,
@@ -294,6 +333,7 @@ impl Wanted {
             Wanted::People(_) => Asked::nothing(),
             Wanted::Trash(ask) => of_trash(ask),
             Wanted::Version(ask) => of_version(ask),
+            Wanted::Upload(ask) => of_upload(ask),
         }
     }
 }
@@ -338,6 +378,33 @@ fn of_version(ask: &VersionAsk) -> Asked<'_>
     }
 }
 
+fn of_upload(ask: &UploadAsk) -> Asked<'_>
+    ensures { result ≡ asked_of_upload ask.now }
+{
+    match ask {
+        UploadAsk::New { user, to, .. } => Asked {
+            user: Some(user),
+            intended: Some(to),
+            ..Asked::nothing()
+        },
+        UploadAsk::Chunk { user, to, .. } => Asked {
+            user: Some(user),
+            intended: to.as_ref(),
+            ..Asked::nothing()
+        },
+        UploadAsk::Drop { user, .. } => Asked {
+            user: Some(user),
+            ..Asked::nothing()
+        },
+        UploadAsk::Join { spot, .. } => Asked {
+            target: Some(spot),
+            makes: Making::Assembled,
+            overwrites: true,
+            ..Asked::nothing()
+        },
+    }
+}
+
 fn about(ask: &ShareAsk) -> Asked<'_>
     ensures { result ≡ asked_about ask.now }
 {
@@ -370,12 +437,11 @@ fn copies<'a>(source: &'a Spot, target: &'a Spot, overwrites: bool) -> Asked<'a>
     ensures { result ≡ asked_of (wanted.Copy source.now target.now overwrites) }
 {
     Asked {
-        user: None,
         source: Some(source),
         target: Some(target),
         makes: Making::Copied,
-        removes: false,
         overwrites,
+        ..Asked::nothing()
     }
 }
 

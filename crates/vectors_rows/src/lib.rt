@@ -15,3 +15,5 @@ mod people;
 mod retention;
 #[cfg(test)]
 mod rows;
+#[cfg(test)]
+mod uploads;

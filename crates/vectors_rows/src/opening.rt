@@ -1,8 +1,8 @@
 //! Lists of rows that no keeper has, which has each key once and in its order; and such as are too long for a case.
 
 use nf_base::{
-    BlobId, Content, Digest, GroupId, GroupRow, MetaRow, Moment, Name, NodeId, NodeKind, NodeRow,
-    Piece, Place, Row, ShareId, TokenRow, UserId, UserRow, VersionRow,
+    BlobId, Content, Digest, GroupId, GroupRow, ItemRow, MetaRow, Moment, Name, NodeId, NodeKind,
+    NodeRow, Piece, Place, Row, ShareId, TokenRow, UserId, UserRow, VersionRow,
 };
 use nf_opening::{Broken, Loaded, SiteFault, judge};
 use std::alloc::Global;
@@ -10,7 +10,7 @@ use std::process::Abort;
 use std::test::Fail;
 
 /// Numbers up to 9,999 were given, and moments up to a million.
-fn meta() -> Row {
+pub(crate) fn meta() -> Row {
     Row::Meta(MetaRow {
         next_user: UserId::new(10_000),
         next_group: GroupId::new(10_000),
@@ -63,17 +63,46 @@ fn file(alloc: Global) -> Result<Row, Fail> {
     }))
 }
 
-/// Three bytes that it had from that moment on.
-fn version(alloc: Global, at: u64) -> Result<Row, Fail> {
+/// Three bytes.
+fn three(alloc: Global) -> Result<Content, Fail> {
     let piece = Piece {
         blob: BlobId::new(1),
         size: 3,
         digest: Digest::new([7; 32]),
     };
+    Ok(Content::new(vec![in alloc; piece]?))
+}
+
+/// Three bytes that it had from that moment on.
+fn version(alloc: Global, at: u64) -> Result<Row, Fail> {
     Ok(Row::Version(VersionRow {
         node: NodeId::new(2),
         at: Moment::new(at),
-        content: Content::new(vec![in alloc; piece]?),
+        content: three(alloc)?,
+    }))
+}
+
+/// A file of the first user, with three bytes.
+fn filled(alloc: Global, id: u64, place: Place) -> Result<Row, Fail> {
+    Ok(Row::Node(NodeRow {
+        id: NodeId::new(id),
+        owner: UserId::new(1),
+        place,
+        name: Name::read(alloc, b"f")?,
+        kind: NodeKind::File,
+        content: three(alloc)?,
+        changed: Moment::new(5),
+    }))
+}
+
+/// An item of the first user, which was in the root.
+fn item(alloc: Global, node: u64) -> Result<Row, Fail> {
+    Ok(Row::Item(ItemRow {
+        node: NodeId::new(node),
+        owner: UserId::new(1),
+        name: Name::read(alloc, b"f")?,
+        from: NodeId::new(1),
+        at: Moment::new(5),
     }))
 }
 
@@ -107,6 +136,14 @@ enum Sketch {
     File,
     /// Of the file, with its moment.
     Version(u64),
+    /// Number of a folder in the trash.
+    Trashed(u64),
+    /// Number and parent of a file.
+    FilledIn(u64, u64),
+    /// Number of a file in the trash.
+    Filled(u64),
+    /// Of that node.
+    Item(u64),
     Token(u32),
 }
 
@@ -120,6 +157,10 @@ fn row(alloc: Global, sketch: Sketch) -> Result<Row, Fail> {
         Sketch::Inside(id, parent, name) => inside(alloc, id, parent, name.as_bytes()),
         Sketch::File => file(alloc),
         Sketch::Version(at) => version(alloc, at),
+        Sketch::Trashed(id) => folder(alloc, id, 1, Place::Trash, b"t"),
+        Sketch::FilledIn(id, parent) => filled(alloc, id, Place::Inside(NodeId::new(parent))),
+        Sketch::Filled(id) => filled(alloc, id, Place::Trash),
+        Sketch::Item(node) => item(alloc, node),
         Sketch::Token(user) => Ok(token(user)),
     }
 }
@@ -136,7 +177,7 @@ fn rows_of(alloc: Global, sketches: &[Sketch]) -> Result<Vec<Row>, Fail> {
 const FIRST: [Sketch; 3] = [Sketch::Meta, Sketch::User(1, "ann", 1), Sketch::Root];
 
 /// The rule that is broken and the row that breaks it, or 9 where none is.
-fn told(alloc: Global, rows: &[Row]) -> Result<(u8, usize), Fail> {
+pub(crate) fn told(alloc: Global, rows: &[Row]) -> Result<(u8, usize), Fail> {
     match judge(alloc, rows) {
         Ok(_) => Ok((9, 0)),
         Err(SiteFault::Broken(Broken { rule, index })) => Ok((rule, index)),
@@ -191,7 +232,7 @@ fn lists_that_no_keeper_has(rt: HostRuntime) -> Result<(), Fail> {
 }
 
 /// A user and a root of that number.
-fn add_user(alloc: Global, rows: &mut Vec<Row>, id: u32) -> Result<(), Fail> {
+pub(crate) fn add_user(alloc: Global, rows: &mut Vec<Row>, id: u32) -> Result<(), Fail> {
     let name = format!(in alloc; "u{id}")?;
     let root = u64::from(id);
     rows.push(user(alloc, id, name.as_bytes(), ANY, root)?)?;
@@ -239,6 +280,27 @@ fn versions_are_within_half_of_the_quota(rt: HostRuntime) -> Result<(), Fail> {
             Sketch::File,
             Sketch::Version(1),
             Sketch::Version(2),
+        ];
+        let rows = rows_of(alloc, &sketches)?;
+        assert!(rt; told(alloc, &rows)? == expected);
+    }
+    Ok(())
+}
+
+/// Two items of three bytes each are half of twelve; what is in a folder of the trash counts, though it stands before the folder.
+#[test]
+fn trashes_are_within_half_of_the_quota(rt: HostRuntime) -> Result<(), Fail> {
+    let alloc = rt.alloc();
+    for (quota, expected) in [(12, (9, 0)), (11, (8, 6))] {
+        let sketches = [
+            Sketch::Meta,
+            Sketch::Quota(quota),
+            Sketch::Root,
+            Sketch::FilledIn(2, 3),
+            Sketch::Trashed(3),
+            Sketch::Filled(4),
+            Sketch::Item(3),
+            Sketch::Item(4),
         ];
         let rows = rows_of(alloc, &sketches)?;
         assert!(rt; told(alloc, &rows)? == expected);

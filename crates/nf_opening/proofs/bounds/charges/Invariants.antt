@@ -1,6 +1,6 @@
 use Rattle.std.proofs.Common.{◌≡◌, ℕ, ◌^◌, ◌*◌, ◌<◌, ◌≤◌, sum_by, take}
 use Rattle.nf_words.specs.Charges.{counted_for}
-use Rattle.nf_opening.specs.Bounds.{total_of}
+use Rattle.nf_opening.specs.Totals.{total_of}
 use Rattle.nf_opening.proofs.bounds.charges.Given as goal
 
 -- what the nodes so far count for those who have versions, each for less than 2 ^ 64

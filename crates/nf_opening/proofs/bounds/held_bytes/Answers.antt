@@ -1,7 +1,7 @@
 use Rattle.std.proofs.Common.{rules, ◌≡◌, ◌<◌, ◌^◌, get_or, length, arith}
 use Rattle.nf_defs.specs.Prelude.{owner_of}
 use Rattle.nf_words.specs.Versions.{content_size}
-use Rattle.nf_opening.specs.Bounds.{total_of}
+use Rattle.nf_opening.specs.Totals.{total_of}
 use Rattle.nf_opening.proofs.Added.{few_more, owned_more}
 use Rattle.nf_opening.proofs.bounds.held_bytes.Goals as goal
 

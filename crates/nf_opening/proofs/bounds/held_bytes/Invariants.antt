@@ -1,7 +1,7 @@
 use Rattle.std.proofs.Common.{◌≡◌, ◌==◌, ℕ, ◌^◌, ◌*◌, ◌≤◌, filter, sum_by, take}
 use Rattle.nf_defs.specs.Prelude.{owner_of}
 use Rattle.nf_words.specs.Versions.{content_size}
-use Rattle.nf_opening.specs.Bounds.{total_of}
+use Rattle.nf_opening.specs.Totals.{total_of}
 use Rattle.nf_opening.proofs.bounds.held_bytes.Given as goal
 
 -- the bytes of the versions so far, each of less than 2 ^ 64

@@ -12,5 +12,5 @@ returns-clause-tables c =
     let rows = c.keep.ensures.rows stays (λ row told says. search rules) in
     let was = ap (λ (r : Rows). r.tables) c.self.view_is in
     ap (λ (versions : List VersionRow).
-    tables_in inside.meta inside.people inside.tree.rows inside.shares.rows inside.mounts.rows versions inside.items.rows) rows
+    tables_in inside.meta inside.people inside.tree.rows inside.shares.rows inside.mounts.rows versions inside.items.rows inside.uploads.uploads inside.uploads.chunks) rows
     ∙ ap (λ (u : Tables). record u { versions = versions_there u.nodes u.versions }) was

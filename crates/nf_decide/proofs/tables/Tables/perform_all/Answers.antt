@@ -13,7 +13,7 @@ returns c =
     let held = c.into_vec-deeds.ensures in
     let stamped : (Tables → Tables) = λ t. record t { meta = record t.meta { last = c.args.moment } } in
     let long : vec_len c.into_vec-deeds.result ≡ length c.into_vec-deeds.result.items = omega arith in
-    let some = deeds_some t deeds c.requires.bears (λ none.
+    let some = deeds_some t deeds c.requires.bears c.requires.order (λ none.
     false≢true (sym c.if-is_empty.false ∙ c.is_empty.ensures ∙ ap (λ (n : ℕ). n == 0) (long ∙ ap (λ (all : List Deed). length all) (held ∙ none)))) in
     c.stamp.ensures
     ∙ ap stamped (c.perform_each.ensures ∙ ap (deeds_done t) held)

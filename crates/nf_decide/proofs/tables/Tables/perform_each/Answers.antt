@@ -6,11 +6,10 @@ use Rattle.nf_defs.specs.Prelude.{Tables}
 use Rattle.nf_words.proofs.Known.{IsItem}
 use Rattle.nf_words.specs.Prelude.{deed_done, deeds_done, purges}
 use Rattle.nf_words.specs.declared.answer.Deed.{Deed}
-use Rattle.nf_decide.specs.Counts.{FitsRows}
 use Rattle.nf_decide.specs.Current.{BearsDeed, BearsDeeds}
 use Rattle.nf_decide.specs.declared.counts.RowCounts.{RowCounts}
-use Rattle.nf_decide.proofs.Deeds.{added_all, all_fit, first_fits, rest_fits}
-use Rattle.nf_decide.proofs.Runs.{bears_both, both_fit, done_both, item_is, run_more}
+use Rattle.nf_decide.proofs.Deeds.{all_fit, both_fit, FitInTurn}
+use Rattle.nf_decide.proofs.Runs.{bears_both, done_both, item_is, run_more}
 use Rattle.nf_decide.proofs.tables.Tables.perform_each.Goals as goal
 
 pub loop-deed-init : goal.loop-deed-init
@@ -23,8 +22,8 @@ loop-deed-init c =
       done = ap (deeds_done t) same;
       items = rw c.new-run.ensures.items (λ k d within. absurd (omega arith));
       borne = subst (λ (left : List Deed). BearsDeeds t left) (sym same) c.requires.bears;
-      room = subst (λ (left : List Deed). FitsRows t c.args.self.now.room (added_all left)) (sym same)
-          (all_fit t c.args.self.now.room c.args.deeds.items c.requires.bears c.requires.room);
+      room = subst (λ (left : List Deed). FitInTurn t c.args.self.now.room left) (sym same)
+          (all_fit t c.args.self.now.room c.args.deeds.items c.requires.bears c.requires.order c.requires.room);
     }
 
 pub purge_items-requires-clause-items : goal.purge_items-requires-clause-items
@@ -45,9 +44,9 @@ perform-requires-clause-room c =
     let run = c.loop-deed.run.items in
     let one = c.in-Some.deed in
     let rest = c.next.new.self.rest.items in
-    let room = subst (λ (left : List Deed). FitsRows t c.loop-deed.self.room (added_all (purges run ++ left))) c.in-Some.ensures.steps.0 c.loop-deed.invariant.room in
+    let room = subst (λ (left : List Deed). FitInTurn t c.loop-deed.self.room (purges run ++ left)) c.in-Some.ensures.steps.0 c.loop-deed.invariant.room in
     let after = c.purge_items.ensures.tables ∙ ap (λ (nodes : List ℕ). deeds_done t (purges nodes)) (c.gathers.ensures.left c.if-not-gathers.true) in
-    rw (after, c.purge_items.ensures.room) (first_fits (deeds_done t (purges run)) c.loop-deed.self.room one rest (both_fit t c.loop-deed.self.room (purges run) (one ∷ rest) room))
+    rw (after, c.purge_items.ensures.room) (both_fit t c.loop-deed.self.room (purges run) (one ∷ rest) room).0
 
 pub perform-requires-clause-bears : goal.perform-requires-clause-bears
 perform-requires-clause-bears c =
@@ -73,7 +72,7 @@ loop-deed-preserved c =
       done = ap (deeds_done t) same ∙ inv.done;
       items = subst (λ (nodes : List ℕ). All (IsItem t) nodes) (sym more.2) (All-push (IsItem t) run more.0 inv.items is.1);
       borne = subst (λ (left : List Deed). BearsDeeds t left) (sym same) inv.borne;
-      room = subst (λ (left : List Deed). FitsRows t c.loop-deed.self.room (added_all left)) (sym same) inv.room;
+      room = subst (λ (left : List Deed). FitInTurn t c.loop-deed.self.room left) (sym same) inv.room;
     }
 
 pub loop-deed-preserved-then-not-gathers : goal.loop-deed-preserved-then-not-gathers
@@ -89,15 +88,14 @@ loop-deed-preserved-then-not-gathers c =
     let after : c.perform.new.self.tables ≡ deed_done u one = c.perform.ensures.tables ∙ ap (λ (v : Tables). deed_done v one) purged in
     let borne = bears_both t (purges run) (one ∷ rest) (subst (λ (left : List Deed). BearsDeeds t (purges run ++ left)) steps inv.borne) in
     let fits = both_fit t c.loop-deed.self.room (purges run) (one ∷ rest)
-    (subst (λ (left : List Deed). FitsRows t c.loop-deed.self.room (added_all (purges run ++ left))) steps inv.room) in
-    let room = subst (λ (room : RowCounts). FitsRows u room (added_all (one ∷ rest))) (sym c.purge_items.ensures.room) fits in
+    (subst (λ (left : List Deed). FitInTurn t c.loop-deed.self.room (purges run ++ left)) steps inv.room) in
+    let room = subst (λ (room : RowCounts). FitInTurn u room (one ∷ rest)) (sym c.purge_items.ensures.room) fits in
     rw c.purge_items.ensures.run (record {
       done = ap (λ (v : Tables). deeds_done v rest) after ∙ sym (done_both t (purges run) (one ∷ rest))
           ∙ ap (λ (left : List Deed). deeds_done t (purges run ++ left)) (sym steps) ∙ inv.done;
       items = λ k d within. absurd (omega arith);
       borne = subst (λ (v : Tables). BearsDeeds v rest) (sym after) borne.1.1;
-      room = subst (λ (v : Tables). FitsRows v c.perform.new.self.room (added_all rest)) (sym after)
-          (rest_fits u c.purge_items.new.self.room c.perform.new.self.room one rest c.perform.ensures.room room);
+      room = subst (λ (v : Tables). FitInTurn v c.perform.new.self.room rest) (sym after) (room.1 c.perform.new.self.room c.perform.ensures.room);
     })
 
 pub returns : goal.returns

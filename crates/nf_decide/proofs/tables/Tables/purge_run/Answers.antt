@@ -19,7 +19,7 @@ returns-clause-tables c =
     let t : Tables = c.args.self.now.tables in
     let inside = c.self.inside in
     let tables : (List NodeRow → List ItemRow → Tables) =
-    λ nodes items. tables_in inside.meta inside.people nodes inside.shares.rows inside.mounts.rows inside.versions.rows items in
+    λ nodes items. tables_in inside.meta inside.people nodes inside.shares.rows inside.mounts.rows inside.versions.rows items inside.uploads.uploads inside.uploads.chunks in
     let there : (Tables → Tables) = λ u. record u { versions = versions_there u.nodes u.versions } in
     let was : tables inside.tree.rows inside.items.rows ≡ t = ap (λ (r : Rows). r.tables) c.self.view_is in
     let nodes : c.purge_all.new.self.rows ≡ without_all inside.tree.rows run =

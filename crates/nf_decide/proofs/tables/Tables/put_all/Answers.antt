@@ -6,6 +6,7 @@ use Rattle.nf_laws.proofs.Lists.{Rising, put_more}
 use Rattle.nf_decide.specs.Counts.{FitsRows}
 use Rattle.nf_decide.specs.Current.{added_of, AreBorne, IsBorne}
 use Rattle.nf_decide.specs.declared.counts.RowCounts.{RowCounts}
+use Rattle.nf_decide.proofs.Deeds.{higher_still}
 use Rattle.nf_decide.proofs.Putting.{borne_fits, borne_next, borne_rising, front_fits}
 use Rattle.nf_decide.proofs.tables.Tables.put_all.Goals as goal
 
@@ -48,4 +49,5 @@ loop-change-preserved c =
       borne = subst (λ (u : Tables). AreBorne next u rest) (sym after) borne.1;
       room = subst (λ (u : Tables). FitsRows u c.make.new.self.room (added_of next rest)) (sym after)
           (borne_fits next t change rest c.loop-change.self.room c.make.new.self.room inv.rising borne.0 c.make.ensures.room room);
+      higher = higher_still c.args.self.now.room c.loop-change.self.room c.make.new.self.room inv.higher c.make.ensures.room;
     }

@@ -1,7 +1,7 @@
 use Rattle.std.proofs.Common.{◌≡◌, ◌++◌}
 use Rattle.nf_defs.specs.Prelude.{put_all}
 use Rattle.nf_laws.proofs.Lists.{Rising}
-use Rattle.nf_decide.specs.Counts.{FitsRows}
+use Rattle.nf_decide.specs.Counts.{FitsRows, IsNoSmaller}
 use Rattle.nf_decide.specs.Current.{added_of, AreBorne}
 use Rattle.nf_decide.proofs.tables.Tables.put_all.Given as goal
 
@@ -14,4 +14,5 @@ invariant-loop-change l = record {
   rising : Rising l.self.tables.nodes;
   borne : AreBorne l.initial.self.tables.meta.next_node l.self.tables l.change-iterator.rest.items;
   room : FitsRows l.self.tables l.self.room (added_of l.initial.self.tables.meta.next_node l.change-iterator.rest.items);
+  higher : IsNoSmaller l.initial.self.room l.self.room;
 }
