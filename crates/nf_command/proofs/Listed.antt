@@ -4,7 +4,7 @@ use Rattle.std.specs.Prelude.{decimal}
 use Rattle.std.proofs.lemmas.List.{length-map}
 use Rattle.nf_command.specs.Behind.{AreNumbers}
 use Rattle.nf_command.specs.Command.{IsCommand, IsGenerate}
-use Rattle.nf_command.proofs.Words.{begins, generate_begins, serve_begins}
+use Rattle.nf_command.proofs.Words.{begins, serve_begins}
 
 is_generate : (seed count : List ℕ) (n m : ℕ) → AreNumbers seed count n m → IsGenerate (codes "generate" ∷ seed ∷ count ∷ []) n m
 is_generate seed count n m are = record {
@@ -36,8 +36,8 @@ are_listed words seed count (Some it) two are =
 -- there are two
 pub two_words : {S : Type 0} (f : S → List ℕ) (words : List S) (seed count : ℕ) → IsGenerate (codes "generate" ∷ map f words) seed count
     → (length words ≡ 2 → ⊥) → ⊥
-two_words f words seed count is no =
-    no (sym (length-map words f) ∙ ap (λ (ws : List (List ℕ)). length (drop 1 ws)) is.spelled)
+two_words f words seed count is never =
+    never (sym (length-map words f) ∙ ap (λ (ws : List (List ℕ)). length (drop 1 ws)) is.spelled)
 
 -- words behind `generate` are a command only as a `generate`
 pub only_generate : (words : List (List ℕ)) → ((seed count : ℕ) → IsGenerate (codes "generate" ∷ words) seed count → ⊥)
