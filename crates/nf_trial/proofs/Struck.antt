@@ -80,6 +80,10 @@ pub piece_struck : (a b : Book) (content : List Piece) (index : ℕ) (result : R
 piece_struck a b content index (Err fault.Store) gives lost = struck_risen a.strikes b.strikes gives.given
 piece_struck a b content index result gives lost = cc
 
+pub piece_lasts : (a b : Book) (content : List Piece) (index : ℕ) (result : Result (Vec ℕ Global) PieceFault)
+    → GivesPiece a b content index result → a.strikes ≤ b.strikes
+piece_lasts a b content index result gives = gives.waits.lasts.strikes
+
 -- ---- what is noted
 
 or_true : (x y : Bool) (P : Type 0) → (x ≡ true → P) → (y ≡ true → P) → (x || y) ≡ true → P

@@ -1,6 +1,6 @@
 //! A backend of which it is noted whether the store failed.
 
-ghost use Rattle.std.specs.Prelude.{◌≡◌, true, false};
+ghost use Rattle.std.specs.Prelude.{◌≡◌, ◌||◌, true, false};
 ghost use Rattle.nf_session.specs.Laws.{is_failed as failed};
 ghost use Rattle.nf_trial.specs.Noted.{is_lost as lost};
 ghost use Rattle.nf_trial.specs.Trials.{Risen};
@@ -72,33 +72,33 @@ impl<B: Backend + Drop> Backend for Noted<B> {
 
     fn begin(&mut self, now: Moment, words: Words, request: Request) -> Answer {
         let answer = self.backend.begin(now, words, request);
-        self.has_failed = self.has_failed || is_failed(&answer);
+        self.has_failed = with_answer(self.has_failed, &answer);
         answer
     }
 
     fn blob(&mut self, content: &Content, index: usize) -> Result<Vec<u8>, PieceFault> {
         let bytes = self.backend.blob(content, index);
-        self.has_failed = self.has_failed || is_lost(&bytes);
+        self.has_failed = with_piece(self.has_failed, &bytes);
         bytes
     }
 
     fn end(&mut self, now: Moment, ending: Ending) -> Answer {
         let answer = self.backend.end(now, ending);
-        self.has_failed = self.has_failed || is_failed(&answer);
+        self.has_failed = with_answer(self.has_failed, &answer);
         answer
     }
 }
 
-// Whether the store failed at what was answered.
-fn is_failed(answer: &Answer) -> bool
-    ensures { result ≡ failed answer.now }
+// Whether the store failed before, or at what was answered.
+fn with_answer(has_failed: bool, answer: &Answer) -> bool
+    ensures { result ≡ (has_failed || failed answer.now) }
 {
-    matches!(answer, Err(Denial::Store))
+    has_failed || matches!(answer, Err(Denial::Store))
 }
 
-// Whether it failed at a piece.
-fn is_lost(bytes: &Result<Vec<u8>, PieceFault>) -> bool
-    ensures { result ≡ lost bytes.now }
+// Whether it did before, or at a piece.
+fn with_piece(has_failed: bool, bytes: &Result<Vec<u8>, PieceFault>) -> bool
+    ensures { result ≡ (has_failed || lost bytes.now) }
 {
-    matches!(bytes, Err(PieceFault::Store))
+    has_failed || matches!(bytes, Err(PieceFault::Store))
 }
