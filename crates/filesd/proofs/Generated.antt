@@ -2,7 +2,7 @@
 use Rattle.std.proofs.Common.{◌≡◌, ◌∙◌, ℕ, zero, suc, ◌+◌, ◌<◌, ◌≤◌, ◌^◌, List, [], Option, None, Some, refl, sym, ap, subst, arith, inl, inr}
 use Rattle.std.specs.Option.{IfSome, IsSome}
 use Rattle.nf_base.specs.declared.rows.Row.{Row}
-use Rattle.nf_desk.specs.Desk.{Shown, TellsSite, blobs_in}
+use Rattle.nf_desk.specs.Desk.{Served, Shown, TellsSite, blobs_in, shown}
 use Rattle.nf_desk.specs.Opened.{Opens, first_blob, told_first as first_told}
 use Rattle.nf_desk.specs.Opening.{IsLoaded, OpensTo}
 use Rattle.nf_desk.specs.declared.first.First.{First}
@@ -11,6 +11,7 @@ use Rattle.nf_defs.specs.Prelude.{Blobs}
 use Rattle.nf_defs.specs.Tables.{Tables}
 use Rattle.nf_generate.specs.Messages.{moment_of}
 use Rattle.nf_keeper.specs.Keeping.{Stored}
+use Rattle.nf_keeper.specs.declared.keeper.Keeper.{Ghosts as KeeperOf}
 use Rattle.nf_outside.specs.Causes.{Rose}
 use Rattle.nf_outside.specs.Lent.{Lent, takes}
 use Rattle.nf_rows.specs.Spelling.{Raw}
@@ -31,6 +32,7 @@ use Rattle.nf_trial.specs.declared.trials.Tried.{Tried}
 use Rattle.nf_trial.specs.declared.trials.Tried.TheVariants as tried
 use Rattle.filesd.specs.Ending.{IsSafeStore}
 use Rattle.filesd.specs.Generate.{Generates, Lists, ListsDesk, TellsTried, told_demo}
+use Rattle.filesd.specs.Init.{Writes}
 use Rattle.filesd.specs.Next.{IsGoodStore, IsUndamaged, KeepsSafe}
 use Rattle.filesd.specs.Opening.{demo_blob}
 use Rattle.filesd.specs.Opening as opening
@@ -195,15 +197,15 @@ lists_desk seed count a b status desk None first opens rows blob same begun left
 lists_desk seed count a b status desk (Some site) first opens rows blob same begun left reads lent lists =
     let none : opens.raws ≡ [] = opens.fresh tt in
     let tells : desk.told ≡ told_demo a.told =
-        opens.told ∙ (ap (λ (raws : List Raw). first_told first raws a.told) none ∙ told_is first a.told rows blob) in
+    opens.told ∙ (ap (λ (raws : List Raw). first_told first raws a.told) none ∙ told_is first a.told rows blob) in
     let over : desk.site.opening ≡ demo_rows =
-        subst (λ (raws : List Raw). OpensTo first.rows raws desk.site.opening) none opens.rows ∙ rows in
+    subst (λ (raws : List Raw). OpensTo first.rows raws desk.site.opening) none opens.rows ∙ rows in
     let start : desk.start.told ≡ told_demo a.told = begun ∙ tells in
     let book : book_of desk.site desk.start.told desk.told desk.faults ≡ first_book demo_rows (told_demo a.told) a.faults =
-        ap (λ (z : Kept). book_of z desk.start.told desk.told desk.faults) (opens.begun ∙ ap opened_over over)
-        ∙ (ap (λ (o : Option Told). book_of (opened_over demo_rows) o desk.told desk.faults) start
-        ∙ (ap (λ (o : Option Told). book_of (opened_over demo_rows) (told_demo a.told) o desk.faults) tells
-        ∙ ap (λ (n : ℕ). book_of (opened_over demo_rows) (told_demo a.told) (told_demo a.told) n) same)) in
+    ap (λ (z : Kept). book_of z desk.start.told desk.told desk.faults) (opens.begun ∙ ap opened_over over)
+    ∙ (ap (λ (o : Option Told). book_of (opened_over demo_rows) o desk.told desk.faults) start
+    ∙ (ap (λ (o : Option Told). book_of (opened_over demo_rows) (told_demo a.told) o desk.faults) tells
+    ∙ ap (λ (n : ℕ). book_of (opened_over demo_rows) (told_demo a.told) (told_demo a.told) n) same)) in
     record {
       loaded = subst (IsLoaded a.told) none opens.loaded;
       tried = lists.tried;
@@ -218,3 +220,44 @@ lists_desk seed count a b status desk (Some site) first opens rows blob same beg
       read_faults = reads;
       lent = lent;
     }
+
+-- ---- with a keeper beside the output
+
+abbrev pub kept_beside : Outside (Unit {0}) → Option Told → ℕ → Outside (Unit {0})
+kept_beside a told faults = record a { told = told; faults = faults }
+
+writes_kept : (text : List ℕ) (a b : Outside (Unit {0})) (told then : Option Told) (before now : ℕ) (status : Status) → Writes text a b status
+    → Writes text (kept_beside a told before) (kept_beside b then now) status
+writes_kept text a b told then before now exit.Done writes = writes
+writes_kept text a b told then before now exit.WriteFault writes = writes
+writes_kept text a b told then before now other writes = absurd writes
+
+pub tells_kept : (count : ℕ) (t : Tables) (how : Tried) (a b : Outside (Unit {0})) (told then : Option Told) (before now : ℕ) (status : Status)
+    → TellsTried count t how a b status → TellsTried count t how (kept_beside a told before) (kept_beside b then now) status
+tells_kept count t (tried.All granted denied) a b told then before now exit.Memory tells = tells
+tells_kept count t (tried.All granted denied) a b told then before now status tells = writes_kept _ a b told then before now status tells
+tells_kept count t tried.Store a b told then before now status tells = tells
+tells_kept count t tried.Memory a b told then before now status tells = tells
+tells_kept count t (tried.Broken end) a b told then before now status tells = tells
+
+-- where there was no memory for a hub, what was handed out is the desk as it was opened
+pub lists_none : {K : Type 0} (k : KeeperOf K) (seed count : ℕ) (a : Outside (Unit {0})) (desk left : Served K) (status : Status)
+    (site : Option Held) (keeper : K) → 1 ≤ count → desk.start.value ≡ desk.keeper → left ≡ desk → status ≡ exit.Memory → site ≡ Some left.site
+    → keeper ≡ left.keeper → Leaves left.site.kept (k.told left.keeper)
+    → ListsDesk seed count (shown k desk) a (record a { told = k.told keeper; faults = k.faults keeper }) status site
+lists_none {K} k seed count a desk left status site keeper some begun same is handed its leaves =
+    let b : Outside (Unit {0}) = record a { told = k.told keeper; faults = k.faults keeper } in
+    let start : Option Told = k.told desk.start.value in
+    let first : Book = book_of desk.site.kept start (k.told desk.keeper) (k.faults desk.keeper) in
+    let last : first ≡ book_of left.site.kept start (k.told keeper) (k.faults keeper) =
+    ap (λ (d : Served K). book_of d.site.kept start (k.told d.keeper) (k.faults d.keeper)) (sym same)
+    ∙ ap (λ (z : K). book_of left.site.kept start (k.told z) (k.faults z)) (sym its) in
+    let opened : left.keeper ≡ desk.start.value = ap (λ (d : Served K). d.keeper) same ∙ sym begun in
+    subst (λ (s : Option Held). ListsDesk seed count (shown k desk) a b status s) (sym handed) (record {
+      tried = tried.Memory;
+      concludes = inl (record { number = 0; few = omega arith; granted = 0; answers = (sym last, refl) });
+      tells = (is, (refl, refl));
+      told = subst (λ (z : K). IfSome (k.told z) (TellsSite (blobs_in start) left.site.kept)) (sym its)
+          (subst (λ (z : K). IfSome (k.told left.keeper) (TellsSite (blobs_in (k.told z)) left.site.kept)) opened leaves.told);
+      begun = refl;
+    })

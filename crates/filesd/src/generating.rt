@@ -1,8 +1,11 @@
 //! The command that serves the messages of a seed, and tells what they left.
 
-ghost use Rattle.std.specs.Prelude.{◌≡◌, ◌≤◌, [], IfOk, IfSome};
+ghost use Rattle.std.specs.Prelude.{◌≡◌, ◌≤◌, [], None, IfOk, IfSome};
 ghost use Rattle.nf_desk.specs.Desk.{meanings, shown};
 ghost use Rattle.nf_generate.specs.declared.messages.TheConstants.{MAX_COUNT};
+ghost use Rattle.nf_hub.specs.Seats.{IsSeat, book, memory_of, steady};
+ghost use Rattle.nf_session.specs.Book.{held};
+ghost use Rattle.nf_trial.specs.Trials.{Concludes};
 ghost use Rattle.nf_turn.specs.Book.{IsFresh};
 ghost use Rattle.filesd.specs.Generate.{Generates, ListsDesk, TellsTried, lines_of, summary as spec_summary, user_line as spec_user_line};
 ghost use Rattle.filesd.specs.Init.{Writes};
@@ -16,7 +19,7 @@ use crate::status::{Status, status_of};
 use nf_base::MAX_SEATS;
 use nf_desk::{Desk, Opening, Unopened};
 use nf_http::send;
-use nf_hub::{Hub, Visit};
+use nf_hub::{Hub, Seat, Visit};
 use nf_keeper::Keeper;
 use nf_outside::Sink;
 use nf_routes::Routes;
@@ -83,9 +86,7 @@ fn serve_list<R: Wait, O: Sink, K: Keeper + Drop>(
 {
     match Hub::over(alloc, desk, MAX_SEATS) {
         Ok((hub, seat)) => {
-            let visit = Visit::new(rt, &hub, seat);
-            let (tried, visit) = try_list(alloc, routes, visit, asked.seed, asked.count);
-            let seat = visit.into_seat();
+            let (tried, seat) = serve_messages(rt, alloc, routes, &hub, seat, asked);
             let (site, keeper) = hub.close(seat);
             Finished {
                 status: tell(alloc, output, &site, asked.count, tried),
@@ -95,6 +96,28 @@ fn serve_list<R: Wait, O: Sink, K: Keeper + Drop>(
         }
         Err(desk) => handed_out(Status::Memory, desk),
     }
+}
+
+/// Serves the messages through a seat, which is theirs while they last.
+fn serve_messages<R: Wait, K: Keeper + Drop>(
+    rt: &R,
+    alloc: Global,
+    routes: &Routes,
+    hub: &Hub<K>,
+    seat: Seat<K>,
+    asked: Asked,
+) -> (Tried, Seat<K>)
+    requires seat { IsSeat K.Keeper hub.now seat }
+    requires idle { held (book K.Keeper hub.now seat) ≡ None }
+    requires count { asked.count ≤ MAX_COUNT }
+    ensures seat { IsSeat K.Keeper hub.now result.1 }
+    ensures idle { held (book K.Keeper hub.now result.1) ≡ None }
+    ensures steady { steady (memory_of K.Keeper hub.now result.1) ≡ steady (memory_of K.Keeper hub.now seat) }
+    ensures concludes { Concludes asked.seed asked.count (book K.Keeper hub.now seat) (book K.Keeper hub.now result.1) result.0 }
+{
+    let visit = Visit::new(rt, hub, seat);
+    let (tried, visit) = try_list(alloc, routes, visit, asked.seed, asked.count);
+    (tried, visit.into_seat())
 }
 
 /// Writes the summary, if all messages were served.

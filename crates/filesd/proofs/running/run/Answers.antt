@@ -449,7 +449,7 @@ returns-in-Ok-Some-Generate-clause-generate g c = λ seed count list.
     (subst (λ (n : ℕ). Generates n c.in-Ok-Some-Generate.count a b c.generate.result.status c.generate.result.site) (cc same) c.generate.ensures.generates))
 
 pub returns-in-Ok-Some-Generate-clause-safe : goal.returns-in-Ok-Some-Generate-clause-safe
-returns-in-Ok-Some-Generate-clause-safe g c = 
+returns-in-Ok-Some-Generate-clause-safe g c =
     generate_keeps c.in-Ok-Some-Generate.seed c.in-Ok-Some-Generate.count (outlet g.O.Ends g.K.Keeper c.args.output.now c.args.keeper)
     (outlet g.O.Ends g.K.Keeper c.generate.new.output c.generate.result.keeper) c.generate.result.status c.generate.result.site
     c.generate.ensures.generates c.generate.ensures.leaves
