@@ -226,19 +226,19 @@ lists_desk seed count a b status desk (Some site) first opens rows blob same beg
 abbrev pub kept_beside : Outside (Unit {0}) → Option Told → ℕ → Outside (Unit {0})
 kept_beside a told faults = record a { told = told; faults = faults }
 
-writes_kept : (text : List ℕ) (a b : Outside (Unit {0})) (told then : Option Told) (before now : ℕ) (status : Status) → Writes text a b status
-    → Writes text (kept_beside a told before) (kept_beside b then now) status
-writes_kept text a b told then before now exit.Done writes = writes
-writes_kept text a b told then before now exit.WriteFault writes = writes
-writes_kept text a b told then before now other writes = absurd writes
+writes_kept : (text : List ℕ) (a b : Outside (Unit {0})) (told later : Option Told) (before now : ℕ) (status : Status) → Writes text a b status
+    → Writes text (kept_beside a told before) (kept_beside b later now) status
+writes_kept text a b told later before now exit.Done writes = writes
+writes_kept text a b told later before now exit.WriteFault writes = writes
+writes_kept text a b told later before now other writes = absurd writes
 
-pub tells_kept : (count : ℕ) (t : Tables) (how : Tried) (a b : Outside (Unit {0})) (told then : Option Told) (before now : ℕ) (status : Status)
-    → TellsTried count t how a b status → TellsTried count t how (kept_beside a told before) (kept_beside b then now) status
-tells_kept count t (tried.All granted denied) a b told then before now exit.Memory tells = tells
-tells_kept count t (tried.All granted denied) a b told then before now status tells = writes_kept _ a b told then before now status tells
-tells_kept count t tried.Store a b told then before now status tells = tells
-tells_kept count t tried.Memory a b told then before now status tells = tells
-tells_kept count t (tried.Broken end) a b told then before now status tells = tells
+pub tells_kept : (count : ℕ) (t : Tables) (how : Tried) (a b : Outside (Unit {0})) (told later : Option Told) (before now : ℕ) (status : Status)
+    → TellsTried count t how a b status → TellsTried count t how (kept_beside a told before) (kept_beside b later now) status
+tells_kept count t (tried.All granted denied) a b told later before now exit.Memory tells = tells
+tells_kept count t (tried.All granted denied) a b told later before now status tells = writes_kept _ a b told later before now status tells
+tells_kept count t tried.Store a b told later before now status tells = tells
+tells_kept count t tried.Memory a b told later before now status tells = tells
+tells_kept count t (tried.Broken end) a b told later before now status tells = tells
 
 -- where there was no memory for a hub, what was handed out is the desk as it was opened
 pub lists_none : {K : Type 0} (k : KeeperOf K) (seed count : ℕ) (a : Outside (Unit {0})) (desk left : Served K) (status : Status)
