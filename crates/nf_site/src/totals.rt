@@ -1,6 +1,6 @@
 //! What users' files, trash and versions take up, and what shares grant them.
 
-ghost use Rattle.std.specs.Prelude.{◌≡◌, ◌*◌, ◌≤◌, length, filter_map, sum_by, IfOk};
+ghost use Rattle.std.specs.Prelude.{◌≡◌, ◌+◌, ◌*◌, ◌^◌, ◌<◌, ◌≤◌, ◌++◌, length, filter_map, option_to_list, sum_by, IfOk, OnOk};
 ghost use Rattle.nf_base.specs.declared.limits.TheConstants.{MAX_NODES, MAX_SHARES};
 ghost use Rattle.nf_words.specs.Prelude.{last_number};
 ghost use Rattle.nf_words.specs.Versions.{is_held_by as is_held};
@@ -41,15 +41,39 @@ pub(crate) fn totals_in(
     ensures users { IfOk result (λ totals. totals.users.items ≡ filter_map (counted_row tree.now.rows versions.now) rows.now) }
     ensures grants { IfOk result (λ totals. totals.grants ≡ sum_by (grants_by ground.now tree.now.rows) rows.now) }
 {
-    let mut users = Vec::new(alloc);
-    let mut grants = 0;
+    let mut totals = Totals {
+        users: Vec::new(alloc),
+        grants: 0,
+    };
     for row in rows {
-        if let Row::User(user) = row {
-            users.push(user_totals(tree, versions, user)?)?;
-            grants += grants_of(alloc, tree, ground, user.id)?;
-        }
+        add(alloc, tree, versions, ground, row, &mut totals)?;
     }
-    Ok(Totals { users, grants })
+    Ok(totals)
+}
+
+// Adds what a row says of a user, if it is one's.
+fn add(
+    alloc: Global,
+    tree: &Tree,
+    versions: &[VersionRow],
+    ground: &Ground<'_>,
+    row: &Row,
+    totals: &mut Totals,
+) -> Result<(), AllocError>
+    requires few { length ground.now.shares ≤ MAX_SHARES }
+    requires room { totals.old.grants + MAX_SHARES * MAX_NODES < 2 ^ 128 }
+    ensures users { OnOk result (totals.new.users.items ≡ totals.old.users.items ++ option_to_list (counted_row tree.now.rows versions.now row.now)) }
+    ensures grants { OnOk result (totals.new.grants ≡ totals.old.grants + grants_by ground.now tree.now.rows row.now) }
+    ensures few { OnOk result (grants_by ground.now tree.now.rows row.now ≤ MAX_SHARES * MAX_NODES) }
+{
+    match row {
+        Row::User(user) => {
+            totals.users.push(user_totals(tree, versions, user)?)?;
+            totals.grants += grants_of(alloc, tree, ground, user.id)?;
+            Ok(())
+        }
+        _ => Ok(()),
+    }
 }
 
 // What is under the user's root is what counts; the rest of what is the user's is in the trash.
