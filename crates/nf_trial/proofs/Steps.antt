@@ -1,17 +1,20 @@
 -- One message more.
 use Rattle.std.proofs.Common.{◌≡◌, ◌∙◌, ℕ, suc, ◌+◌, ◌<◌, ◌≤◌, Bool, true, false, List, [], Option, None, Some, sym, refl, ap, subst, arith, inl, inr}
 use Rattle.std.specs.Prelude.{if◌then◌else◌}
-use Rattle.nf_generate.specs.Messages.{moment_of}
+use Rattle.nf_generate.specs.Drawing.{state_behind}
+use Rattle.nf_generate.specs.Messages.{moment_of, passed}
+use Rattle.nf_generate.specs.declared.messages.Messages.{Messages}
 use Rattle.nf_http.specs.Told.{stream}
-use Rattle.nf_outside.specs.Lent.{Lent}
+use Rattle.nf_outside.specs.Lent.{Lent, takes}
 use Rattle.nf_session.specs.Book.{Book}
+use Rattle.nf_session.specs.Session.{Session}
 use Rattle.nf_session.specs.Steps.{Scene}
 use Rattle.nf_session.specs.declared.backend.Backend.{Ghosts as BackendOf}
 use Rattle.nf_session.specs.declared.ended.Ended.{Ended}
 use Rattle.nf_session.specs.declared.ended.Ended.TheVariants as ended
 use Rattle.nf_trial.specs.Noted.{Watched}
 use Rattle.nf_trial.specs.Single.{TriesOne}
-use Rattle.nf_trial.specs.Trials.{Answers, BreaksOff, Concludes, IsBroken, Risen, RunsOut, Serves, is_granted, is_want, message_at, scene_before}
+use Rattle.nf_trial.specs.Trials.{Answers, BreaksOff, Concludes, IsBroken, Risen, RunsOut, Serves, is_granted, is_want, message_at, says, scene_before, state_at}
 use Rattle.nf_trial.specs.declared.same.Same.{Same}
 use Rattle.nf_trial.specs.declared.trials.One.{One}
 use Rattle.nf_trial.specs.declared.trials.One.TheVariants as one
@@ -36,6 +39,27 @@ pub begins_at : (left written : Option (List ℕ)) (book : Book) (clock dice : S
     → scene_with left written book clock dice reads writes ≡ scene_before book bytes moment
 begins_at left written book clock dice reads writes bytes moment l w c d r f = λ i. scene_with (l i) (w i) book (c i) (d i) (r i) (f i)
 
+-- a session that begins there
+pub serves_by : (a b : Scene (Lent Same Same)) (book last : Book) (bytes : List ℕ) (moment : ℕ) (output : List ℕ) (end : Option Ended)
+    → a ≡ scene_before book bytes moment → b.book ≡ last → b.output ≡ Some output → Session (takes says says) a b end
+    → Serves book last bytes moment output end
+serves_by a b book last bytes moment output end begins is written session = record {
+  after = b;
+  session = subst (λ (x : Scene (Lent Same Same)). Session (takes says says) x b end) begins session;
+  book = is;
+  written = written;
+}
+
+-- ---- the list
+
+behind_at : (seed at : ℕ) → state_behind (state_at seed at) ≡ state_at seed (at + 1)
+behind_at seed at = let next : suc at ≡ at + 1 = omega arith in ap (state_at seed) next
+
+pub passes : (seed at : ℕ) (m next : Messages) → m ≡ record { index = at; state = state_at seed at } → next ≡ passed m
+    → next ≡ record { index = at + 1; state = state_at seed (at + 1) }
+passes seed at m next is after =
+    after ∙ (ap passed is ∙ ap (λ (s : ℕ). record { index = at + 1; state = s }) (behind_at seed at))
+
 -- ---- behind it
 
 module _ {B L : Type 0} (k : BackendOf B L) (first : Book) (before after : Watched B) (seed at granted : ℕ) (bytes : List ℕ) (moment : ℕ)
@@ -59,17 +83,17 @@ module _ {B L : Type 0} (k : BackendOf B L) (first : Book) (before after : Watch
     serves = serves_at result tries;
   }
 
-  pub one_more : (yes : Bool) → TriesOne k before after bytes moment (one.Answered yes)
-      → Answers seed first (at + 1) (k.book after.backend) (granted + (if yes then 1 else 0))
-  one_more yes tries =
+  pub one_more : (is : Bool) → TriesOne k before after bytes moment (one.Answered is)
+      → Answers seed first (at + 1) (k.book after.backend) (granted + (if is then 1 else 0))
+  one_more is tries =
       let next : suc at ≡ at + 1 = omega arith in
-      subst (λ (n : ℕ). Answers seed first n (k.book after.backend) (granted + (if yes then 1 else 0))) next (
+      subst (λ (n : ℕ). Answers seed first n (k.book after.backend) (granted + (if is then 1 else 0))) next (
         k.book before.backend,
         granted,
         tries.output,
         answers,
         subst (λ (e : Option Ended). Serves (k.book before.backend) (k.book after.backend) (message_at seed at) (moment_of at) tries.output e)
-            tries.judged.0 (serves_at (one.Answered yes) tries),
+            tries.judged.0 (serves_at (one.Answered is) tries),
         tries.judged.1,
         ap (λ (b : Bool). granted + (if b then 1 else 0)) tries.judged.2,
       )

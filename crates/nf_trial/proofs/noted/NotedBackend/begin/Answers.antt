@@ -12,6 +12,6 @@ invariant_of-self g c =
       has_failed = c.self.inside.has_failed;
     } in
     let after = c.begin-answer.new.self in
-    subst (λ (failed : Bool). IsNoted g.B.Backend (record old { backend = after; has_failed = failed })) (sym c.with_answer.ensures)
+    subst (λ (failed : Bool). IsNoted g.B.Backend (record old { backend = after; has_failed = failed })) (sym c.with_answer-self-inside.ensures)
     (still_noted g.B.Backend old after (is_failed c.begin-answer.result) c.self.invariant (begins_lasts _ _ _ _ _ _ c.begin-answer.ensures.begins)
     (begins_struck _ _ _ _ _ _ c.begin-answer.ensures.begins))

@@ -12,6 +12,6 @@ invariant_of-self g c =
       has_failed = c.self.inside.has_failed;
     } in
     let after = c.blob-bytes.new.self in
-    subst (λ (failed : Bool). IsNoted g.B.Backend (record old { backend = after; has_failed = failed })) (sym c.with_piece.ensures)
+    subst (λ (failed : Bool). IsNoted g.B.Backend (record old { backend = after; has_failed = failed })) (sym c.with_piece-self-inside.ensures)
     (still_noted g.B.Backend old after (is_lost c.blob-bytes.result) c.self.invariant (piece_lasts _ _ _ _ _ c.blob-bytes.ensures.gives)
     (piece_struck _ _ _ _ _ c.blob-bytes.ensures.gives))

@@ -12,6 +12,6 @@ invariant_of-self g c =
       has_failed = c.self.inside.has_failed;
     } in
     let after = c.end-answer.new.self in
-    subst (λ (failed : Bool). IsNoted g.B.Backend (record old { backend = after; has_failed = failed })) (sym c.with_answer.ensures)
+    subst (λ (failed : Bool). IsNoted g.B.Backend (record old { backend = after; has_failed = failed })) (sym c.with_answer-self-inside.ensures)
     (still_noted g.B.Backend old after (is_failed c.end-answer.result) c.self.invariant (ends_lasts _ _ _ _ _ c.end-answer.ensures.ends)
     (ends_struck _ _ _ _ _ c.end-answer.ensures.ends))
