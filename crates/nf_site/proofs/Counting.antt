@@ -144,7 +144,7 @@ counted_is : (t : Tables) (user : UserRow) → AreSound t → user_row t.users u
 counted_is t user sound there =
     let charge : bytes_under t.nodes user.root ≡ charge_of t user.id = sum_is_size t user.root sound ∙ root_charge t user.id user sound there in
     let trash : bytes_owned t.nodes user.id - bytes_under t.nodes user.root ≡ trash_of t user.id =
-    omega (arith, charge, items_charge t user.id sound) in
+    omega (arith, charge, trashed_is t user.id sound) in
     cc (charge, trash)
 
 same_all : (f g : UserRow → UserTotals) (users : List UserRow) → All (λ (user : UserRow). f user ≡ g user) users → map f users ≡ map g users
@@ -205,9 +205,3 @@ more_row nodes versions ground list at row users later grants after bound less i
       omega (arith, so.1, after_is, ap (sum_by h) next, sum_by-append h (take at list) (row ∷ []), sum_one h row),
       omega (arith, after_is, bound_more bound at grants (grants_by ground nodes row) few so.2),
     )
-
--- a row that isn't a user's says nothing
-pub is_other : (nodes : List NodeRow) (versions : List VersionRow) (ground : Ground) (row : Row) → ((user : UserRow) → row ≡ rows.User user → ⊥)
-    → (counted_row nodes versions row ≡ None) × (grants_by ground nodes row ≡ 0)
-is_other nodes versions ground (rows.User user) other = absurd (other user refl)
-is_other nodes versions ground row other = (refl, refl)
