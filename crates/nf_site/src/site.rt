@@ -298,10 +298,12 @@ impl Site {
         ensures users { IfOk result (λ totals. totals.users.items ≡ all_totals self.now.kept.state.tables) }
         ensures grants { IfOk result (λ totals. totals.grants ≡ all_grants self.now.kept.state.tables) }
     {
-        let rows = self.current.rows(alloc)?;
+        let list = self.current.rows(alloc)?;
+        let rows = list.rows();
         let view = self.current.view();
+        let versions = view.versions.rows();
         let ground = Ground::new(view.people, view.tree, view.shares);
-        totals_in(alloc, view.tree, view.versions.rows(), &ground, rows.rows())
+        totals_in(alloc, view.tree, versions, &ground, rows)
     }
 
     /// The numbers of the blobs that a row or a granted GET names. One that is named twice comes twice.

@@ -19,8 +19,8 @@ returns-clause-users c =
     IfOk-weaker c.totals_in.result _ _
     (λ totals e. e ∙ (users_told _ _ _ c.self.inside.current.state.tables
     (ap (λ (s : State). s.tables.nodes) is)
-    (c.rows-2.ensures.rows ∙ ap (λ (s : State). s.tables.versions) is)
-    (c.rows-3.ensures.rows ∙ c.in_ok-rows.ensures)
+    (c.rows-versions.ensures.rows ∙ ap (λ (s : State). s.tables.versions) is)
+    (c.rows-rows.ensures.rows ∙ c.in_ok-list.ensures)
     c.self.invariant.sound.rows c.self.invariant.ruled
     ∙ ap (λ (x : Held). all_totals x.kept.state.tables) c.self.view_is))
     c.totals_in.ensures.users
@@ -32,6 +32,6 @@ returns-clause-grants c =
     (λ totals e. e ∙ (grants_told _ _ _ c.self.inside.current.state.tables
     (c.new-ground.ensures ∙ ap (λ (s : State). ground_of s.tables) is)
     (ap (λ (s : State). s.tables.nodes) is)
-    (c.rows-3.ensures.rows ∙ c.in_ok-rows.ensures)
+    (c.rows-rows.ensures.rows ∙ c.in_ok-list.ensures)
     ∙ ap (λ (x : Held). all_grants x.kept.state.tables) c.self.view_is))
     c.totals_in.ensures.grants
