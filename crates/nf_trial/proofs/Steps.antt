@@ -1,5 +1,5 @@
 -- One message more.
-use Rattle.std.proofs.Common.{◌≡◌, ◌∙◌, ℕ, suc, ◌+◌, ◌<◌, ◌≤◌, Bool, true, false, List, [], Option, None, Some, sym, refl, ap, subst, arith, inl, inr}
+use Rattle.std.proofs.Common.{◌≡◌, ◌∙◌, ℕ, suc, ◌+◌, ◌<◌, Bool, List, [], Option, None, Some, sym, ap, subst, arith, inl, inr}
 use Rattle.std.specs.Prelude.{if◌then◌else◌}
 use Rattle.nf_generate.specs.Drawing.{state_behind}
 use Rattle.nf_generate.specs.Messages.{moment_of, passed}
@@ -11,10 +11,9 @@ use Rattle.nf_session.specs.Session.{Session}
 use Rattle.nf_session.specs.Steps.{Scene}
 use Rattle.nf_session.specs.declared.backend.Backend.{Ghosts as BackendOf}
 use Rattle.nf_session.specs.declared.ended.Ended.{Ended}
-use Rattle.nf_session.specs.declared.ended.Ended.TheVariants as ended
 use Rattle.nf_trial.specs.Noted.{Watched}
 use Rattle.nf_trial.specs.Single.{TriesOne}
-use Rattle.nf_trial.specs.Trials.{Answers, BreaksOff, Concludes, IsBroken, Risen, RunsOut, Serves, is_granted, is_want, message_at, says, scene_before, state_at}
+use Rattle.nf_trial.specs.Trials.{Answers, BreaksOff, Concludes, IsBroken, Risen, Serves, message_at, says, scene_before, state_at}
 use Rattle.nf_trial.specs.declared.same.Same.{Same}
 use Rattle.nf_trial.specs.declared.trials.One.{One}
 use Rattle.nf_trial.specs.declared.trials.One.TheVariants as one

@@ -1,6 +1,6 @@
 -- What the store failed at is a strike of the seat.
-use Rattle.std.proofs.Common.{◌≡◌, ◌∙◌, ℕ, ◌+◌, ◌^◌, ◌<◌, ◌≤◌, ◌||◌, Bool, true, false, List, Result, Ok, Err, Option, sym, refl, subst, ap, arith, inl, inr}
-use Rattle.std.specs.Prelude.{MatchBool, Vec, min}
+use Rattle.std.proofs.Common.{◌≡◌, ◌∙◌, ℕ, ◌≤◌, ◌||◌, Bool, true, false, List, Result, Err, sym, refl, subst, arith, inl, inr}
+use Rattle.std.specs.Prelude.{MatchBool, Vec}
 use Rattle.std.specs.declared.alloc.Global.{Global}
 use Rattle.nf_base.specs.declared.content.Piece.{Piece}
 use Rattle.nf_session.specs.Book.{Answer, Begins, Book, Ends, Enters, GivesPiece, Passes, Strikes, Struck, is_unmade, state_after}

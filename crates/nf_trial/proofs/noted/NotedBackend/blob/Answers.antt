@@ -1,5 +1,4 @@
 use Rattle.std.proofs.Common.{Bool, subst, sym}
-use Rattle.nf_session.specs.Laws.{is_failed}
 use Rattle.nf_trial.specs.Noted.{IsNoted, Watched, is_lost}
 use Rattle.nf_trial.proofs.Struck.{piece_lasts, piece_struck, still_noted}
 use Rattle.nf_trial.proofs.noted.NotedBackend.blob.Goals as goal

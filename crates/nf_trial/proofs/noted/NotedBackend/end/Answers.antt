@@ -1,6 +1,6 @@
 use Rattle.std.proofs.Common.{Bool, subst, sym}
 use Rattle.nf_session.specs.Laws.{is_failed}
-use Rattle.nf_trial.specs.Noted.{IsNoted, Watched, is_lost}
+use Rattle.nf_trial.specs.Noted.{IsNoted, Watched}
 use Rattle.nf_trial.proofs.Struck.{ends_lasts, ends_struck, still_noted}
 use Rattle.nf_trial.proofs.noted.NotedBackend.end.Goals as goal
 
