@@ -21,7 +21,7 @@ use Rattle.nf_decide.proofs.TrashSums.{trashed_is}
 use Rattle.nf_rules.specs.Ruled.{AreRuled}
 use Rattle.nf_words.specs.Charges.{charge_of}
 use Rattle.nf_words.specs.Sound.{AreSound}
-use Rattle.nf_site.specs.Totals.{all_grants, all_totals, counted, counted_row, grants_by, grants_in, totals_of, trash_of, versions_in}
+use Rattle.nf_site.specs.Totals.{all_grants, all_totals, counted, counted_row, grants_by, grants_in, totals_of, trash_of}
 use Rattle.nf_site.specs.declared.totals.UserTotals.{UserTotals}
 
 -- ---- rows of the other kinds

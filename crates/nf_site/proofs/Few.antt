@@ -1,6 +1,6 @@
 -- No more grants are there than shares.
 use Rattle.std.proofs.Common.{◌≡◌, ◌∙◌, ℕ, ◌+◌, ◌*◌, ◌<◌, ◌≤◌, List, [], ◌∷◌, Option, None, Some, length, get_or, take, sym, ap, arith}
-use Rattle.std.specs.Prelude.{filter_map, sum_by}
+use Rattle.std.specs.Prelude.{filter_map}
 use Rattle.std.specs.List.{cons_option}
 use Rattle.std.proofs.lemmas.List.Sums.{sum_by_more}
 use Rattle.nf_access.specs.Access.{by_chains, grant_of}

@@ -1,5 +1,5 @@
 -- What users' files, trash and versions take up, in bytes, and how many grants shares give them.
-use Rattle.std.specs.Prelude.{ℕ, ◌-◌, List, filter, length, map, sum_by, Option, None, Some, if◌then◌else◌}
+use Rattle.std.specs.Prelude.{ℕ, ◌-◌, List, length, map, sum_by, Option, None, Some, if◌then◌else◌}
 use Rattle.nf_access.specs.Access.{by_chains}
 use Rattle.nf_access.specs.Shares.{Ground, ground_of}
 use Rattle.nf_base.specs.declared.rows.NodeRow.{NodeRow}
