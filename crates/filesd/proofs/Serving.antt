@@ -118,3 +118,30 @@ pub runs_store : {C : Type 0} (reads : C → Taken → C → Type 0) (a b : Outs
     → status ≡ exit.StoreFault → Rose a.faults b.faults
 runs_store reads a b status None unopened is = unopened_by a b status exit.StoreFault unopened is
 runs_store reads a b status (Some site) serves is = absurd (no_store serves.end (sym serves.ended ∙ is))
+
+-- ---- what a session never ends with
+
+abbrev IsOfSession : Status → Type 0
+IsOfSession exit.Words = ⊥
+IsOfSession exit.DoorFault = ⊥
+IsOfSession other = Unit {0}
+
+of_session : (end : Option Ended) → IsOfSession (status_of end)
+of_session None = tt
+of_session (Some ended.Closed) = tt
+of_session (Some ended.BadMessage) = tt
+of_session (Some ended.RunFull) = tt
+of_session (Some (ended.Cut why)) = tt
+of_session (Some ended.ReadFault) = tt
+of_session (Some ended.WriteFault) = tt
+of_session (Some ended.Memory) = tt
+
+pub runs_words : {C : Type 0} (reads : C → Taken → C → Type 0) (a b : Outside C) (status : Status) (site : Option Held) → Runs reads a b status site
+    → status ≡ exit.Words → ⊥
+runs_words reads a b status None unopened is = unopened_by a b status exit.Words unopened is
+runs_words reads a b status (Some site) serves is = subst IsOfSession (sym serves.ended ∙ is) (of_session serves.end)
+
+pub runs_door : {C : Type 0} (reads : C → Taken → C → Type 0) (a b : Outside C) (status : Status) (site : Option Held) → Runs reads a b status site
+    → status ≡ exit.DoorFault → ⊥
+runs_door reads a b status None unopened is = unopened_by a b status exit.DoorFault unopened is
+runs_door reads a b status (Some site) serves is = subst IsOfSession (sym serves.ended ∙ is) (of_session serves.end)

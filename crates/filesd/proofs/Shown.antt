@@ -13,7 +13,7 @@ use Rattle.nf_base.specs.declared.perms.Act.TheVariants.{Read}
 use Rattle.nf_defs.specs.Prelude.{holder_of, user_row}
 use Rattle.nf_defs.specs.declared.Seeker.TheVariants.{User}
 use Rattle.nf_defs.specs.declared.Found.TheVariants.{At}
-use Rattle.nf_words.specs.Prelude.{access_of, acts_rule, allowed_of, answer_to, asked_of, asker_of, answered_by, blob_for, Call, call_of, caller_row, content_in, exists_rule, first_refused, forbidden_rule, found, given, limit_rule, locked_rule, mounted, named_rule, needs_between, not_you_rule, opened, overwrite_rule, place_rule, places_by, places_of, quota_rule, room_rule, root_of, rules, seeker_of, sharing_rule, source_refused, target_rule, token_rule, unless_refused, version_rule, Way, way_by, way_of}
+use Rattle.nf_words.specs.Prelude.{access_of, acts_rule, allowed_of, answer_to, asked_of, asker_of, answered_by, blob_for, Call, call_of, caller_row, content_in, exists_rule, first_refused, forbidden_rule, found, given, limit_rule, locked_rule, mounted, named_rule, needs_between, not_you_rule, opened, overwrite_rule, place_rule, places_by, places_of, quota_rule, room_rule, root_of, rules, seeker_of, sharing_rule, source_refused, target_rule, token_rule, unless_refused, upload_rule, version_rule, Way, way_by, way_of}
 use Rattle.nf_words.specs.declared.answer.Denial.{Denial}
 use Rattle.nf_words.specs.declared.answer.Denial.TheVariants as denial
 use Rattle.nf_words.specs.declared.answer.Goal.TheVariants.{Serve}
@@ -55,7 +55,7 @@ holds = ap (λ (rows : List TokenRow). holder_of rows secret) tokens ∙ holder_
 hello_granted : (seat now : ℕ) (words : Words)
     → answer_to (opened demo_rows) seat now (Begin words (get_of (Token secret) spot))
     ≡ Ok (Granted (Serve (content_in (blob_for 1 6) (sha256 hello) 6)))
-unfolding token_rule not_you_rule forbidden_rule place_rule named_rule acts_rule version_rule exists_rule target_rule overwrite_rule sharing_rule locked_rule limit_rule room_rule quota_rule
+unfolding token_rule not_you_rule forbidden_rule place_rule named_rule acts_rule version_rule exists_rule target_rule overwrite_rule sharing_rule upload_rule locked_rule limit_rule room_rule quota_rule
 hello_granted seat now words =
     let s = opened demo_rows in
     let access = access_of s in
@@ -89,6 +89,7 @@ hello_granted seat now words =
       target = refl;
       overwrite = refl;
       sharing = refl;
+      upload = refl;
       locked = refl;
       limit = refl;
       room = refl;

@@ -8,17 +8,16 @@ use Rattle.std.proofs.lemmas.Option.{none-some}
 use Rattle.nf_base.specs.declared.limits.TheConstants.{MAX_BODY, MAX_ENTRIES}
 use Rattle.nf_defs.specs.Prelude.{Access, AreRising, Tables}
 use Rattle.nf_words.specs.Prelude.{access_of, answer_at, answer_to, answered_by, blob_to, decision_of, end_refusal, ends_at, ends_goal, goal_at, IsSound, MayAsk, MayCome, MayEnd, MayWant, reply_to, State, ticket_of, unless_refused}
-use Rattle.nf_words.specs.Endings.{stored_at as stores_at}
+use Rattle.nf_words.specs.Endings.{chunk_refusal, chunk_stored, stored_at as stores_at}
 use Rattle.nf_words.proofs.Steps.{reports_nothing}
 use Rattle.nf_words.specs.declared.answer.Allowed.{Allowed}
 use Rattle.nf_words.specs.declared.answer.Allowed.TheVariants as allowed
-use Rattle.nf_words.specs.declared.answer.By.{By}
 use Rattle.nf_words.specs.declared.answer.LockKey.{LockKey}
 use Rattle.nf_words.specs.declared.answer.LockKey.TheVariants.{Node, Slot}
 use Rattle.nf_words.specs.declared.answer.Denial.{Denial}
 use Rattle.nf_words.specs.declared.answer.Denial.TheVariants as denial
 use Rattle.nf_words.specs.declared.answer.Goal.{Goal}
-use Rattle.nf_words.specs.declared.answer.Goal.TheVariants.{Serve, Store}
+use Rattle.nf_words.specs.declared.answer.Goal.TheVariants.{Chunk, Serve, Store}
 use Rattle.nf_words.specs.declared.answer.Reply.{Reply}
 use Rattle.nf_words.specs.declared.answer.Reply.TheVariants as reply
 use Rattle.nf_words.specs.declared.history.Entry.{Entry}
@@ -124,27 +123,45 @@ is_made s n now event (Err refusal) is = here (is_unmade_by refusal) refl
     here false e = refl
     here true e = absurd (never_failed s n now event refusal (unmade_fails refusal e) (sym is))
 
-put_short : (t : Tables) (now : ℕ) (act : Allowed) (by : By) (key : LockKey) (size : ℕ) → Known t now act
-    → reply_to act ≡ reply.Granted (Store by key size) → size ≤ MAX_BODY
-put_short t now (allowed.Put other lock length) by key size known is =
-    let same : length ≡ size = cc in subst (λ (n : ℕ). n ≤ MAX_BODY) same known.short
-put_short t now (allowed.Change changes blob report) by key size known is = absurd (reports_nothing report (Store by key size) is)
-put_short t now (allowed.Deeds deeds report) by key size known is = absurd (reports_nothing report (Store by key size) is)
-put_short t now other by key size known is = absurd (cc)
+same_goal : (one other : Goal) → reply.Granted one ≡ reply.Granted other → one ≡ other
+same_goal one other is = cc
+
+-- a goal that wants a body wants a short one
+abbrev IsShortGoal : Goal → Type 0
+IsShortGoal (Serve content) = Unit {0}
+IsShortGoal (Store by key size) = size ≤ MAX_BODY
+IsShortGoal (Chunk user dir number size) = size ≤ MAX_BODY
+
+goal_short : (t : Tables) (now : ℕ) (act : Allowed) (goal : Goal) → Known t now act → reply_to act ≡ reply.Granted goal → IsShortGoal goal
+goal_short t now (allowed.Get node content) goal known is =
+    subst IsShortGoal (same_goal (Serve content) goal is) tt
+goal_short t now (allowed.Put by lock length) goal known is =
+    subst IsShortGoal (same_goal (Store by lock length) goal is) known.short
+goal_short t now (allowed.Chunk user dir number length) goal known is =
+    subst IsShortGoal (same_goal (Chunk user dir number length) goal is) known.short
+goal_short t now (allowed.Change changes blob report) goal known is = absurd (reports_nothing report goal is)
+goal_short t now (allowed.Deeds deeds report) goal known is = absurd (reports_nothing report goal is)
+goal_short t now (allowed.List listing) goal known is = absurd (cc)
+goal_short t now allowed.Close goal known is = absurd (cc)
 
 ok_same : (x y : Reply) → ◌≡◌ {A = Answer} (Ok x) (Ok y) → x ≡ y
 ok_same x y is = cc
 
-granted_short : (t : Tables) (now : ℕ) (decision : Result Allowed Denial) (by : By) (key : LockKey) (size : ℕ)
-    → ((act : Allowed) → decision ≡ Ok act → Known t now act) → answered_by decision ≡ Ok (reply.Granted (Store by key size)) → size ≤ MAX_BODY
-granted_short t now (Ok act) by key size known is = put_short t now act by key size (known act refl) (ok_same (reply_to act) _ is)
-granted_short t now (Err refusal) by key size known is = absurd (cc)
+granted_short : (t : Tables) (now : ℕ) (decision : Result Allowed Denial) (goal : Goal) → ((act : Allowed) → decision ≡ Ok act → Known t now act)
+    → answered_by decision ≡ Ok (reply.Granted goal) → IsShortGoal goal
+granted_short t now (Ok act) goal known is = goal_short t now act goal (known act refl) (ok_same (reply_to act) _ is)
+granted_short t now (Err refusal) goal known is = absurd (cc)
+
+of_goal : (goal : Goal) → IsShortGoal goal → IsOfBegin (Ok (reply.Granted goal))
+of_goal (Serve content) short = tt
+of_goal (Store by key size) short = short
+of_goal (Chunk user dir number size) short = short
 
 of_begin : (seat : ℕ) (s : State) (now : ℕ) (words : Words) (request : Request) (answer : Answer) → IsSound s → MayAsk s seat (Begin words request)
     → answer ≡ answer_to s seat now (Begin words request) → IsOfBegin answer
-of_begin seat s now words request (Ok (reply.Granted (Store by key size))) sound asked is =
-    granted_short s.tables now (decision_of s seat now (Begin words request)) by key size
-    (λ act done. known_change s seat now (Begin words request) act sound asked done) (sym is)
+of_begin seat s now words request (Ok (reply.Granted goal)) sound asked is =
+    of_goal goal (granted_short s.tables now (decision_of s seat now (Begin words request)) goal
+    (λ act done. known_change s seat now (Begin words request) act sound asked done) (sym is))
 of_begin seat s now words request (Ok reply.Closed) sound asked is = absurd (begins_open s seat now words request (sym is))
 of_begin seat s now words request other sound asked is = tt
 
@@ -214,32 +231,32 @@ ends_empty seat a l now outcome answer h sound rising desk empty makes = record 
 
 -- ---- the End of a body
 
--- it isn't answered as a Begin is, nor as one that brings nothing
-body_goal : (goal : Option Goal) (body : List ℕ) → MayEnd goal (Body (sha256 body) (length body))
-    → (by : By) × (key : LockKey) × (size : ℕ) × (goal ≡ Some (Store by key size))
-body_goal None body may = absurd may
-body_goal (Some (Serve content)) body may = absurd may
-body_goal (Some (Store by key size)) body may = (by, key, size, refl)
-
--- what stores a body makes or replaces a file
+-- it isn't answered as a Begin is, nor as one that brings nothing: what stores a body makes or replaces a file, or a chunk
 stored_of_body : (refusal : Option Denial) (t : Tables) (now : ℕ) (key : LockKey) (digest : List ℕ) (size : ℕ)
     → IsOfBody (answered_by (unless_refused refusal (stores_at t now key digest size)))
 stored_of_body None t now (Node node) digest size = tt
 stored_of_body None t now (Slot folder name) digest size = tt
 stored_of_body (Some refusal) t now key digest size = tt
 
-of_body : (seat : ℕ) (s : State) (now : ℕ) (body : List ℕ) (by : By) (key : LockKey) (size : ℕ) (answer : Answer)
-    → goal_at s seat ≡ Some (Store by key size) → answer ≡ answer_to s seat now (event_of_body body) → IsOfBody answer
-of_body seat s now body by key size answer has is =
-    subst IsOfBody (sym is)
-    (subst (λ (goal : Option Goal). IsOfBody (answered_by (ends_at (access_of s) s.tables now (Body (sha256 body) (length body)) goal))) (sym has)
-    (stored_of_body (end_refusal (access_of s) s.tables now by key (length body)) s.tables now key (sha256 body) (length body)))
+chunk_of_body : (refusal : Option Denial) (t : Tables) (now user : ℕ) (dir : List ℕ) (number : ℕ) (digest : List ℕ) (size : ℕ)
+    → IsOfBody (answered_by (unless_refused refusal (chunk_stored t now user dir number digest size)))
+chunk_of_body None t now user dir number digest size = tt
+chunk_of_body (Some refusal) t now user dir number digest size = tt
+
+goal_of_body : (goal : Option Goal) (access : Access) (t : Tables) (now : ℕ) (digest : List ℕ) (size : ℕ)
+    → MayEnd goal (Body digest size) → IsOfBody (answered_by (ends_at access t now (Body digest size) goal))
+goal_of_body None access t now digest size may = absurd may
+goal_of_body (Some (Serve content)) access t now digest size may = absurd may
+goal_of_body (Some (Store by key wanted)) access t now digest size may =
+    stored_of_body (end_refusal access t now by key size) t now key digest size
+goal_of_body (Some (Chunk user dir number wanted)) access t now digest size may =
+    chunk_of_body (chunk_refusal t user dir number size) t now user dir number digest size
 
 marked_of_body : (seat : ℕ) (k : Kept) (now : ℕ) (body : List ℕ) (m : Mark) (answer : Answer)
     → MayAsk k.state seat (event_of_body body) → answer ≡ answer_at k.state (entry_at seat k now (event_of_body body) m) m → IsOfBody answer
 marked_of_body seat k now body mark.Answered answer asked is =
-    let has = body_goal (goal_at k.state seat) body asked in
-    of_body seat k.state (moment_of k.state now) body has.0 has.1 has.2 answer has.3 is
+    subst IsOfBody (sym is)
+    (goal_of_body (goal_at k.state seat) (access_of k.state) k.state.tables (moment_of k.state now) (sha256 body) (length body) asked)
 marked_of_body seat k now body unmade answer asked is = subst IsOfBody (sym is) tt
 
 -- an answer that isn't a refusal is of an entry whose step was made

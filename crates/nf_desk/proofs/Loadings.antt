@@ -1,9 +1,9 @@
 -- What the rows that are loaded, or the first ones, make of a desk.
-use Rattle.std.proofs.Common.{◌≡◌, ◌≢◌, ◌⊎◌, inl, inr, ℕ, zero, suc, ◌+◌, ◌<◌, ◌==◌, Bool, false, List, [], ◌∷◌, ◌++◌, length, get_or, map, take, replicate, refl, sym, ap, subst, ◌∙◌, arith}
-use Rattle.std.specs.Prelude.{Option, None, Some, sum, Result, Ok, Err, IfOk, OnOk}
+use Rattle.std.proofs.Common.{◌≡◌, ◌≢◌, ◌⊎◌, inl, inr, ℕ, zero, suc, ◌+◌, ◌<◌, ◌==◌, Bool, true, false, List, [], ◌∷◌, ◌++◌, length, get_or, map, take, replicate, refl, sym, ap, subst, ◌∙◌, arith}
+use Rattle.std.specs.Prelude.{Option, None, Some, option_map, sum, Result, Ok, Err, IfOk, OnOk}
 use Rattle.std.specs.List.{All, Contains}
 use Rattle.std.specs.Option.{IfSome}
-use Rattle.std.proofs.lemmas.Bool.{cases_lt, false≢true}
+use Rattle.std.proofs.lemmas.Bool.{cases_lt, eqb-true, false≢true}
 use Rattle.std.proofs.lemmas.List.{get_or_past, get_or-map, get_or-replicate, length-map, length-take-le, map-append, take_more}
 use Rattle.std.proofs.lemmas.List.Elements.{All-contains_itself, All-push}
 use Rattle.std.proofs.lemmas.Option.{slice_get_read}
@@ -11,7 +11,7 @@ use Rattle.nf_base.specs.declared.limits.TheConstants.{MAX_SEATS}
 use Rattle.nf_base.specs.declared.changes.Change.TheVariants.{Put}
 use Rattle.nf_base.specs.declared.rows.Row.{Row}
 use Rattle.nf_defs.specs.Tables.{tables_of}
-use Rattle.nf_keeper.specs.Keeping.{AreTold}
+use Rattle.nf_keeper.specs.Keeping.{AreTold, applied}
 use Rattle.nf_keeper.specs.declared.keeper.Keeper.{Ghosts as KeeperOf}
 use Rattle.nf_laws.proofs.Opening.{opens_whole}
 use Rattle.nf_opening.specs.Judged.{IsFaultOf}
@@ -28,7 +28,7 @@ use Rattle.nf_told.proofs.Follows.{told_again, told_begins}
 use Rattle.nf_told.specs.Told.{AreFit, AreRisingRaws, FitsChange, Told, told_all, told_of}
 use Rattle.nf_desk.specs.Desk.{IsCounted, IsDesk, Shown, TellsSite, blobs_in, failures, first_blob_of, risen, strikes_of, tale}
 use Rattle.nf_desk.specs.Faults.{of_site}
-use Rattle.nf_desk.specs.Opened.{AreUnread, IsFault, IsFresh, IsKept, IsSpelled, IsUnreadAt, MayBegin, MayHaveRows, Opens, first_of, told_first}
+use Rattle.nf_desk.specs.Opened.{AreUnread, IsFault, IsFresh, IsKept, IsSpelled, IsUnreadAt, MayBegin, MayHaveRows, Opens, first_blob, first_of, told_first}
 use Rattle.nf_desk.specs.Opening.{AreSpelled, BeginsWithMeta, IsLoaded, IsUnread, OpensTo}
 use Rattle.nf_desk.specs.declared.first.First.{First}
 use Rattle.nf_desk.specs.declared.first.OpenFault.{OpenFault}
@@ -178,6 +178,11 @@ pub are_some : (raws shown : List Raw) (empty : Bool) → empty ≡ (length show
 are_some raws shown empty is same some = λ none.
     false≢true (sym some ∙ is ∙ ap (λ (these : List Raw). length these == 0) (same ∙ none))
 
+pub are_none : (raws shown : List Raw) (empty : Bool) → empty ≡ (length shown == 0) → shown ≡ raws → empty ≡ true → raws ≡ []
+are_none [] shown empty is same none = refl
+are_none (raw ∷ raws) shown empty is same none =
+    absurd (omega (arith, eqb-true (length shown) 0 (sym is ∙ none), ap (λ (these : List Raw). length these) same))
+
 -- a Put fits where its row does
 puts_fit : (all : List Row) → All FitsChange (map Put all) → All Fits all
 puts_fit all fits = λ k d within.
@@ -192,6 +197,34 @@ first_fit first (Err why) is fits = tt
 pub may_have : (opening : Opening) → ((first : First) × (opening ≡ Either first)) ⊎ (opening ≡ over.Kept) → MayHaveRows opening
 may_have opening (inl either) = subst MayHaveRows (sym either.1) tt
 may_have opening (inr kept) = subst MayHaveRows (sym kept) tt
+
+-- the first rows are those of an opening that has some
+of_first : (opening : Opening) (first : First) → (opening ≡ Fresh first) ⊎ (opening ≡ Either first)
+    → (IsKept opening → ⊥) × (first ≡ first_of opening)
+of_first opening first (inl fresh) =
+    (λ kept. subst IsKept fresh kept, sym (ap first_of fresh))
+of_first opening first (inr either) =
+    (λ kept. subst IsKept either kept, sym (ap first_of either))
+
+-- over the first rows, where none were loaded
+pub opens_first : (opening : Opening) (before loaded after : Option Told) (raws : List Raw) (first : First) (result : Result Held OpenFault)
+    → raws ≡ [] → AreTold before raws → AreRisingRaws raws → loaded ≡ before → (opening ≡ Fresh first) ⊎ (opening ≡ Either first)
+    → IfOk result (λ site. site.kept ≡ opened_over first.rows)
+    → OnOk result (after ≡ option_map (applied (map Put first.rows) (first_blob first)) loaded)
+    → IfOk result (λ site. Opens opening before after site.kept)
+opens_first opening before loaded after raws first (Err why) none told rising still of is made = tt
+opens_first opening before loaded after raws first (Ok site) none told rising still of is made =
+    let its = of_first opening first of in
+    let rows = ap (λ (k : Kept). k.opening) is in
+    record {
+      raws = [];
+      loaded = record { told = subst (AreTold before) none told; rising = subst AreRisingRaws none rising };
+      fresh = λ _. refl;
+      kept = λ kept. absurd (its.0 kept);
+      rows = rows ∙ ap (λ (f : First). f.rows) its.1;
+      begun = is ∙ ap opened_over (sym rows);
+      told = made ∙ (λ i. option_map (applied (map Put (its.1 i).rows) (first_blob (its.1 i))) (still i));
+    }
 
 -- over the rows that were loaded
 pub opens_loaded : (opening : Opening) (before after : Option Told) (raws : List Raw) (all : List Row) (k : Kept) → raws ≢ []

@@ -17,7 +17,7 @@ use Rattle.nf_site.specs.Kept.{Kept}
 use Rattle.nf_told.specs.Told.{Told}
 use Rattle.nf_words.specs.Prelude.{contents_of, row_content, State}
 use Rattle.nf_words.specs.declared.answer.Goal.{Goal}
-use Rattle.nf_words.specs.declared.answer.Goal.TheVariants.{Serve, Store}
+use Rattle.nf_words.specs.declared.answer.Goal.TheVariants.{Chunk, Serve, Store}
 use Rattle.nf_words.specs.declared.history.Ticket.{Ticket}
 use Rattle.nf_desk.specs.Desk.{TellsSite, blobs_in}
 
@@ -143,6 +143,7 @@ module _ (opening : List Row) (start : Blobs) (s : State) (blobs : Blobs) where
   goal_still (Serve content) named held =
       contents_still content (λ piece has. named piece.blob (its_number content piece has)) held
   goal_still (Store by key length) named held = tt
+  goal_still (Chunk user dir number length) named held = tt
 
   pub whole_still : IsWhole opening start s blobs → IsWhole opening start s left
   whole_still whole = record {

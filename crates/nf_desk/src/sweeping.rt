@@ -3,7 +3,7 @@
 ghost use Rattle.std.specs.Prelude.{◌≡◌, ◌<◌, ◌≤◌, ◌-◌, OnOk, OnErr, option_map};
 ghost use Rattle.nf_desk.specs.Desk.{Tale};
 ghost use Rattle.nf_desk.specs.Stepping.{standing};
-ghost use Rattle.nf_desk.specs.Sweeping.{Sweeps, shown_by};
+ghost use Rattle.nf_desk.specs.Sweeping.{Sweeps, held_in, shown_by};
 ghost use Rattle.nf_keeper.specs.Keeping.{Counts, swept};
 ghost use Rattle.nf_laws.specs.Named.{blobs_named};
 ghost use Rattle.nf_words.specs.Prelude.{MayAsk};

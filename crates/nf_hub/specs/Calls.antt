@@ -22,7 +22,7 @@ use Rattle.nf_told.specs.Told.{Told}
 use Rattle.nf_turn.specs.Prelude.{seen_shelf}
 use Rattle.nf_turn.specs.declared.view.Memory.{Memory as MemoryOf}
 use Rattle.nf_words.specs.declared.answer.Goal.{Goal}
-use Rattle.nf_words.specs.declared.answer.Goal.TheVariants.{Serve, Store}
+use Rattle.nf_words.specs.declared.answer.Goal.TheVariants.{Chunk, Serve, Store}
 use Rattle.nf_words.specs.declared.answer.Reply.TheVariants.{Granted}
 use Rattle.nf_words.specs.Prelude.{blob_to, goal_at, opened, replay}
 use Rattle.nf_words.specs.declared.history.Entry.{Entry}
@@ -86,10 +86,12 @@ pub record AsksPiece {K : Type 0} (k : KeeperOf K) (a b : MemoryOf (Served K)) (
 abbrev pub AsksGoal : {K : Type 0} → KeeperOf K → MemoryOf (Served K) → MemoryOf (Served K) → Goal → ℕ → Result (Vec ℕ Global) PieceFault → Type 0
 AsksGoal k a b (Serve content) index result = AsksPiece k a b content index result
 AsksGoal k a b (Store by key length) index result = ⊥
+AsksGoal k a b (Chunk user dir number length) index result = ⊥
 
 abbrev pub GivesGoal : Book → Book → Goal → ℕ → Result (Vec ℕ Global) PieceFault → Type 0
 GivesGoal a b (Serve content) index result = GivesPiece a b content index result
 GivesGoal a b (Store by key length) index result = ⊥
+GivesGoal a b (Chunk user dir number length) index result = ⊥
 
 -- ---- the End
 

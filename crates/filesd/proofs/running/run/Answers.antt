@@ -22,7 +22,7 @@ use Rattle.filesd.proofs.Ending.{batch_well, init_well, serve_well, sweep_well}
 use Rattle.filesd.proofs.Working.{Says, runs_say}
 use Rattle.filesd.proofs.OneFile.{serves_one}
 use Rattle.filesd.proofs.Safe.{batch_keeps, init_keeps, serve_keeps, sweep_keeps}
-use Rattle.filesd.proofs.Serving.{runs_read, runs_store, runs_write}
+use Rattle.filesd.proofs.Serving.{runs_door, runs_read, runs_store, runs_words, runs_write}
 use Rattle.filesd.proofs.Swept.{SweepSays, sweep_says, sweeps_beside}
 use Rattle.filesd.proofs.running.run.Goals as goal
 
@@ -43,6 +43,14 @@ serve_or_sweep words n serve sweep = cc (sweep_is_read words (Ok (Some (commands
 pub returns-in-Ok-Some-Batch-clause-one_file : goal.returns-in-Ok-Some-Batch-clause-one_file
 returns-in-Ok-Some-Batch-clause-one_file g c = λ batch.
     serves_one (takes g.C.Clock.reads g.Q.Dice.draws) _ _ c.batch.result.status c.batch.result.site c.batch.ensures.runs c.batch.ensures.alone
+
+pub returns-in-Ok-Some-Batch-clause-words : goal.returns-in-Ok-Some-Batch-clause-words
+returns-in-Ok-Some-Batch-clause-words g c = λ is.
+    absurd (runs_words (takes g.C.Clock.reads g.Q.Dice.draws) _ _ c.batch.result.status c.batch.result.site c.batch.ensures.runs is)
+
+pub returns-in-Ok-Some-Batch-clause-door : goal.returns-in-Ok-Some-Batch-clause-door
+returns-in-Ok-Some-Batch-clause-door g c = λ is.
+    absurd (runs_door (takes g.C.Clock.reads g.Q.Dice.draws) _ _ c.batch.result.status c.batch.result.site c.batch.ensures.runs is)
 
 pub returns-in-Ok-Some-Batch-clause-read : goal.returns-in-Ok-Some-Batch-clause-read
 returns-in-Ok-Some-Batch-clause-read g c =

@@ -5,9 +5,19 @@ use Rattle.nf_rows.specs.Spelling.{Fits, Raw}
 use Rattle.nf_site.specs.Kept.{Kept}
 use Rattle.nf_desk.specs.Opened.{AreUnread}
 use Rattle.nf_desk.specs.Opening.{AreSpelled}
-use Rattle.nf_desk.proofs.Loadings.{are_some, first_fit, may_have, opens_loaded, unbuilt_fault, unread_fault}
+use Rattle.nf_desk.proofs.Loadings.{are_none, are_some, first_fit, may_have, opens_first, opens_loaded, unbuilt_fault, unread_fault}
 use Rattle.nf_desk.proofs.loading.site_over.Goals.{in-Kept, in-Fresh2}
 use Rattle.nf_desk.proofs.loading.site_over.Goals as goal
+
+pub returns-then-is_empty-clause-ok : goal.returns-then-is_empty-clause-ok
+returns-then-is_empty-clause-ok g c = elim c.match-opening-4.branch [
+  | in-Kept w ↦ rw w.result-is tt
+  | in-Fresh2 w ↦ rw (w.result-is, w.keeper-is)
+      (opens_first c.args.opening (g.K.Keeper.told c.args.keeper.now) (g.K.Keeper.told c.load.new.self) (g.K.Keeper.told w.begin.new.keeper)
+      c.in_ok-raws.raws w.in-Fresh.first w.begin.result
+      (are_none c.in_ok-raws.raws c.rows.result.now c.is_empty.result c.is_empty.ensures c.rows.ensures c.if-is_empty.true)
+      c.in_ok-raws.ensures.rows c.in_ok-raws.ensures.rising c.in_ok-raws.ensures.same w.in-Fresh.is w.begin.ensures.ok w.begin.ensures.made)
+]
 
 pub returns-then-is_empty-clause-fit : goal.returns-then-is_empty-clause-fit
 returns-then-is_empty-clause-fit g c = elim c.match-opening-4.branch [

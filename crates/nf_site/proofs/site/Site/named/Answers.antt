@@ -1,4 +1,4 @@
-use Rattle.std.proofs.Common.{◌≡◌, ◌++◌, ℕ, List, refl, ap, subst, ◌∙◌}
+use Rattle.std.proofs.Common.{◌≡◌, ◌++◌, ℕ, List, ap, subst, ◌∙◌}
 use Rattle.std.specs.List.{flat_map}
 use Rattle.nf_base.specs.declared.rows.ChunkRow.{ChunkRow}
 use Rattle.nf_base.specs.declared.rows.NodeRow.{NodeRow}

@@ -1,0 +1,12 @@
+pub mod Acts
+pub mod Fewer
+pub mod Sending
+pub mod Going
+pub mod Reading
+pub mod Fronts
+pub mod Rows
+pub mod Coming
+pub mod Bodies
+pub mod Giving
+pub mod Whole
+pub mod Turned

@@ -1,0 +1,4 @@
+pub mod Sent
+pub mod Joined
+pub mod Bytes
+pub mod Turns
