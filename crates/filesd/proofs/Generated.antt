@@ -1,5 +1,5 @@
 -- A run of `generate`, from what its parts say.
-use Rattle.std.proofs.Common.{◌≡◌, ◌∙◌, ℕ, zero, suc, ◌+◌, ◌<◌, ◌≤◌, ◌^◌, List, [], Option, None, Some, refl, sym, ap, subst, arith, inl, inr}
+use Rattle.std.proofs.Common.{◌≡◌, ◌∙◌, ◌⊎◌, ℕ, zero, suc, ◌+◌, ◌<◌, ◌≤◌, ◌^◌, List, [], Option, None, Some, refl, sym, ap, subst, arith, inl, inr}
 use Rattle.std.specs.Option.{IfSome, IsSome}
 use Rattle.nf_base.specs.declared.rows.Row.{Row}
 use Rattle.nf_desk.specs.Desk.{Served, Shown, TellsSite, blobs_in, shown}
@@ -14,9 +14,13 @@ use Rattle.nf_keeper.specs.Keeping.{Stored}
 use Rattle.nf_keeper.specs.declared.keeper.Keeper.{Ghosts as KeeperOf}
 use Rattle.nf_outside.specs.Causes.{Rose}
 use Rattle.nf_outside.specs.Lent.{Lent, takes}
+use Rattle.nf_promises.proofs.Unfailing.{ends_well}
+use Rattle.nf_promises.specs.Complete.{IsUnrisen}
+use Rattle.nf_promises.specs.Complete as complete
 use Rattle.nf_rows.specs.Spelling.{Raw}
 use Rattle.nf_session.proofs.Causes.{session_follows}
 use Rattle.nf_session.specs.Book.{Book}
+use Rattle.nf_session.specs.Laws.{CountsFault}
 use Rattle.nf_session.specs.Session.{Session}
 use Rattle.nf_session.specs.Steps.{Scene}
 use Rattle.nf_session.specs.declared.ended.Ended.{Ended}
@@ -30,7 +34,7 @@ use Rattle.nf_trial.specs.Trials.{Answers, BreaksOff, Concludes, IsBroken, Risen
 use Rattle.nf_trial.specs.declared.same.Same.{Same}
 use Rattle.nf_trial.specs.declared.trials.Tried.{Tried}
 use Rattle.nf_trial.specs.declared.trials.Tried.TheVariants as tried
-use Rattle.filesd.specs.Ending.{IsSafeStore}
+use Rattle.filesd.specs.Ending.{GenerateEndsWell, IsSafeStore, IsWellFilled, NothingFails}
 use Rattle.filesd.specs.Generate.{Generates, Lists, ListsDesk, TellsTried, told_demo}
 use Rattle.filesd.specs.Init.{Writes}
 use Rattle.filesd.specs.Next.{IsGoodStore, IsUndamaged, KeepsSafe}
@@ -43,8 +47,9 @@ use Rattle.filesd.specs.Session.{first_book, status_of}
 use Rattle.filesd.specs.declared.status.Status.{Status}
 use Rattle.filesd.specs.declared.status.Status.TheVariants as exit
 use Rattle.filesd.proofs.Beginning.{beside, writes_beside}
+use Rattle.filesd.proofs.Ending.{unopened_done, unrisen}
 use Rattle.filesd.proofs.Safe.{same_keeps, undamaged_safe}
-use Rattle.filesd.proofs.Whole.{opened_safe, stay_whole, undamaged}
+use Rattle.filesd.proofs.Whole.{opened_safe, stay_whole, stays_whole, undamaged}
 
 -- ---- beside what it doesn't use
 
@@ -161,6 +166,15 @@ concludes_opening seed count a b how concludes =
     concludes_keeps (λ (book : Book). book.opening ≡ a.opening)
     (λ p q end session same. (session_follows (takes says says) p q end session).lasts.opening ∙ same) seed count a b how concludes refl
 
+-- nothing is damaged where the demonstration rows were stored
+begins_whole : (told : Option Told) (faults : ℕ) → IsGoodStore told → IsLoaded told [] → IsUndamaged (first_book demo_rows (told_demo told) faults)
+begins_whole told faults good loaded =
+    let begun = opened_safe told [] demo_rows good loaded refl in
+    record {
+      tells = subst (λ (o : Option Blobs). IsSome o) (sym begun.1.0) refl;
+      start = undamaged demo_rows (blobs_in (told_demo told)) begun.0 demo_unbroken begun.1.0 begun.1.1;
+    }
+
 -- a safe store is left safe, and so is one without rows
 pub generate_keeps : {C : Type 0} (seed count : ℕ) (a b : Outside C) (status : Status) (site : Option Held)
     → Generates seed count a b status site → IfSome site (λ site. Leaves site.kept b.told) → KeepsSafe a.told b.told
@@ -172,14 +186,86 @@ generate_keeps seed count a b status (Some site) lists leaves = record {
   where
     here : IsGoodStore a.told → IsSafeStore b.told
     here good =
-        let begun = opened_safe a.told [] demo_rows good lists.loaded refl in
         let first = first_book demo_rows (told_demo a.told) a.faults in
         let last = book_of site.kept (told_demo a.told) b.told b.faults in
-        let are : IsUndamaged last = concludes_whole seed count first last lists.tried lists.concludes (record {
-          tells = subst (λ (o : Option Blobs). IsSome o) (sym begun.1.0) refl;
-          start = undamaged demo_rows (blobs_in (told_demo a.told)) begun.0 demo_unbroken begun.1.0 begun.1.1;
-        }) in
+        let are : IsUndamaged last =
+        concludes_whole seed count first last lists.tried lists.concludes (begins_whole a.told a.faults good lists.loaded) in
         undamaged_safe site.kept (blobs_in (told_demo a.told)) b.told leaves lists.told are.tells are.start
+
+-- ---- where nothing fails
+
+-- no session lowers the count of the store's failures
+answers_rise : (seed : ℕ) (a : Book) (n : ℕ) (b : Book) (granted : ℕ) → Answers seed a n b granted → a.strikes ≤ b.strikes
+answers_rise seed a n b granted answers =
+    answered_keeps (λ (book : Book). a.strikes ≤ book.strikes)
+    (λ p q end session least. omega (arith, least, (session_follows (takes says says) p q end session).lasts.strikes))
+    seed a n b granted answers (omega arith)
+
+stays_unrisen : (before mid now : ℕ) → before ≤ mid → mid ≤ now → IsUnrisen before now → IsUnrisen mid now
+stays_unrisen before mid now least most same = (omega (arith, least, most, same.0), omega (arith, least, most, same.0, same.1))
+
+never_risen : (before now : ℕ) → IsUnrisen before now → Risen before now → ⊥
+never_risen before now same (inl rose) = omega (arith, same.0, same.1, rose)
+never_risen before now same (inr most) = omega (arith, same.0, same.1, most)
+
+-- neither end is at fault where a session breaks off
+both_unfailed : (end : Option Ended) → IsBroken end → (r s w v : ℕ) → CountsFault end r s w v → (s ≡ r) × (v ≡ w)
+both_unfailed None broken r s w v counts = counts
+both_unfailed (Some ended.ReadFault) broken r s w v counts = absurd broken
+both_unfailed (Some ended.WriteFault) broken r s w v counts = absurd broken
+both_unfailed (Some other) broken r s w v counts = counts
+
+end_well : (end : Option Ended) → complete.IsWell end → IsWellFilled (status_of end)
+end_well None is = inl tt
+end_well (Some ended.Closed) is = inl tt
+end_well (Some ended.BadMessage) is = inl tt
+end_well (Some ended.RunFull) is = inr refl
+end_well (Some ended.Memory) is = inl tt
+end_well (Some other) is = absurd is
+
+broken_well : (seed count : ℕ) (a b : Book) (end : Option Ended) → BreaksOff seed count a b end → IsBroken end → IsUndamaged a
+    → IsUnrisen a.strikes b.strikes → IsWellFilled (status_of end)
+broken_well seed count a b end breaks broken are unrose =
+    let mid : Book = breaks.mid in
+    let after : Scene (Lent Same Same) = breaks.serves.after in
+    let before : Scene (Lent Same Same) = scene_before mid (message_at seed breaks.number) (moment_of breaks.number) in
+    let follows = session_follows (takes says says) before after end breaks.serves.session in
+    let same = both_unfailed end broken 0 after.read_faults 0 after.write_faults follows.counts in
+    let least = answers_rise seed a breaks.number mid breaks.granted breaks.answers in
+    let most : mid.strikes ≤ b.strikes = subst (λ (book : Book). mid.strikes ≤ book.strikes) breaks.serves.book follows.lasts.strikes in
+    let store : IsUnrisen mid.strikes after.book.strikes = subst (λ (book : Book). IsUnrisen mid.strikes book.strikes) (sym breaks.serves.book)
+        (stays_unrisen a.strikes mid.strikes b.strikes least most unrose) in
+    end_well end (ends_well (takes says says) before after end breaks.serves.session
+    (record { store = store; read = (same.0, omega arith); write = (same.1, omega arith) })
+    (stays_whole mid (answered_keeps IsUndamaged (stay_whole (takes says says)).1 seed a breaks.number mid breaks.granted breaks.answers are)))
+
+module _ {C : Type 0} (a b : Outside C) (nothing : NothingFails a b) where
+  tried_well : (seed count : ℕ) (t : Tables) (first last : Book) (how : Tried) → Concludes seed count first last how → IsUndamaged first
+      → IsUnrisen first.strikes last.strikes → (status : Status) → TellsTried count t how a b status → IsWellFilled status
+  tried_well seed count t first last (tried.All granted denied) concludes are unrose exit.Done tells = inl tt
+  tried_well seed count t first last (tried.All granted denied) concludes are unrose exit.Memory tells = inl tt
+  tried_well seed count t first last (tried.All granted denied) concludes are unrose exit.WriteFault tells =
+      absurd (unrisen a.write_faults b.write_faults nothing.write tells.0)
+  tried_well seed count t first last (tried.All granted denied) concludes are unrose other tells = absurd tells
+  tried_well seed count t first last tried.Store concludes are unrose status tells =
+      absurd (never_risen first.strikes last.strikes unrose concludes.2)
+  tried_well seed count t first last tried.Memory concludes are unrose status tells =
+      subst (λ (s : Status). IsWellFilled s) (sym tells.0) (inl tt)
+  tried_well seed count t first last (tried.Broken end) concludes are unrose status tells =
+      subst (λ (s : Status). IsWellFilled s) (sym tells.0) (broken_well seed count first last end concludes.0 concludes.1 are unrose)
+
+none_well : (status : Status) → (status ≡ exit.Done) ⊎ (status ≡ exit.Memory) → IsWellFilled status
+none_well status (inl is) = subst (λ (s : Status). IsWellFilled s) (sym is) (inl tt)
+none_well status (inr is) = subst (λ (s : Status). IsWellFilled s) (sym is) (inl tt)
+
+pub generate_well : {C : Type 0} (seed count : ℕ) (a b : Outside C) (status : Status) (site : Option Held)
+    → Generates seed count a b status site → GenerateEndsWell a b status
+generate_well seed count a b status None unopened = λ empty nothing.
+    none_well status (unopened_done a b status empty unopened.why nothing)
+generate_well seed count a b status (Some site) lists = λ empty nothing.
+    tried_well a b nothing seed count site.kept.state.tables (first_book demo_rows (told_demo a.told) a.faults)
+    (book_of site.kept (told_demo a.told) b.told b.faults) lists.tried lists.concludes
+    (begins_whole a.told a.faults (inl empty) lists.loaded) nothing.keeper status lists.tells
 
 -- ---- over a desk that was opened for it
 

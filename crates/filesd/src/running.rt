@@ -13,7 +13,7 @@ ghost use Rattle.nf_outside.specs.Lent.{lent, takes};
 ghost use Rattle.nf_trial.specs.Trials.{Risen};
 ghost use Rattle.nf_turn.specs.Book.{IsFresh};
 ghost use Rattle.filesd.specs.Doors.{OneRose, RunsDoors};
-ghost use Rattle.filesd.specs.Ending.{BatchEndsWell, InitEndsWell, ServeEndsWell, SweepEndsWell};
+ghost use Rattle.filesd.specs.Ending.{BatchEndsWell, GenerateEndsWell, InitEndsWell, ServeEndsWell, SweepEndsWell};
 ghost use Rattle.filesd.specs.Generate.{Generates};
 ghost use Rattle.filesd.specs.Init.{Inits, IsSomeDigest};
 ghost use Rattle.filesd.specs.Next.{KeepsSafe};
@@ -129,6 +129,9 @@ where
     ensures serve_well { IsSomeServe (map string_bytes words.now)
         → ServeEndsWell D.Door (K.told keeper) (K.faults keeper) (K.faults result.keeper) workers.old workers.new result.status }
     ensures sweep_well { IsSweep (map string_bytes words.now) → SweepEndsWell
+        (outside S.Ends O.Ends K.Keeper input.old output.old keeper (lent clock.old dice.old))
+        (outside S.Ends O.Ends K.Keeper input.new output.new result.keeper (lent clock.new dice.new)) result.status }
+    ensures generate_well { IsSomeGenerate (map string_bytes words.now) → GenerateEndsWell
         (outside S.Ends O.Ends K.Keeper input.old output.old keeper (lent clock.old dice.old))
         (outside S.Ends O.Ends K.Keeper input.new output.new result.keeper (lent clock.new dice.new)) result.status }
 

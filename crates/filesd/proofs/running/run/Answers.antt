@@ -17,7 +17,7 @@ use Rattle.filesd.specs.Outside.{outlet, outlet_with}
 use Rattle.filesd.specs.Sweep.{reads_clock}
 use Rattle.filesd.specs.declared.status.Status.{Status}
 use Rattle.filesd.proofs.Beginning.{inits_beside, rows_are}
-use Rattle.filesd.proofs.Generated.{GenerateSays, generate_keeps, generate_says, generates_beside, rose_risen}
+use Rattle.filesd.proofs.Generated.{GenerateSays, generate_keeps, generate_says, generate_well, generates_beside, rose_risen}
 use Rattle.filesd.proofs.Ending.{batch_well, init_well, serve_well, sweep_well}
 use Rattle.filesd.proofs.Working.{Says, runs_say}
 use Rattle.filesd.proofs.OneFile.{serves_one}
@@ -522,3 +522,29 @@ returns-in-Ok-Some-Serve-clause-generate g c = λ seed count list.
     let read = reads_as words c.command_of.result _ _ (commands.Serve c.in-Ok-Some-Serve.connections) c.command_of.ensures c.in-Ok-Some-Serve.is
     c.in-Ok-Some-Serve.field-0-is c.in-Ok-Some-Serve.field-0-0-is in
     absurd (serve_or_list words c.in-Ok-Some-Serve.connections seed count read list)
+
+pub returns-in-Ok-Some-Generate-clause-generate_well : goal.returns-in-Ok-Some-Generate-clause-generate_well
+returns-in-Ok-Some-Generate-clause-generate_well g c = λ list.
+    generate_well list.0 list.1 _ _ c.generate.result.status c.generate.result.site
+    (returns-in-Ok-Some-Generate-clause-generate g c list.0 list.1 list.2)
+
+pub returns-in-Ok-Some-Batch-clause-generate_well : goal.returns-in-Ok-Some-Batch-clause-generate_well
+returns-in-Ok-Some-Batch-clause-generate_well g c = λ list.
+    let words = map string_bytes c.args.words.now in
+    let read = reads_as words c.command_of.result _ _ commands.Batch c.command_of.ensures c.in-Ok-Some-Batch.is
+    c.in-Ok-Some-Batch.field-0-is c.in-Ok-Some-Batch.field-0-0-is in
+    absurd (batch_or_list words list.0 list.1 read list.2)
+
+pub returns-in-Ok-Some-Sweep-clause-generate_well : goal.returns-in-Ok-Some-Sweep-clause-generate_well
+returns-in-Ok-Some-Sweep-clause-generate_well g c = λ list.
+    let words = map string_bytes c.args.words.now in
+    let read = reads_as words c.command_of.result _ _ commands.Sweep c.command_of.ensures c.in-Ok-Some-Sweep.is
+    c.in-Ok-Some-Sweep.field-0-is c.in-Ok-Some-Sweep.field-0-0-is in
+    absurd (sweep_or_list words list.0 list.1 read list.2)
+
+pub returns-in-Ok-Some-Serve-clause-generate_well : goal.returns-in-Ok-Some-Serve-clause-generate_well
+returns-in-Ok-Some-Serve-clause-generate_well g c = λ list.
+    let words = map string_bytes c.args.words.now in
+    let read = reads_as words c.command_of.result _ _ (commands.Serve c.in-Ok-Some-Serve.connections) c.command_of.ensures c.in-Ok-Some-Serve.is
+    c.in-Ok-Some-Serve.field-0-is c.in-Ok-Some-Serve.field-0-0-is in
+    absurd (serve_or_list words c.in-Ok-Some-Serve.connections list.0 list.1 read list.2)
