@@ -106,7 +106,7 @@ module _ {C : Type 0} (a b : Outside C) where
   broken_says (Some ended.Memory) broken = absurd broken
 
   tried_says : (seed count : ℕ) (t : Tables) (first last : Book) (how : Tried) → Concludes seed count first last how
-      → Risen first.strikes last.strikes ≡ Risen a.faults b.faults → (status : Status) → TellsTried count t how a b status → GenerateSays a b status
+      → (Risen first.strikes last.strikes → Risen a.faults b.faults) → (status : Status) → TellsTried count t how a b status → GenerateSays a b status
   tried_says seed count t first last (tried.All granted denied) concludes same exit.Words tells = tells
   tried_says seed count t first last (tried.All granted denied) concludes same exit.ReadFault tells = tells
   tried_says seed count t first last (tried.All granted denied) concludes same exit.DoorFault tells = tells
@@ -114,7 +114,7 @@ module _ {C : Type 0} (a b : Outside C) where
   tried_says seed count t first last (tried.All granted denied) concludes same exit.StoreFault tells = absurd tells
   tried_says seed count t first last (tried.All granted denied) concludes same other tells = tt
   tried_says seed count t first last tried.Store concludes same status tells =
-      subst (λ (s : Status). GenerateSays a b s) (sym tells.0) (subst (λ (P : Type 0). P) same concludes.2)
+      subst (λ (s : Status). GenerateSays a b s) (sym tells.0) (same concludes.2)
   tried_says seed count t first last tried.Memory concludes same status tells = subst (λ (s : Status). GenerateSays a b s) (sym tells.0) tt
   tried_says seed count t first last (tried.Broken end) concludes same status tells =
       subst (λ (s : Status). GenerateSays a b s) (sym tells.0) (broken_says end concludes.1)
@@ -127,7 +127,8 @@ module _ {C : Type 0} (a b : Outside C) where
   generate_says seed count exit.StoreFault None unopened = rose_risen a.faults b.faults unopened.why
   generate_says seed count other None unopened = tt
   generate_says seed count status (Some site) lists =
-      tried_says seed count site.kept.state.tables _ _ lists.tried lists.concludes refl status lists.tells
+      tried_says seed count site.kept.state.tables (first_book demo_rows (told_demo a.told) a.faults)
+      (book_of site.kept (told_demo a.told) b.told b.faults) lists.tried lists.concludes (λ risen. risen) status lists.tells
 
 -- ---- what sessions keep
 
@@ -234,7 +235,7 @@ broken_well seed count a b end breaks broken are unrose =
     let least = answers_rise seed a breaks.number mid breaks.granted breaks.answers in
     let most : mid.strikes ≤ b.strikes = subst (λ (book : Book). mid.strikes ≤ book.strikes) breaks.serves.book follows.lasts.strikes in
     let store : IsUnrisen mid.strikes after.book.strikes = subst (λ (book : Book). IsUnrisen mid.strikes book.strikes) (sym breaks.serves.book)
-        (stays_unrisen a.strikes mid.strikes b.strikes least most unrose) in
+    (stays_unrisen a.strikes mid.strikes b.strikes least most unrose) in
     end_well end (ends_well (takes says says) before after end breaks.serves.session
     (record { store = store; read = (same.0, omega arith); write = (same.1, omega arith) })
     (stays_whole mid (answered_keeps IsUndamaged (stay_whole (takes says says)).1 seed a breaks.number mid breaks.granted breaks.answers are)))
@@ -299,7 +300,8 @@ lists_desk seed count a b status desk (Some site) first opens rows blob same beg
           (subst (λ (o : Option Told). Concludes seed count (book_of desk.site desk.start.told desk.told desk.faults) (book_of site.kept o b.told b.faults)
           lists.tried) start lists.concludes);
       tells = lists.tells;
-      opening = concludes_opening seed count _ _ lists.tried lists.concludes ∙ over;
+      opening = concludes_opening seed count (book_of desk.site desk.start.told desk.told desk.faults) (book_of site.kept desk.start.told b.told b.faults)
+          lists.tried lists.concludes ∙ over;
       told = subst (λ (o : Option Told). IfSome b.told (TellsSite (blobs_in o) site.kept)) start lists.told;
       left = left;
       begun = lists.begun;
@@ -325,6 +327,18 @@ tells_kept count t (tried.All granted denied) a b told later before now status t
 tells_kept count t tried.Store a b told later before now status tells = tells
 tells_kept count t tried.Memory a b told later before now status tells = tells
 tells_kept count t (tried.Broken end) a b told later before now status tells = tells
+
+-- what the keeper told before doesn't matter
+pub lists_over : (seed count : ℕ) (a b : Outside (Unit {0})) (told : Option Told) (faults : ℕ) (desk : Shown) (status : Status) (site : Option Held)
+    → ListsDesk seed count desk a b status site → ListsDesk seed count desk (kept_beside a told faults) b status site
+lists_over seed count a b told faults desk status None lists = absurd lists
+lists_over seed count a b told faults desk status (Some site) lists = record {
+  tried = lists.tried;
+  concludes = lists.concludes;
+  tells = tells_kept count site.kept.state.tables lists.tried a b told b.told faults b.faults status lists.tells;
+  told = lists.told;
+  begun = lists.begun;
+}
 
 -- where there was no memory for a hub, what was handed out is the desk as it was opened
 pub lists_none : {K : Type 0} (k : KeeperOf K) (seed count : ℕ) (a : Outside (Unit {0})) (desk left : Served K) (status : Status)

@@ -6,9 +6,9 @@ ghost use Rattle.nf_generate.specs.declared.messages.TheConstants.{MAX_COUNT};
 ghost use Rattle.nf_hub.specs.Seats.{IsSeat, book, memory_of, steady};
 ghost use Rattle.nf_session.specs.Book.{held};
 ghost use Rattle.nf_trial.specs.Trials.{Concludes};
+ghost use Rattle.nf_trial.specs.declared.trials.Tried.TheVariants as how;
 ghost use Rattle.nf_turn.specs.Book.{IsFresh};
 ghost use Rattle.filesd.specs.Generate.{Generates, ListsDesk, TellsTried, lines_of, summary as spec_summary, user_line as spec_user_line};
-ghost use Rattle.filesd.specs.Init.{Writes};
 ghost use Rattle.filesd.specs.Outside.{outlet, output_alone};
 ghost use Rattle.filesd.specs.Reopening.{Leaves, Pays};
 ghost use Rattle.filesd.specs.Seat.{AreOwn};
@@ -126,31 +126,32 @@ fn tell<O: Sink>(alloc: Global, output: &mut O, site: &Site, count: u64, tried: 
     ensures begun { O.begun output.new ≡ O.begun output.old }
 {
     match tried {
-        Tried::All { granted, denied } => {
-            match summary(
-                alloc,
-                site,
-                &Counts {
-                    count,
-                    granted,
-                    denied,
-                },
-            ) {
-                Ok(text) => write(output, &text),
-                Err(_) => Status::Memory,
-            }
-        }
+        Tried::All { granted, denied } => say(
+            alloc,
+            output,
+            site,
+            &Counts {
+                count,
+                granted,
+                denied,
+            },
+        ),
         Tried::Store => Status::StoreFault,
         Tried::Memory => Status::Memory,
         Tried::Broken(end) => status_of(end),
     }
 }
 
-fn write<O: Sink>(output: &mut O, text: &Vec<u8>) -> Status
-    ensures writes { Writes text.now.items (output_alone O.Ends output.old) (output_alone O.Ends output.new) result }
+fn say<O: Sink>(alloc: Global, output: &mut O, site: &Site, counts: &Counts) -> Status
+    ensures tells { TellsTried counts.now.count site.now.kept.state.tables (how.All counts.now.granted counts.now.denied)
+        (output_alone O.Ends output.old) (output_alone O.Ends output.new) result }
     ensures begun { O.begun output.new ≡ O.begun output.old }
 {
-    match send(output, text) {
+    let text = match summary(alloc, site, counts) {
+        Ok(text) => text,
+        Err(_) => return Status::Memory,
+    };
+    match send(output, &text) {
         Ok(()) => Status::Done,
         Err(_) => Status::WriteFault,
     }
