@@ -36,7 +36,7 @@ use Rattle.nf_trial.specs.declared.trials.Tried.{Tried}
 use Rattle.nf_trial.specs.declared.trials.Tried.TheVariants as tried
 use Rattle.filesd.specs.Ending.{GenerateEndsWell, IsSafeStore, IsWellFilled, NothingFails}
 use Rattle.filesd.specs.Generate.{Generates, Lists, ListsDesk, TellsTried, told_demo}
-use Rattle.filesd.specs.Init.{Writes}
+use Rattle.filesd.specs.Init.{Inits, Writes}
 use Rattle.filesd.specs.Next.{IsGoodStore, IsUndamaged, KeepsSafe}
 use Rattle.filesd.specs.Opening.{demo_blob}
 use Rattle.filesd.specs.Opening as opening
@@ -85,6 +85,14 @@ generates_beside left faults lent seed count a b status (Some site) lists = reco
 
 pub rose_risen : (before now : ℕ) → Rose before now → Risen before now
 rose_risen before now rose = grind arith
+
+pub init_risen : {C : Type 0} (rows : List Row) (a b : Outside C) (status : Status) (site : Option Held) → Inits rows a b status site
+    → status ≡ exit.StoreFault → Risen a.faults b.faults
+init_risen {C} rows a b status site inits is = here site (subst (λ (s : Status). Inits rows a b s site) is inits)
+  where
+    here : (site : Option Held) → Inits rows a b exit.StoreFault site → Risen a.faults b.faults
+    here None unopened = rose_risen a.faults b.faults unopened.why
+    here (Some site) begins = absurd begins.writes
 
 abbrev pub GenerateSays : {C : Type 0} → Outside C → Outside C → Status → Type 0
 GenerateSays a b exit.Words = ⊥

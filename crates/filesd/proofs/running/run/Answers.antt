@@ -5,10 +5,11 @@ use Rattle.std.specs.declared.alloc.AllocError.{AllocError}
 use Rattle.nf_base.specs.declared.rows.Row.{Row}
 use Rattle.nf_command.proofs.Readings.{generate_is_read, init_is_read, serve_is_read, sweep_is_read}
 use Rattle.nf_command.specs.Command.{IsBatch, IsGenerate, IsInit, IsServe, IsSweep}
-use Rattle.nf_command.specs.First.{init_rows}
-use Rattle.nf_command.specs.Reading.{ReadsCommand}
+use Rattle.nf_command.specs.First.{first_rows, init_rows}
+use Rattle.nf_command.specs.Reading.{IsInitOf, ReadsCommand}
 use Rattle.nf_command.specs.declared.command.Command.{Command}
 use Rattle.nf_command.specs.declared.command.Command.TheVariants as commands
+use Rattle.nf_command.specs.declared.command.Init.{Init}
 use Rattle.nf_outside.specs.Lent.{lent, takes}
 use Rattle.filesd.specs.Doors.{RunsDoors}
 use Rattle.filesd.specs.Generate.{Generates}
@@ -17,7 +18,7 @@ use Rattle.filesd.specs.Outside.{outlet, outlet_with}
 use Rattle.filesd.specs.Sweep.{reads_clock}
 use Rattle.filesd.specs.declared.status.Status.{Status}
 use Rattle.filesd.proofs.Beginning.{inits_beside, rows_are}
-use Rattle.filesd.proofs.Generated.{GenerateSays, generate_keeps, generate_says, generate_well, generates_beside, rose_risen}
+use Rattle.filesd.proofs.Generated.{GenerateSays, generate_keeps, generate_says, generate_well, generates_beside, init_risen, rose_risen}
 use Rattle.filesd.proofs.Ending.{batch_well, init_well, serve_well, sweep_well}
 use Rattle.filesd.proofs.Working.{Says, runs_say}
 use Rattle.filesd.proofs.OneFile.{serves_one}
@@ -345,6 +346,9 @@ sweep_or_list words seed count sweep list = cc (generate_is_read words seed coun
 serve_or_list : (words : List (List ℕ)) (n seed count : ℕ) → IsServe words n → IsGenerate words seed count → ⊥
 serve_or_list words n seed count serve list = cc (generate_is_read words seed count (Ok (Some (commands.Serve n))) list serve)
 
+init_or_list : (words : List (List ℕ)) (init : Init) (seed count : ℕ) → IsInitOf words init → IsGenerate words seed count → ⊥
+init_or_list words init seed count other list = cc (generate_is_read words seed count (Ok (Some (commands.Init init))) list other)
+
 pub returns-in-Ok-Some-Generate-clause-no_command : goal.returns-in-Ok-Some-Generate-clause-no_command
 returns-in-Ok-Some-Generate-clause-no_command g c = λ none.
     let words = map string_bytes c.args.words.now in
@@ -548,3 +552,26 @@ returns-in-Ok-Some-Serve-clause-generate_well g c = λ list.
     let read = reads_as words c.command_of.result _ _ (commands.Serve c.in-Ok-Some-Serve.connections) c.command_of.ensures c.in-Ok-Some-Serve.is
     c.in-Ok-Some-Serve.field-0-is c.in-Ok-Some-Serve.field-0-0-is in
     absurd (serve_or_list words c.in-Ok-Some-Serve.connections list.0 list.1 read list.2)
+
+pub returns-in-Ok-Some-Init-clause-generate : goal.returns-in-Ok-Some-Init-clause-generate
+returns-in-Ok-Some-Init-clause-generate g c = λ seed count list.
+    let words = map string_bytes c.args.words.now in
+    let init = c.in-Ok-Some-Init.init in
+    let read = reads_as words c.command_of.result _ _ (commands.Init init) c.command_of.ensures c.in-Ok-Some-Init.is
+    c.in-Ok-Some-Init.field-0-is c.in-Ok-Some-Init.field-0-0-is in
+    absurd (init_or_list words init seed count read list)
+
+pub returns-in-Ok-Some-Init-clause-generate_well : goal.returns-in-Ok-Some-Init-clause-generate_well
+returns-in-Ok-Some-Init-clause-generate_well g c = λ list.
+    let words = map string_bytes c.args.words.now in
+    let init = c.in-Ok-Some-Init.init in
+    let read = reads_as words c.command_of.result _ _ (commands.Init init) c.command_of.ensures c.in-Ok-Some-Init.is
+    c.in-Ok-Some-Init.field-0-is c.in-Ok-Some-Init.field-0-0-is in
+    absurd (init_or_list words init list.0 list.1 read list.2)
+
+pub returns-in-Ok-Some-Init-clause-store_risen : goal.returns-in-Ok-Some-Init-clause-store_risen
+returns-in-Ok-Some-Init-clause-store_risen g c =
+    let init = c.in-Ok-Some-Init.init in
+    init_risen (first_rows init.name init.token init.quota) (outlet g.O.Ends g.K.Keeper c.args.output.now c.args.keeper)
+    (outlet g.O.Ends g.K.Keeper c.initialize.new.output c.initialize.result.keeper) c.initialize.result.status c.initialize.result.site
+    c.initialize.ensures.inits
