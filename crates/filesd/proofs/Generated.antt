@@ -13,7 +13,7 @@ use Rattle.nf_generate.specs.Messages.{moment_of}
 use Rattle.nf_keeper.specs.Keeping.{Stored}
 use Rattle.nf_keeper.specs.declared.keeper.Keeper.{Ghosts as KeeperOf}
 use Rattle.nf_outside.specs.Causes.{Rose}
-use Rattle.nf_outside.specs.Lent.{Lent, takes}
+use Rattle.nf_outside.specs.Lent.{Taken, takes}
 use Rattle.nf_promises.proofs.Unfailing.{ends_well}
 use Rattle.nf_promises.specs.Complete.{IsUnrisen}
 use Rattle.nf_promises.specs.Complete as complete
@@ -31,7 +31,6 @@ use Rattle.nf_site.specs.Kept.{Kept, opened_over}
 use Rattle.nf_site.proofs.DemoRows.{demo_unbroken}
 use Rattle.nf_told.specs.Told.{Told}
 use Rattle.nf_trial.specs.Trials.{Answers, BreaksOff, Concludes, IsBroken, Risen, Serves as ServesMessage, message_at, says, scene_before}
-use Rattle.nf_trial.specs.declared.same.Same.{Same}
 use Rattle.nf_trial.specs.declared.trials.Tried.{Tried}
 use Rattle.nf_trial.specs.declared.trials.Tried.TheVariants as tried
 use Rattle.filesd.specs.Ending.{GenerateEndsWell, IsSafeStore, IsWellFilled, NothingFails}
@@ -142,11 +141,11 @@ module _ {C : Type 0} (a b : Outside C) where
 
 -- what each session keeps, all of them together do
 module _ (P : Book → Type 0)
-    (keeps : (a b : Scene (Lent Same Same)) (end : Option Ended) → Session (takes says says) a b end → P a.book → P b.book) where
+    (keeps : {C : Type 0} (reads : C → Taken → C → Type 0) (a b : Scene C) (end : Option Ended) → Session reads a b end → P a.book → P b.book) where
   served_keeps : (a b : Book) (bytes : List ℕ) (moment : ℕ) (output : List ℕ) (end : Option Ended) → ServesMessage a b bytes moment output end
       → P a → P b
   served_keeps a b bytes moment output end serves has =
-      subst (λ (book : Book). P book) serves.book (keeps (scene_before a bytes moment) serves.after end serves.session has)
+      subst (λ (book : Book). P book) serves.book (keeps (takes says says) (scene_before a bytes moment) serves.after end serves.session has)
 
   answered_keeps : (seed : ℕ) (a : Book) (n : ℕ) (b : Book) (granted : ℕ) → Answers seed a n b granted → P a → P b
   answered_keeps seed a zero b granted answers has = subst (λ (book : Book). P book) (sym answers.0) has
@@ -167,13 +166,13 @@ module _ (P : Book → Type 0)
 
 -- nothing is damaged behind them where nothing was before
 concludes_whole : (seed count : ℕ) (a b : Book) (how : Tried) → Concludes seed count a b how → IsUndamaged a → IsUndamaged b
-concludes_whole seed count a b how concludes are = concludes_keeps IsUndamaged (stay_whole (takes says says)).1 seed count a b how concludes are
+concludes_whole seed count a b how concludes are = concludes_keeps IsUndamaged (λ reads. (stay_whole reads).1) seed count a b how concludes are
 
 -- and the rows that the run was opened with stay
 concludes_opening : (seed count : ℕ) (a b : Book) (how : Tried) → Concludes seed count a b how → b.opening ≡ a.opening
 concludes_opening seed count a b how concludes =
     concludes_keeps (λ (book : Book). book.opening ≡ a.opening)
-    (λ p q end session same. (session_follows (takes says says) p q end session).lasts.opening ∙ same) seed count a b how concludes refl
+    (λ reads p q end session same. (session_follows reads p q end session).lasts.opening ∙ same) seed count a b how concludes refl
 
 -- nothing is damaged where the demonstration rows were stored
 begins_whole : (told : Option Told) (faults : ℕ) → IsGoodStore told → IsLoaded told [] → IsUndamaged (first_book demo_rows (told_demo told) faults)
@@ -207,7 +206,7 @@ generate_keeps seed count a b status (Some site) lists leaves = record {
 answers_rise : (seed : ℕ) (a : Book) (n : ℕ) (b : Book) (granted : ℕ) → Answers seed a n b granted → a.strikes ≤ b.strikes
 answers_rise seed a n b granted answers =
     answered_keeps (λ (book : Book). a.strikes ≤ book.strikes)
-    (λ p q end session least. omega (arith, least, (session_follows (takes says says) p q end session).lasts.strikes))
+    (λ reads p q end session least. omega (arith, least, (session_follows reads p q end session).lasts.strikes))
     seed a n b granted answers (omega arith)
 
 stays_unrisen : (before mid now : ℕ) → before ≤ mid → mid ≤ now → IsUnrisen before now → IsUnrisen mid now
@@ -236,8 +235,8 @@ broken_well : (seed count : ℕ) (a b : Book) (end : Option Ended) → BreaksOff
     → IsUnrisen a.strikes b.strikes → IsWellFilled (status_of end)
 broken_well seed count a b end breaks broken are unrose =
     let mid : Book = breaks.mid in
-    let after : Scene (Lent Same Same) = breaks.serves.after in
-    let before : Scene (Lent Same Same) = scene_before mid (message_at seed breaks.number) (moment_of breaks.number) in
+    let after = breaks.serves.after in
+    let before = scene_before mid (message_at seed breaks.number) (moment_of breaks.number) in
     let follows = session_follows (takes says says) before after end breaks.serves.session in
     let same = both_unfailed end broken 0 after.read_faults 0 after.write_faults follows.counts in
     let least = answers_rise seed a breaks.number mid breaks.granted breaks.answers in
@@ -246,7 +245,7 @@ broken_well seed count a b end breaks broken are unrose =
     (stays_unrisen a.strikes mid.strikes b.strikes least most unrose) in
     end_well end (ends_well (takes says says) before after end breaks.serves.session
     (record { store = store; read = (same.0, omega arith); write = (same.1, omega arith) })
-    (stays_whole mid (answered_keeps IsUndamaged (stay_whole (takes says says)).1 seed a breaks.number mid breaks.granted breaks.answers are)))
+    (stays_whole mid (answered_keeps IsUndamaged (λ reads. (stay_whole reads).1) seed a breaks.number mid breaks.granted breaks.answers are)))
 
 module _ {C : Type 0} (a b : Outside C) (nothing : NothingFails a b) where
   tried_well : (seed count : ℕ) (t : Tables) (first last : Book) (how : Tried) → Concludes seed count first last how → IsUndamaged first
