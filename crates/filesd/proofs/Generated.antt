@@ -34,7 +34,7 @@ use Rattle.nf_trial.specs.Trials.{Answers, BreaksOff, Concludes, IsBroken, Risen
 use Rattle.nf_trial.specs.declared.trials.Tried.{Tried}
 use Rattle.nf_trial.specs.declared.trials.Tried.TheVariants as tried
 use Rattle.filesd.specs.Ending.{GenerateEndsWell, IsSafeStore, IsWellFilled, NothingFails}
-use Rattle.filesd.specs.Generate.{Generates, Lists, ListsDesk, TellsTried, told_demo}
+use Rattle.filesd.specs.Generate.{Generates, Lists, ListsDesk, TellsTried, summary, told_demo}
 use Rattle.filesd.specs.Init.{Inits, Writes}
 use Rattle.filesd.specs.Next.{IsGoodStore, IsUndamaged, KeepsSafe}
 use Rattle.filesd.specs.Opening.{demo_blob}
@@ -57,7 +57,7 @@ tells_beside : {C : Type 0} (left : Option (List ℕ)) (faults : ℕ) (lent : C)
     → TellsTried count t how a b status → TellsTried count t how (beside left faults lent a) (beside left faults lent b) status
 tells_beside left faults lent count t (tried.All granted denied) a b exit.Memory tells = tells
 tells_beside left faults lent count t (tried.All granted denied) a b status tells =
-    writes_beside left faults lent _ a b status tells
+    writes_beside left faults lent (summary count granted denied t) a b status tells
 tells_beside left faults lent count t tried.Store a b status tells = tells
 tells_beside left faults lent count t tried.Memory a b status tells = tells
 tells_beside left faults lent count t (tried.Broken end) a b status tells = tells
@@ -141,11 +141,11 @@ module _ {C : Type 0} (a b : Outside C) where
 
 -- what each session keeps, all of them together do
 module _ (P : Book → Type 0)
-    (keeps : {C : Type 0} (reads : C → Taken → C → Type 0) (a b : Scene C) (end : Option Ended) → Session reads a b end → P a.book → P b.book) where
+    (keeps : (C : Type 0) (reads : C → Taken → C → Type 0) (a b : Scene C) (end : Option Ended) → Session reads a b end → P a.book → P b.book) where
   served_keeps : (a b : Book) (bytes : List ℕ) (moment : ℕ) (output : List ℕ) (end : Option Ended) → ServesMessage a b bytes moment output end
       → P a → P b
   served_keeps a b bytes moment output end serves has =
-      subst (λ (book : Book). P book) serves.book (keeps (takes says says) (scene_before a bytes moment) serves.after end serves.session has)
+      subst (λ (book : Book). P book) serves.book (keeps _ (takes says says) (scene_before a bytes moment) serves.after end serves.session has)
 
   answered_keeps : (seed : ℕ) (a : Book) (n : ℕ) (b : Book) (granted : ℕ) → Answers seed a n b granted → P a → P b
   answered_keeps seed a zero b granted answers has = subst (λ (book : Book). P book) (sym answers.0) has
@@ -166,13 +166,13 @@ module _ (P : Book → Type 0)
 
 -- nothing is damaged behind them where nothing was before
 concludes_whole : (seed count : ℕ) (a b : Book) (how : Tried) → Concludes seed count a b how → IsUndamaged a → IsUndamaged b
-concludes_whole seed count a b how concludes are = concludes_keeps IsUndamaged (λ reads. (stay_whole reads).1) seed count a b how concludes are
+concludes_whole seed count a b how concludes are = concludes_keeps IsUndamaged (λ C reads. (stay_whole {C} reads).1) seed count a b how concludes are
 
 -- and the rows that the run was opened with stay
 concludes_opening : (seed count : ℕ) (a b : Book) (how : Tried) → Concludes seed count a b how → b.opening ≡ a.opening
 concludes_opening seed count a b how concludes =
     concludes_keeps (λ (book : Book). book.opening ≡ a.opening)
-    (λ reads p q end session same. (session_follows reads p q end session).lasts.opening ∙ same) seed count a b how concludes refl
+    (λ C reads p q end session same. (session_follows reads p q end session).lasts.opening ∙ same) seed count a b how concludes refl
 
 -- nothing is damaged where the demonstration rows were stored
 begins_whole : (told : Option Told) (faults : ℕ) → IsGoodStore told → IsLoaded told [] → IsUndamaged (first_book demo_rows (told_demo told) faults)
@@ -206,7 +206,7 @@ generate_keeps seed count a b status (Some site) lists leaves = record {
 answers_rise : (seed : ℕ) (a : Book) (n : ℕ) (b : Book) (granted : ℕ) → Answers seed a n b granted → a.strikes ≤ b.strikes
 answers_rise seed a n b granted answers =
     answered_keeps (λ (book : Book). a.strikes ≤ book.strikes)
-    (λ reads p q end session least. omega (arith, least, (session_follows reads p q end session).lasts.strikes))
+    (λ C reads p q end session least. omega (arith, least, (session_follows reads p q end session).lasts.strikes))
     seed a n b granted answers (omega arith)
 
 stays_unrisen : (before mid now : ℕ) → before ≤ mid → mid ≤ now → IsUnrisen before now → IsUnrisen mid now
@@ -245,7 +245,7 @@ broken_well seed count a b end breaks broken are unrose =
     (stays_unrisen a.strikes mid.strikes b.strikes least most unrose) in
     end_well end (ends_well (takes says says) before after end breaks.serves.session
     (record { store = store; read = (same.0, omega arith); write = (same.1, omega arith) })
-    (stays_whole mid (answered_keeps IsUndamaged (λ reads. (stay_whole reads).1) seed a breaks.number mid breaks.granted breaks.answers are)))
+    (stays_whole mid (answered_keeps IsUndamaged (λ C reads. (stay_whole {C} reads).1) seed a breaks.number mid breaks.granted breaks.answers are)))
 
 module _ {C : Type 0} (a b : Outside C) (nothing : NothingFails a b) where
   tried_well : (seed count : ℕ) (t : Tables) (first last : Book) (how : Tried) → Concludes seed count first last how → IsUndamaged first
@@ -330,7 +330,7 @@ writes_kept text a b told later before now other writes = absurd writes
 pub tells_kept : (count : ℕ) (t : Tables) (how : Tried) (a b : Outside (Unit {0})) (told later : Option Told) (before now : ℕ) (status : Status)
     → TellsTried count t how a b status → TellsTried count t how (kept_beside a told before) (kept_beside b later now) status
 tells_kept count t (tried.All granted denied) a b told later before now exit.Memory tells = tells
-tells_kept count t (tried.All granted denied) a b told later before now status tells = writes_kept _ a b told later before now status tells
+tells_kept count t (tried.All granted denied) a b told later before now status tells = writes_kept (summary count granted denied t) a b told later before now status tells
 tells_kept count t tried.Store a b told later before now status tells = tells
 tells_kept count t tried.Memory a b told later before now status tells = tells
 tells_kept count t (tried.Broken end) a b told later before now status tells = tells

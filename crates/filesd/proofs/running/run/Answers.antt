@@ -1,5 +1,5 @@
-use Rattle.std.proofs.Common.{◌≡◌, ◌∙◌, ap, inr, List, subst, ℕ}
-use Rattle.std.specs.Prelude.{Option, Some, Result, Ok, map}
+use Rattle.std.proofs.Common.{◌≡◌, ◌∙◌, ap, inl, inr, List, subst, ℕ}
+use Rattle.std.specs.Prelude.{Option, None, Some, Result, Ok, map}
 use Rattle.std.specs.String.{string_bytes}
 use Rattle.std.specs.declared.alloc.AllocError.{AllocError}
 use Rattle.nf_base.specs.declared.rows.Row.{Row}
@@ -140,11 +140,11 @@ returns-in-Ok-Some-Serve-clause-store g c = λ _. λ is.
     c.serve_doors.result.keeper _ _ c.serve_doors.result.status c.serve_doors.result.site c.serve_doors.ensures.runs)
 
 pub returns-in-Ok-Some-Serve-clause-store_risen : goal.returns-in-Ok-Some-Serve-clause-store_risen
-returns-in-Ok-Some-Serve-clause-store_risen g c = λ is. rose_risen _ _ ((λ is.
-    subst (λ (s : Status). Says g.K.Keeper g.D.Source.Ends g.D.Sink.Ends (takes g.W.Clock.reads g.V.Dice.draws) g.D.Door c.args.keeper c.serve_doors.result.keeper
+returns-in-Ok-Some-Serve-clause-store_risen g c = λ is. rose_risen _ _
+    (subst (λ (s : Status). Says g.K.Keeper g.D.Source.Ends g.D.Sink.Ends (takes g.W.Clock.reads g.V.Dice.draws) g.D.Door c.args.keeper c.serve_doors.result.keeper
     c.args.workers.now c.serve_doors.new.workers s) is
     (runs_say g.K.Keeper g.D.Source.Ends g.D.Sink.Ends (takes g.W.Clock.reads g.V.Dice.draws) g.D.Door c.in-Ok-Some-Serve.connections c.args.keeper
-    c.serve_doors.result.keeper _ _ c.serve_doors.result.status c.serve_doors.result.site c.serve_doors.ensures.runs)) is)
+    c.serve_doors.result.keeper _ _ c.serve_doors.result.status c.serve_doors.result.site c.serve_doors.ensures.runs))
 
 pub returns-in-Ok-Some-Batch-clause-safe : goal.returns-in-Ok-Some-Batch-clause-safe
 returns-in-Ok-Some-Batch-clause-safe g c =
@@ -319,12 +319,12 @@ returns-in-Ok-Some-Sweep-clause-store g c = λ _. λ is.
     g.C.Clock.reads c.sweep.result.status c.sweep.result.site c.sweep.ensures.sweeps)
 
 pub returns-in-Ok-Some-Sweep-clause-store_risen : goal.returns-in-Ok-Some-Sweep-clause-store_risen
-returns-in-Ok-Some-Sweep-clause-store_risen g c = λ is. rose_risen _ _ ((λ is.
-    subst (λ (s : Status). SweepSays (outlet_with g.O.Ends g.K.Keeper c.args.output.now c.args.keeper c.args.clock.now)
+returns-in-Ok-Some-Sweep-clause-store_risen g c = λ is. rose_risen _ _
+    (subst (λ (s : Status). SweepSays (outlet_with g.O.Ends g.K.Keeper c.args.output.now c.args.keeper c.args.clock.now)
     (outlet_with g.O.Ends g.K.Keeper c.sweep.new.output c.sweep.result.keeper c.sweep.new.clock) s) is
     (sweep_says (outlet_with g.O.Ends g.K.Keeper c.args.output.now c.args.keeper c.args.clock.now)
     (outlet_with g.O.Ends g.K.Keeper c.sweep.new.output c.sweep.result.keeper c.sweep.new.clock)
-    g.C.Clock.reads c.sweep.result.status c.sweep.result.site c.sweep.ensures.sweeps)) is)
+    g.C.Clock.reads c.sweep.result.status c.sweep.result.site c.sweep.ensures.sweeps))
 
 pub returns-in-Ok-Some-Sweep-clause-door : goal.returns-in-Ok-Some-Sweep-clause-door
 returns-in-Ok-Some-Sweep-clause-door g c = λ is.
@@ -575,3 +575,11 @@ returns-in-Ok-Some-Init-clause-store_risen g c =
     init_risen (first_rows init.name init.token init.quota) (outlet g.O.Ends g.K.Keeper c.args.output.now c.args.keeper)
     (outlet g.O.Ends g.K.Keeper c.initialize.new.output c.initialize.result.keeper) c.initialize.result.status c.initialize.result.site
     c.initialize.ensures.inits
+
+pub returns-in-Ok-None-clause-generate : goal.returns-in-Ok-None-clause-generate
+returns-in-Ok-None-clause-generate g c = λ seed count list.
+    let words = map string_bytes c.args.words.now in
+    let none : ReadsCommand words (Ok None) =
+    subst (λ (r : Result (Option Command) AllocError). ReadsCommand words r) (c.in-Ok-None.is ∙ ap (λ (o : Option Command). Ok o) c.in-Ok-None.field-0-is)
+    c.command_of.ensures in
+    absurd (none (inr (inr (inr (inr (seed, count, list))))))
