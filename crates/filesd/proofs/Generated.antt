@@ -166,7 +166,7 @@ module _ (P : Book → Type 0)
 
 -- nothing is damaged behind them where nothing was before
 concludes_whole : (seed count : ℕ) (a b : Book) (how : Tried) → Concludes seed count a b how → IsUndamaged a → IsUndamaged b
-concludes_whole seed count a b how concludes are = concludes_keeps IsUndamaged (λ C reads. (stay_whole {C} reads).1) seed count a b how concludes are
+concludes_whole seed count a b how concludes are = concludes_keeps IsUndamaged (λ C reads. (stay_whole {C = C} reads).1) seed count a b how concludes are
 
 -- and the rows that the run was opened with stay
 concludes_opening : (seed count : ℕ) (a b : Book) (how : Tried) → Concludes seed count a b how → b.opening ≡ a.opening
@@ -245,7 +245,7 @@ broken_well seed count a b end breaks broken are unrose =
     (stays_unrisen a.strikes mid.strikes b.strikes least most unrose) in
     end_well end (ends_well (takes says says) before after end breaks.serves.session
     (record { store = store; read = (same.0, omega arith); write = (same.1, omega arith) })
-    (stays_whole mid (answered_keeps IsUndamaged (λ C reads. (stay_whole {C} reads).1) seed a breaks.number mid breaks.granted breaks.answers are)))
+    (stays_whole mid (answered_keeps IsUndamaged (λ C reads. (stay_whole {C = C} reads).1) seed a breaks.number mid breaks.granted breaks.answers are)))
 
 module _ {C : Type 0} (a b : Outside C) (nothing : NothingFails a b) where
   tried_well : (seed count : ℕ) (t : Tables) (first last : Book) (how : Tried) → Concludes seed count first last how → IsUndamaged first
