@@ -84,11 +84,11 @@ pub fn do_both<R: Threads + Sync, H: Sync, J: Job<R, H> + Send, L: Job<R, H>>(
 {
     let mut first = ||
         requires { J.ready hub.now there.now }
-        ensures { J.ready hub.now there.exit.now }
+        ensures { J.ready hub.entry.now there.exit.now }
     { there.work(rt, hub) };
     let mut second = ||
         requires { L.ready hub.now here.now }
-        ensures { L.ready hub.now here.exit.now }
+        ensures { L.ready hub.entry.now here.exit.now }
     { here.work(rt, hub) };
     join_mut(rt, &mut first, &mut second);
 }
