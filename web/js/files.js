@@ -126,7 +126,7 @@ export function openFiles(main, place, firstPath, asked, arrival) {
     const bytes = mine.reduce((sum, entry) => sum + entry.size, 0);
     const what = [folders && counted(folders, 'folder'), entries.length - folders && counted(entries.length - folders, 'file')].filter(Boolean).join(', ');
     put(foot, what && `${what}. `, what && (path.length || place.kind !== 'own' ? `${size(bytes)} in all. ` : `Your files take up ${size(bytes)}. `),
-      may(MAY.create) && 'A file may have 16 MiB.');
+      may(MAY.create) && 'A file that is sent from here may have 16 MiB.');
   }
 
   async function load(fresh) {

@@ -71,7 +71,7 @@ export async function upload(where, found) {
   const good = [];
   for (const one of found) {
     const fault = one.path.map(faultOf).find(Boolean)
-      ?? (one.folder ? null : !one.file ? 'It can’t be read.' : one.file.size > LARGEST ? `It is ${size(one.file.size - LARGEST)} larger than a file may be, which is 16 MiB.` : null);
+      ?? (one.folder ? null : !one.file ? 'It can’t be read.' : one.file.size > LARGEST ? `It is ${size(one.file.size - LARGEST)} larger than what this page can send, which is 16 MiB.` : null);
     if (fault) bad.push(failed(one, fault));
     else good.push(one);
   }
