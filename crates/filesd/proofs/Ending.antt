@@ -72,7 +72,7 @@ module _ (told : Option Told) (fits : IsEmptyStore told ⊎ IsSafeStore told) wh
   not_bad bad.Found (fresh, is) = fresh
   not_bad bad.Missing (kept, is) = kept
 
-unrisen : (before now : ℕ) → IsUnrisen before now → Rose before now → ⊥
+pub unrisen : (before now : ℕ) → IsUnrisen before now → Rose before now → ⊥
 unrisen before now same rose = omega (arith, same.0, same.1, rose)
 
 unopened_well : {C : Type 0} (a b : Outside C) (status : Status) → IsEmptyStore a.told ⊎ IsSafeStore a.told → IsUnrisen a.faults b.faults
@@ -104,19 +104,21 @@ batch_well {C} reads a b status (Some site) serves room = λ fits nothing.
     subst (λ (s : Status). IsWell s) (sym serves.ended)
     (end_well serves.end ends (subst (λ (s : Status). s ≢ exit.RunFull) serves.ended room))
 
+-- a run over no rows that wasn't opened
+pub unopened_done : {C : Type 0} (a b : Outside C) (status : Status) → IsEmptyStore a.told → WhyUnopened over_none a.told a.faults b.faults status
+    → NothingFails a b → (status ≡ exit.Done) ⊎ (status ≡ exit.Memory)
+unopened_done a b exit.StoreFault empty rose nothing = absurd (unrisen a.faults b.faults nothing.keeper rose)
+unopened_done a b exit.Memory empty is nothing = inr refl
+unopened_done a b (exit.BadRows (bad.Unread index why)) empty (same, (may, is)) nothing = absurd may
+unopened_done a b (exit.BadRows (bad.Broken index rule)) empty (same, (may, is)) nothing = absurd may
+unopened_done a b (exit.BadRows bad.Found) (it, tells, none) (same, (fresh, (raws, loaded, some))) nothing =
+    absurd (some (loaded_is a.told it raws tells loaded ∙ none))
+unopened_done a b (exit.BadRows bad.Missing) empty (same, (kept, is)) nothing = absurd kept
+unopened_done a b other empty never nothing = absurd never
+
 pub init_well : {C : Type 0} (rows : List Row) (a b : Outside C) (status : Status) (site : Option Held) → Inits rows a b status site
     → InitEndsWell a b status
-init_well rows a b status None unopened = λ empty nothing. here empty status unopened.why nothing
-  where
-    here : IsEmptyStore a.told → (s : Status) → WhyUnopened over_none a.told a.faults b.faults s → NothingFails a b
-        → (s ≡ exit.Done) ⊎ (s ≡ exit.Memory)
-    here empty exit.StoreFault rose nothing = absurd (unrisen a.faults b.faults nothing.keeper rose)
-    here empty exit.Memory is nothing = inr refl
-    here empty (exit.BadRows (bad.Unread index why)) (same, (may, is)) nothing = absurd may
-    here empty (exit.BadRows (bad.Broken index rule)) (same, (may, is)) nothing = absurd may
-    here (it, tells, none) (exit.BadRows bad.Found) (same, (fresh, (raws, loaded, some))) nothing = absurd (some (loaded_is a.told it raws tells loaded ∙ none))
-    here empty (exit.BadRows bad.Missing) (same, (kept, is)) nothing = absurd kept
-    here empty other never nothing = absurd never
+init_well rows a b status None unopened = λ empty nothing. unopened_done a b status empty unopened.why nothing
 init_well rows a b status (Some site) begins = λ empty nothing. here status begins.writes nothing
   where
     here : (s : Status) → Writes ready a b s → NothingFails a b → (s ≡ exit.Done) ⊎ (s ≡ exit.Memory)

@@ -2,6 +2,7 @@ pub mod Alone
 pub mod Beginning
 pub mod Closing
 pub mod Ending
+pub mod Generated
 pub mod Leaving
 pub mod OneFile
 pub mod Runs

@@ -63,7 +63,7 @@ leaves_safe k start (Some it) leaves site some shelf tells none =
     (λ piece damaged.
     none piece (subst (λ (z : Blobs). IsDamaged k.opening z piece) (same_Some site.begun shelf (sym site.at_start ∙ tells)) damaged))
 
-undamaged_safe : (k : Kept) (start : Option Blobs) (told : Option Told) → Leaves k told → IfSome told (TellsSite start k)
+pub undamaged_safe : (k : Kept) (start : Option Blobs) (told : Option Told) → Leaves k told → IfSome told (TellsSite start k)
     → IsSome (blobs_in told)
     → AreUndamaged k.opening start → IsSafeStore told
 undamaged_safe k start told leaves site some are = leaves_safe k start told leaves site some are.shelf are.tells are.none

@@ -44,9 +44,17 @@ IsWell other = ⊥
 abbrev pub BatchEndsWell : {C : Type 0} → Outside C → Outside C → Status → Type 0
 BatchEndsWell a b status = IsEmptyStore a.told ⊎ IsSafeStore a.told → NothingFails a b → IsWell status
 
+-- or the run had no room for more entries
+abbrev pub IsWellFilled : Status → Type 0
+IsWellFilled status = IsWell status ⊎ (status ≡ exit.RunFull)
+
 -- a run of `init`, where there are none
 abbrev pub InitEndsWell : {C : Type 0} → Outside C → Outside C → Status → Type 0
 InitEndsWell a b status = IsEmptyStore a.told → NothingFails a b → (status ≡ exit.Done) ⊎ (status ≡ exit.Memory)
+
+-- a run of `generate`, where there are none, too
+abbrev pub GenerateEndsWell : {C : Type 0} → Outside C → Outside C → Status → Type 0
+GenerateEndsWell a b status = IsEmptyStore a.told → NothingFails a b → IsWellFilled status
 
 -- a run of `sweep`, where there are some
 abbrev pub SweepEndsWell : {C : Type 0} → Outside C → Outside C → Status → Type 0

@@ -11,3 +11,4 @@ pub mod OneFile
 pub mod Ending
 pub mod Next
 pub mod Together
+pub mod Generate

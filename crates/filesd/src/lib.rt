@@ -2,6 +2,7 @@
 #![tactic(auto)]
 
 mod doors;
+mod generating;
 pub mod laws;
 mod opening;
 mod running;

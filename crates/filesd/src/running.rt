@@ -4,15 +4,17 @@ ghost use Rattle.std.specs.Prelude.{◌≡◌, ◌≢◌, ◌<◌, ◌≤◌, �
 ghost use Rattle.std.specs.String.{string_bytes};
 ghost use Rattle.nf_base.specs.declared.limits.TheConstants.{MAX_QUOTA};
 ghost use Rattle.nf_base.specs.Naming.{IsName};
-ghost use Rattle.nf_command.specs.Command.{IsBatch, IsCommand, IsInit, IsServe, IsSomeServe, IsSweep};
+ghost use Rattle.nf_command.specs.Command.{IsBatch, IsCommand, IsGenerate, IsInit, IsServe, IsSomeGenerate, IsSomeServe, IsSweep};
 ghost use Rattle.nf_command.specs.First.{first_rows, init_rows};
 ghost use Rattle.nf_command.specs.Reading.{MayTakeMemory};
 ghost use Rattle.nf_desk.specs.Desk.{meanings, shown};
 ghost use Rattle.nf_outside.specs.Causes.{Rose};
 ghost use Rattle.nf_outside.specs.Lent.{lent, takes};
+ghost use Rattle.nf_trial.specs.Trials.{Risen};
 ghost use Rattle.nf_turn.specs.Book.{IsFresh};
 ghost use Rattle.filesd.specs.Doors.{OneRose, RunsDoors};
-ghost use Rattle.filesd.specs.Ending.{BatchEndsWell, InitEndsWell, ServeEndsWell, SweepEndsWell};
+ghost use Rattle.filesd.specs.Ending.{BatchEndsWell, GenerateEndsWell, InitEndsWell, ServeEndsWell, SweepEndsWell};
+ghost use Rattle.filesd.specs.Generate.{Generates};
 ghost use Rattle.filesd.specs.Init.{Inits, IsSomeDigest};
 ghost use Rattle.filesd.specs.Next.{KeepsSafe};
 ghost use Rattle.filesd.specs.OneFile.{ServesOneFile};
@@ -24,6 +26,7 @@ ghost use Rattle.filesd.specs.Sweep.{Sweeps, reads_clock};
 ghost use Rattle.filesd.specs.declared.status.Status.TheVariants as exit;
 
 use crate::doors::serve_doors;
+use crate::generating::{Asked, generate};
 use crate::opening::{demonstration, status_of as status_of_fault};
 use crate::status::{Status, status_of};
 use crate::sweeping::sweep;
@@ -51,7 +54,8 @@ pub struct Finished<K: Drop> {
 
 /// What the program does by its words: `batch` serves the input and the output as one session over the rows that the keeper has, or over
 /// the demonstration rows, which it stores first where the keeper has none. `init` stores the rows of one administrator. `serve` serves
-/// the connections of the workers' doors over the rows that the keeper has. `sweep` makes one sweep: of each trash goes what it doesn't
+/// the connections of the workers' doors over the rows that the keeper has. `generate` stores the demonstration rows where the keeper has
+/// none, and serves the messages of a seed, each in a session of its own. `sweep` makes one sweep: of each trash goes what it doesn't
 /// hold any more, and then the blobs that nothing names.
 ///
 /// The site after the run is handed out with its history, but where none was opened.
@@ -94,6 +98,9 @@ where
     ensures sweep { IsSweep (map string_bytes words.now) → Sweeps (reads_clock C.reads)
         (outside S.Ends O.Ends K.Keeper input.old output.old keeper (lent clock.old dice.old))
         (outside S.Ends O.Ends K.Keeper input.new output.new result.keeper (lent clock.new dice.new)) result.status result.site }
+    ensures generate { (seed count : ℕ) → IsGenerate (map string_bytes words.now) seed count → Generates seed count
+        (outside S.Ends O.Ends K.Keeper input.old output.old keeper (lent clock.old dice.old))
+        (outside S.Ends O.Ends K.Keeper input.new output.new result.keeper (lent clock.new dice.new)) result.status result.site }
     // A `serve` uses neither the input, nor the output, nor the clock, nor the dice; and no other command uses the workers.
     ensures apart { IsSomeServe (map string_bytes words.now)
         → outside S.Ends O.Ends K.Keeper input.new output.new result.keeper (lent clock.new dice.new)
@@ -124,6 +131,9 @@ where
     ensures sweep_well { IsSweep (map string_bytes words.now) → SweepEndsWell
         (outside S.Ends O.Ends K.Keeper input.old output.old keeper (lent clock.old dice.old))
         (outside S.Ends O.Ends K.Keeper input.new output.new result.keeper (lent clock.new dice.new)) result.status }
+    ensures generate_well { IsSomeGenerate (map string_bytes words.now) → GenerateEndsWell
+        (outside S.Ends O.Ends K.Keeper input.old output.old keeper (lent clock.old dice.old))
+        (outside S.Ends O.Ends K.Keeper input.new output.new result.keeper (lent clock.new dice.new)) result.status }
 
     // One GET of a file, said without the session.
     ensures one_file { IsBatch (map string_bytes words.now) → ServesOneFile
@@ -132,7 +142,8 @@ where
 
     ensures read { result.status ≡ exit.ReadFault → Rose (S.read_faults input.old) (S.read_faults input.new) }
     ensures write { result.status ≡ exit.WriteFault → Rose (O.write_faults output.old) (O.write_faults output.new) }
-    ensures store { result.status ≡ exit.StoreFault → Rose (K.faults keeper) (K.faults result.keeper) }
+    ensures store { (IsSomeGenerate (map string_bytes words.now) → ⊥) → result.status ≡ exit.StoreFault → Rose (K.faults keeper) (K.faults result.keeper) }
+    ensures store_risen { result.status ≡ exit.StoreFault → Risen (K.faults keeper) (K.faults result.keeper) }
     ensures door { result.status ≡ exit.DoorFault → OneRose D.Door workers.old workers.new }
 {
     match command_of(alloc, words) {
@@ -146,6 +157,13 @@ where
             connections,
         ),
         Ok(Some(Command::Sweep)) => sweep(alloc, output, keeper, clock),
+        Ok(Some(Command::Generate { seed, count })) => generate(
+            rt,
+            alloc,
+            Asked { seed, count },
+            output,
+            keeper,
+        ),
         Ok(None) => unopened(Status::Words, keeper),
         Err(_) => unopened(Status::Memory, keeper),
     }

@@ -10,6 +10,7 @@ usage: filesd serve [--connections M]   answers over TCP, M connections of each 
        filesd init NAME TOKEN QUOTA     begins a store with one administrator; QUOTA is in bytes
        filesd batch                     answers the requests of standard input on standard output
        filesd sweep                     drops the bodies that nothing names any more
+       filesd generate SEED COUNT       tries COUNT messages that SEED determines (1 to 100000) over the demonstration's rows
 
 What the environment says:
   FILESD_STORE     the file of the store; without it the store is in memory, and ends with the program
@@ -39,7 +40,7 @@ pub fn tell_rows(rt: &HostRuntime, fault: RowsFault) {
             eprintln!(rt; "filesd: row {index} of the store breaks rule {rule}: {why}")
         }
         RowsFault::Found => eprintln!(rt;
-            "filesd: the store has rows, and init begins one that has none"
+            "filesd: the store has rows, and init and generate begin one that has none"
         ),
         RowsFault::Missing => eprintln!(rt; "filesd: the store has no rows: begin it by init"),
     };

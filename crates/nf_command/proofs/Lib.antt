@@ -1,3 +1,4 @@
+mod Listed
 mod Numbered
 mod Numbers
 mod Parses

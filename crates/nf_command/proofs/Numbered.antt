@@ -7,7 +7,7 @@ use Rattle.nf_command.specs.Command.{IsCommand, IsServe, SaysServe}
 use Rattle.nf_command.specs.Parsers.{serve_app}
 use Rattle.nf_command.proofs.Parses.{apart_found, apart_taken, joined_found, joined_taken, no_option_found, no_option_taken}
 use Rattle.nf_command.proofs.Three.{decimal_is_operand, is_no_option}
-use Rattle.nf_command.proofs.Words.{begins, goes_on}
+use Rattle.nf_command.proofs.Words.{begins, generate_begins, goes_on}
 
 -- clap takes the option, and finds that number
 pub record FindsNumber (words : List Text) (number : Option Text) : Type 0 where
@@ -89,4 +89,5 @@ pub only_serve : (words : List Text) → ((n : ℕ) → IsServe (codes "serve" �
 only_serve words none (inl batch) = omega (arith, ap begins batch)
 only_serve words none (inr (inl init)) = omega (arith, ap begins init.3.spelled)
 only_serve words none (inr (inr (inl serve))) = none serve.0 serve.1
-only_serve words none (inr (inr (inr sweep))) = omega (arith, ap goes_on sweep)
+only_serve words none (inr (inr (inr (inl sweep)))) = omega (arith, ap goes_on sweep)
+only_serve words none (inr (inr (inr (inr list)))) = omega (arith, generate_begins _ list.0 list.1 list.2)

@@ -10,7 +10,7 @@ use Rattle.nf_command.specs.Behind.{AreOperands, is_operand}
 use Rattle.nf_command.specs.Command.{IsCommand, IsInit, IsOption}
 use Rattle.nf_command.specs.Parsers.{init_app}
 use Rattle.nf_command.proofs.Parses.{four_fail, is_some_kind, name_taken, none_fails, one_fails, quota_taken, three_taken, token_taken, two_fail}
-use Rattle.nf_command.proofs.Words.{begins, serve_begins}
+use Rattle.nf_command.proofs.Words.{begins, generate_begins, serve_begins}
 
 no_dash : (x : ℕ) (rest : Bool) → (not (x == 45) && rest) ≡ true → x ≢ 45
 no_dash x rest all = λ e. absurd (grind (arith, nat_tests))
@@ -114,4 +114,5 @@ pub only_init : (words : List Text) → IsCommand (codes "init" ∷ words)
 only_init words (inl batch) = absurd (omega (arith, ap begins batch))
 only_init words (inr (inl init)) = init
 only_init words (inr (inr (inl serve))) = absurd (omega (arith, serve_begins _ serve.0 serve.1.spelled))
-only_init words (inr (inr (inr sweep))) = absurd (omega (arith, ap begins sweep))
+only_init words (inr (inr (inr (inl sweep)))) = absurd (omega (arith, ap begins sweep))
+only_init words (inr (inr (inr (inr list)))) = absurd (omega (arith, generate_begins _ list.0 list.1 list.2))

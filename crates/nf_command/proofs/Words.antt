@@ -3,7 +3,7 @@ use Rattle.std.proofs.Common.{◌≡◌, ◌≤◌, ◌<◌, ◌-◌, ◌∙◌,
 use Rattle.std.specs.Prelude.{decimal}
 use Rattle.std.proofs.lemmas.List.{take_all}
 use Rattle.nf_command.specs.declared.options.TheConstants.{DEFAULT_CONNECTIONS}
-use Rattle.nf_command.specs.Command.{SaysServe}
+use Rattle.nf_command.specs.Command.{IsGenerate, SaysServe}
 
 -- ---- a slice, by its length and what its items read
 
@@ -45,7 +45,13 @@ serve_goes_on words n (inl says) = ap goes_on says.0
 serve_goes_on words n (inr (inl says)) = ap goes_on says
 serve_goes_on words n (inr (inr says)) = ap goes_on says
 
--- the digits that they say
+-- ---- the words of a `generate`
+
+pub generate_begins : (words : List (List ℕ)) (seed count : ℕ) → IsGenerate words seed count → begins words ≡ 103
+generate_begins words seed count is = ap begins is.spelled
+
+-- ---- the digits that the words of a `serve` say
+
 abbrev said : List (List ℕ) → List ℕ
 said (word ∷ (joined ∷ [])) = drop 14 joined
 said (word ∷ (option ∷ (digits ∷ others))) = digits

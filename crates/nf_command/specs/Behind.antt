@@ -1,7 +1,8 @@
 -- The words behind the first one.
-use Rattle.std.specs.Prelude.{◌≡◌, ◌⊎◌, ◌==◌, ◌++◌, ◌≤◌, ℕ, Bool, true, false, not, List, [], ◌∷◌, Option, None, Some, codes, decimal}
+use Rattle.std.specs.Prelude.{◌≡◌, ◌⊎◌, ◌==◌, ◌++◌, ◌≤◌, ◌<◌, ◌^◌, ℕ, Bool, true, false, not, List, [], ◌∷◌, Option, None, Some, codes, decimal}
 use Rattle.std.specs.List.{list_all}
 use Rattle.nf_base.specs.declared.limits.TheConstants.{MAX_QUOTA}
+use Rattle.nf_generate.specs.declared.messages.TheConstants.{MAX_COUNT}
 use Rattle.nf_command.specs.Command.{IsSecret}
 use Rattle.nf_command.specs.declared.options.TheConstants.{DEFAULT_CONNECTIONS, MAX_CONNECTIONS}
 
@@ -29,3 +30,11 @@ AreOption words (Some number) =
 abbrev pub SaysNumber : Option (List ℕ) → ℕ → Type 0
 SaysNumber None n = n ≡ DEFAULT_CONNECTIONS
 SaysNumber (Some number) n = (number ≡ decimal n) × (1 ≤ n) × (n ≤ MAX_CONNECTIONS)
+
+-- the words write the seed and the count of a `generate`
+pub record AreNumbers (seed_word count_word : List ℕ) (seed count : ℕ) : Type 0 where
+  pub seed_is : seed_word ≡ decimal seed
+  pub count_is : count_word ≡ decimal count
+  pub fits : seed < 2 ^ 64
+  pub some : 1 ≤ count
+  pub few : count ≤ MAX_COUNT

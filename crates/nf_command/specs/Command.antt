@@ -1,9 +1,10 @@
 -- The words of the command line: what is a command, and what isn't.
-use Rattle.std.specs.Prelude.{◌≡◌, ◌⊎◌, ℕ, ◌≤◌, All, List, [], ◌∷◌, ◌++◌, codes, decimal, length, slice_index}
+use Rattle.std.specs.Prelude.{◌≡◌, ◌⊎◌, ℕ, ◌≤◌, ◌<◌, ◌^◌, All, List, [], ◌∷◌, ◌++◌, codes, decimal, length, slice_index}
 use Rattle.nf_command.specs.declared.command.TheConstants.{MAX_TOKEN}
 use Rattle.nf_command.specs.declared.options.TheConstants.{DEFAULT_CONNECTIONS, MAX_CONNECTIONS}
 use Rattle.nf_base.specs.declared.limits.TheConstants.{MAX_QUOTA}
 use Rattle.nf_base.specs.Naming.{IsName}
+use Rattle.nf_generate.specs.declared.messages.TheConstants.{MAX_COUNT}
 
 abbrev pub IsBatch : List (List ℕ) → Type 0
 IsBatch words = words ≡ codes "batch" ∷ []
@@ -47,5 +48,15 @@ IsSomeServe words = (n : ℕ) × IsServe words n
 abbrev pub IsSweep : List (List ℕ) → Type 0
 IsSweep words = words ≡ codes "sweep" ∷ []
 
+-- the seed, of 64 bits, and how many messages, each as its digits, without a sign or a leading zero
+pub record IsGenerate (words : List (List ℕ)) (seed count : ℕ) : Type 0 where
+  pub spelled : words ≡ codes "generate" ∷ decimal seed ∷ decimal count ∷ []
+  pub fits : seed < 2 ^ 64
+  pub some : 1 ≤ count
+  pub few : count ≤ MAX_COUNT
+
+abbrev pub IsSomeGenerate : List (List ℕ) → Type 0
+IsSomeGenerate words = (seed : ℕ) × (count : ℕ) × IsGenerate words seed count
+
 abbrev pub IsCommand : List (List ℕ) → Type 0
-IsCommand words = IsBatch words ⊎ (IsSomeInit words ⊎ (IsSomeServe words ⊎ IsSweep words))
+IsCommand words = IsBatch words ⊎ (IsSomeInit words ⊎ (IsSomeServe words ⊎ (IsSweep words ⊎ IsSomeGenerate words)))

@@ -3,7 +3,7 @@ use Rattle.std.specs.Prelude.{◌≡◌, ◌⊎◌, ℕ, ◌≤◌, List, [], �
 use Rattle.std.specs.declared.alloc.AllocError.{AllocError}
 use Rattle.sha2.specs.Sha256.{sha256}
 use Rattle.nf_base.specs.declared.limits.TheConstants.{MAX_QUOTA}
-use Rattle.nf_command.specs.Command.{IsBatch, IsCommand, IsInit, IsOption, IsSecret, IsServe, IsSweep}
+use Rattle.nf_command.specs.Command.{IsBatch, IsCommand, IsGenerate, IsInit, IsOption, IsSecret, IsServe, IsSweep}
 use Rattle.nf_command.specs.declared.command.Command.{Command}
 use Rattle.nf_command.specs.declared.command.Command.TheVariants as commands
 use Rattle.nf_command.specs.declared.command.Init.{Init}
@@ -32,6 +32,7 @@ ReadsCommand words (Ok (Some commands.Batch)) = IsBatch words
 ReadsCommand words (Ok (Some (commands.Init init))) = IsInitOf words init
 ReadsCommand words (Ok (Some (commands.Serve connections))) = IsServe words connections
 ReadsCommand words (Ok (Some commands.Sweep)) = IsSweep words
+ReadsCommand words (Ok (Some (commands.Generate seed count))) = IsGenerate words seed count
 ReadsCommand words (Ok None) = IsCommand words → ⊥
 ReadsCommand words (Err error) = MayTakeMemory words
 
@@ -42,6 +43,7 @@ GivesInit (Ok (Some (commands.Init init))) name token quota =
     (init.name ≡ name) × (init.token ≡ sha256 token) × (init.quota ≡ quota)
 GivesInit (Ok (Some (commands.Serve connections))) name token quota = ⊥
 GivesInit (Ok (Some commands.Sweep)) name token quota = ⊥
+GivesInit (Ok (Some (commands.Generate seed count))) name token quota = ⊥
 GivesInit (Ok None) name token quota = ⊥
 GivesInit (Err error) name token quota = Unit {0}
 

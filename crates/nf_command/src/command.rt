@@ -1,6 +1,6 @@
 //! The words of the command line.
 
-ghost use Rattle.std.specs.Prelude.{◌≡◌, ℕ, ◌∷◌, [], ◌↔◌, IsTrue, MatchOption, codes, map, true};
+ghost use Rattle.std.specs.Prelude.{◌≡◌, ℕ, ◌∷◌, [], ◌↔◌, IsTrue, MatchOption, Ok, codes, map, true};
 ghost use Rattle.std.specs.Char.{is_ascii_graphic};
 ghost use Rattle.std.specs.List.{list_all};
 ghost use Rattle.std.specs.String.{string_bytes};
@@ -8,6 +8,7 @@ ghost use Rattle.nf_command.specs.Behind.{IsQuota, is_operand};
 ghost use Rattle.nf_command.specs.Command.{IsOption, IsSecret};
 ghost use Rattle.nf_command.specs.Reading.{IsNearlyInit, ReadsCommand};
 
+use crate::lists::list_of;
 use crate::number::number_of;
 use crate::operands::{Operands, operands_of};
 use crate::options::connections_of;
@@ -28,6 +29,8 @@ pub enum Command {
     Serve { connections: u64 },
     /// To drop the bodies that no row names.
     Sweep,
+    /// To serve so many messages of the list that a seed determines.
+    Generate { seed: u64, count: u64 },
 }
 
 /// The first administrator of a store.
@@ -53,6 +56,7 @@ pub fn command_of(alloc: Global, words: &[String]) -> Result<Option<Command>, Al
     match words {
         [word, others @ ..] if word.as_str() == "init" => init_of(alloc, others),
         [word, others @ ..] if word.as_str() == "serve" => serve_of(alloc, others),
+        [word, others @ ..] if word.as_str() == "generate" => Ok(generate_of(others)),
         _ => Ok(None),
     }
 }
@@ -74,6 +78,16 @@ fn serve_of(alloc: Global, words: &[String]) -> Result<Option<Command>, AllocErr
     match connections_of(alloc, words)? {
         Some(connections) => Ok(Some(Command::Serve { connections })),
         None => Ok(None),
+    }
+}
+
+// The `generate` that the words behind it say.
+fn generate_of(words: &[String]) -> Option<Command>
+    ensures { ReadsCommand (codes "generate" ∷ map string_bytes words.now) (Ok result) }
+{
+    match list_of(words) {
+        Some((seed, count)) => Some(Command::Generate { seed, count }),
+        None => None,
     }
 }
 

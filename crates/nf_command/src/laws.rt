@@ -8,11 +8,11 @@ ghost use Rattle.nf_base.specs.declared.rows.MetaRow.{MetaRow};
 ghost use Rattle.nf_base.specs.declared.rows.Row.{Row};
 ghost use Rattle.nf_base.specs.declared.rows.Row.TheVariants.{Meta};
 ghost use Rattle.nf_rules.specs.Rules.{AreUnbroken};
-ghost use Rattle.nf_command.specs.Command.{IsBatch, IsCommand, IsInit, IsServe, IsSomeInit, IsSomeServe, IsSweep};
+ghost use Rattle.nf_command.specs.Command.{IsBatch, IsCommand, IsGenerate, IsInit, IsServe, IsSomeGenerate, IsSomeInit, IsSomeServe, IsSweep};
 ghost use Rattle.nf_command.specs.First.{init_rows};
 ghost use Rattle.nf_command.specs.Reading.{GivesInit, GivesServe, MayTakeMemory, ReadsCommand};
 ghost use Rattle.nf_command.specs.declared.command.Command.{Command};
-ghost use Rattle.nf_command.specs.declared.command.Command.TheVariants.{Batch, Sweep};
+ghost use Rattle.nf_command.specs.declared.command.Command.TheVariants.{Batch, Generate, Sweep};
 
 /// The words of a `batch` are always read as one.
 pub fn batch_is_read()
@@ -34,9 +34,15 @@ pub fn sweep_is_read()
     ensures { (words : List (List ℕ)) (read : Result (Option Command) AllocError) → IsSweep words → ReadsCommand words read → read ≡ Ok (Some Sweep) }
 {}
 
+/// Those of a `generate` are always read as that one.
+pub fn generate_is_read()
+    ensures { (words : List (List ℕ)) (seed : ℕ) (count : ℕ) (read : Result (Option Command) AllocError) → IsGenerate words seed count → ReadsCommand words read → read ≡ Ok (Some (Generate seed count)) }
+{}
+
 /// No words are two commands.
 pub fn commands_exclude()
-    ensures { (words : List (List ℕ)) → (IsBatch words → IsSomeInit words → ⊥) × (IsBatch words → IsSomeServe words → ⊥) × (IsSomeInit words → IsSomeServe words → ⊥) × (IsSweep words → IsBatch words ⊎ (IsSomeInit words ⊎ IsSomeServe words) → ⊥) }
+    ensures { (words : List (List ℕ)) → (IsBatch words → IsSomeInit words → ⊥) × (IsBatch words → IsSomeServe words → ⊥) × (IsSomeInit words → IsSomeServe words → ⊥) × (IsSweep words → IsBatch words ⊎ (IsSomeInit words ⊎ IsSomeServe words) → ⊥)
+        × (IsSomeGenerate words → IsBatch words ⊎ (IsSomeInit words ⊎ (IsSomeServe words ⊎ IsSweep words)) → ⊥) }
 {}
 
 /// Words that are no command are told so, or they are those of an `init` but for the name or begin as a `serve`, and memory was wanting.

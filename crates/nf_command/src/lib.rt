@@ -4,6 +4,7 @@
 mod command;
 mod first;
 pub mod laws;
+mod lists;
 mod number;
 mod operands;
 mod options;

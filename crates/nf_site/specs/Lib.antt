@@ -7,3 +7,4 @@ pub mod Naming
 pub mod Demo
 pub mod View
 pub mod Built
+pub mod Totals

@@ -10,6 +10,7 @@ ghost use Rattle.nf_site.specs.Kept.{IsHistory, entry, entered, moment_of, stepp
 ghost use Rattle.nf_site.specs.Naming.{NamesBlob};
 ghost use Rattle.nf_site.specs.PlanView.{decision_in};
 ghost use Rattle.nf_site.specs.Plans.{IsPlannedAtEnd, IsReady, plan_at, plan_of};
+ghost use Rattle.nf_site.specs.Totals.{all_grants, all_totals};
 ghost use Rattle.nf_words.specs.Prelude.{access_of, answer_to, changes_to, decision_of, end_decision, IsSound, MayAsk, MayBear};
 ghost use Rattle.nf_words.specs.declared.history.Event.TheVariants.{Begin, End};
 ghost use Rattle.nf_words.specs.declared.history.Mark.TheVariants.{Answered};
@@ -18,8 +19,10 @@ ghost use Rattle.nf_site.specs.declared.site.RoomFault.TheVariants.{Full};
 use crate::Plan;
 use crate::named::{name_chunks, name_nodes, name_tickets, name_versions};
 use crate::plan::{Deed, parted};
+use crate::totals::{Totals, totals_in};
 use nf_base::{BlobId, Changes, MAX_ENTRIES, Moment, RowList};
 use nf_decide::{Call, State, changes, decide_end, swept};
+use nf_grants::Ground;
 use nf_opening::{SiteFault, judge};
 use nf_words::{Allowed, Answer, Denial, Entry, Event, Mark, Outcome};
 use std::alloc::{AllocError, Global};
@@ -288,6 +291,19 @@ impl Site {
         ensures { result ≡ length self.now.kept.state.tables.items }
     {
         self.current.view().items.count()
+    }
+
+    /// What users' files, trash and versions take up, and how many grants they have.
+    pub fn totals(&self, alloc: Global) -> Result<Totals, AllocError>
+        ensures users { IfOk result (λ totals. totals.users.items ≡ all_totals self.now.kept.state.tables) }
+        ensures grants { IfOk result (λ totals. totals.grants ≡ all_grants self.now.kept.state.tables) }
+    {
+        let list = self.current.rows(alloc)?;
+        let rows = list.rows();
+        let view = self.current.view();
+        let versions = view.versions.rows();
+        let ground = Ground::new(view.people, view.tree, view.shares);
+        totals_in(alloc, view.tree, versions, &ground, rows)
     }
 
     /// The numbers of the blobs that a row or a granted GET names. One that is named twice comes twice.

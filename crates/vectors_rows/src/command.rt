@@ -20,6 +20,13 @@ fn kind(alloc: Global, line: &str) -> Result<&'static str, AllocError> {
         Some(Command::Serve { connections: 1_000 }) => "serve 1000",
         Some(Command::Serve { .. }) => "serve",
         Some(Command::Sweep) => "sweep",
+        Some(
+            Command::Generate {
+                seed: 7,
+                count: 300,
+            },
+        ) => "generate 7 300",
+        Some(Command::Generate { .. }) => "generate",
         None => "none",
     })
 }
@@ -78,6 +85,23 @@ none:sweep|sweep
 none:sweep|x
 none:sweep|--
 none:sweep|alice|alice-1|5
+generate 7 300:generate|7|300
+generate:generate|0|1
+generate:generate|18446744073709551615|100000
+none:generate
+none:generate|7
+none:generate|7|300|1
+none:generate|7|0
+none:generate|7|100001
+none:generate|18446744073709551616|1
+none:generate|-1|1
+none:generate|+1|1
+none:generate|07|1
+none:generate|7|01
+none:generate||1
+none:generate|7|
+none:generate|--|7|300
+none:Generate|7|300
 serve 1000:serve
 serve 1000:serve|--connections|1000
 serve 1000:serve|--connections=1000

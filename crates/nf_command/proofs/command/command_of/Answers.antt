@@ -1,4 +1,4 @@
-use Rattle.std.proofs.Common.{◌≡◌, ◌≤◌, ◌-◌, ◌∙◌, ℕ, true, List, ◌∷◌, map, take, drop, length, get_or, codes, sym, refl, subst}
+use Rattle.std.proofs.Common.{◌≡◌, ◌≤◌, ◌-◌, ◌∙◌, ℕ, true, List, ◌∷◌, map, take, drop, length, get_or, codes, Ok, sym, refl, subst}
 use Rattle.std.specs.String.{string_bytes}
 use Rattle.std.specs.Str.{bytes_eq}
 use Rattle.std.proofs.lemmas.Slice.Eq.{bytes_eq-Decides}
@@ -22,3 +22,9 @@ returns-in-len1-up-2 c =
     subst (λ (ws : List (List ℕ)). ReadsCommand ws c.serve_of.result)
     (begun string_bytes _ c.args.words.now _ (codes "serve") c.if-eq-2.ensures c.in-len1-up.len_at_least c.word-item-2.is c.as_str-2.ensures.value)
     c.serve_of.ensures
+
+pub returns-in-len1-up-3 : goal.returns-in-len1-up-3
+returns-in-len1-up-3 c =
+    subst (λ (ws : List (List ℕ)). ReadsCommand ws (Ok c.generate_of.result))
+    (begun string_bytes _ c.args.words.now _ (codes "generate") c.if-eq-3.ensures c.in-len1-up.len_at_least c.word-item-3.is c.as_str-3.ensures.value)
+    c.generate_of.ensures

@@ -1,0 +1,7 @@
+use Rattle.std.proofs.Common.{◌∙◌, append_assoc}
+use Rattle.std.proofs.lemmas.Result.{IfOk-weaker}
+use Rattle.nf_generate.proofs.writing.share_body.Goals as goal
+
+pub returns : goal.returns
+returns c =
+    IfOk-weaker c.format.result _ _ (λ text e. e ∙ simp (append_assoc, c.name-other.ensures, c.behind.ensures)) c.format.ensures.ok
