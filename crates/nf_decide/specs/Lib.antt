@@ -1,10 +1,3 @@
-pub mod Rows
-pub mod Current
-pub mod Asked
 pub mod Deciding
-pub mod Ending
-pub mod Listed
-pub mod Counts
 pub mod Linked
-pub mod Going
-pub mod Gone
+pub mod Listed

@@ -1,16 +1,16 @@
 //! Who asks, and the rules of that.
 
-ghost use Rattle.std.specs.Prelude.{◌≡◌, ℕ, option_copied};
+ghost use Rattle.std.specs.Prelude.{◌≡◌, option_copied};
 ghost use Rattle.std.specs.Option.{option_map_or};
 ghost use Rattle.nf_words.specs.Prelude.{access_of, AreSound, asker_of, asks_by_link, caller_row, is_about_files, is_by_link, link_of, linked_of, not_you_rule, root_of, seeker_of, token_rule, unlinked, user_of};
 ghost use Rattle.nf_words.specs.Callers.{may_ask};
 ghost use Rattle.nf_decide.specs.Deciding.{Follows, asking_of};
 
-use crate::asked::{is_no_other, names_caller};
 use crate::deciding::Call;
 use nf_base::{NodeId, ShareId, ShareRow, UserId, UserRow};
 use nf_defs::Seeker;
 use nf_reach::Asker;
+use nf_view::{is_no_other, names_caller};
 use nf_words::{Caller, Denial, Wanted};
 
 impl<'a> Call<'a> {

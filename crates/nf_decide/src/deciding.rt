@@ -1,32 +1,29 @@
 //! The rules that refuse a request, and what a request that none of them refuses may do.
 
-ghost use Rattle.std.specs.Prelude.{◌≡◌, ◌≤◌, IfOk, IfSome, MatchResult, OnOk, None, Some, false, length, option_and_then, option_copied, option_map};
-ghost use Rattle.std.specs.Option.{option_map_or, option_or};
-ghost use Rattle.nf_base.specs.declared.limits.TheConstants.{MAX_DEPTH};
-ghost use Rattle.nf_defs.specs.Prelude.{found_from, is_folder, user_row};
+ghost use Rattle.std.specs.Prelude.{◌≡◌, ◌≤◌, IfOk, MatchResult, OnOk, None, Some, false, length, option_and_then, option_copied, option_map};
+ghost use Rattle.std.specs.Option.{option_or};
+ghost use Rattle.nf_defs.specs.Prelude.{is_folder};
 ghost use Rattle.nf_words.specs.Prelude.{access_of, acts_rule, allowed_of, AreSound, asked_by, asker_of, call_decision, exceeded, excess_at, exists_rule, forbidden_rule, is_there, limit_at, limited, link_of, overwrite_rule, place_rule, places_of, root_of, seeker_of, served, shared, taken, target_rule, ways_of};
 ghost use Rattle.nf_words.specs.Sharing.{limit_by, offer_limit};
 ghost use Rattle.nf_words.specs.declared.answer.Denial.TheVariants.{Limit as TheLimit, Quota};
 ghost use Rattle.nf_decide.specs.Deciding.{excess_in, Follows, IsNamed, IsThere, asking_of, early_refusal, late_refusal, locked_at, offer_by, offer_in, passed_at, place_refusal};
 
-use crate::acting::{copied, deleted, made_folder, moved, stored};
-use crate::asked::{is_forbidden, is_forbidden_path, is_kept, is_transfer, node_at};
 use crate::callers::asker_of;
-use crate::items::item_row;
-use crate::limits::{
-    back_limit, carry_limit, copy_limit, limit_at, offer_limit, pieces_of, restored_limit,
-};
 use crate::locking::locked;
 use crate::mounting::mount_itself;
-use crate::nodes::is_folder;
-use crate::people::{people_done, people_limit};
-use crate::quotas::{back_excess, carry_excess, copy_excess, excess_at, restore_excess};
-use crate::transferring::{transfer_of, unfit};
-use crate::view::View;
 use nf_base::{Moment, NodeId, ShareRow, UserId};
+use nf_deeds::{
+    back_excess, back_limit, carry_excess, carry_limit, copied, copy_excess, copy_limit, deleted,
+    excess_at, limit_at, made_folder, moved, offer_limit, people_done, people_limit, pieces_of,
+    restore_excess, restored_limit, stored,
+};
 use nf_defs::{Found, Seeker};
 use nf_reach::{Asker, Way, Ways};
 use nf_tree::Tree;
+use nf_view::{
+    View, is_folder, is_forbidden, is_forbidden_path, is_kept, is_transfer, item_row, node_at,
+    transfer_of, unfit,
+};
 use nf_words::{
     Allowed, By, Denial, Excess, Limit, Making, Offer, Places, Request, Route, ShareAsk, Wanted,
     Words,

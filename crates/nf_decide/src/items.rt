@@ -6,17 +6,10 @@ ghost use Rattle.nf_words.specs.Trash.{item_if_of, lacks_item, own_item, untrash
 ghost use Rattle.nf_decide.specs.Deciding.{asking_of};
 
 use crate::deciding::Call;
-use crate::view::View;
 use nf_base::{ItemRow, NodeId, UserId};
 use nf_reach::Asker;
+use nf_view::{View, item_row};
 use nf_words::{Denial, TrashAsk};
-
-/// The item of a node.
-pub(crate) fn item_row<'a>(view: &'a View<'_>, node: NodeId) -> Option<&'a ItemRow>
-    ensures { option_copied result ≡ item_row view.now.tables.items node }
-{
-    view.items().find(node)
-}
 
 /// The user's item of a node.
 pub(crate) fn own_item<'a>(view: &'a View<'_>, user: UserId, node: NodeId) -> Option<&'a ItemRow>

@@ -5,18 +5,16 @@ ghost use Rattle.std.specs.Cmp.Lexicographic.{slice_cmp};
 ghost use Rattle.std.specs.Ordering.{nat_cmp};
 ghost use Rattle.nf_access.specs.Access.{by_chains};
 ghost use Rattle.nf_defs.specs.declared.Seeker.TheVariants.{User};
-ghost use Rattle.nf_words.specs.Prelude.{access_of, AreSound, bytes_of, child_line, child_lines, is_ones_own, line_of, listing_of, mount_line, mount_lines, put_lines, served, shown};
+ghost use Rattle.nf_words.specs.Prelude.{access_of, AreSound, child_line, child_lines, is_ones_own, line_of, listing_of, mount_line, mount_lines, put_lines, served, shown};
 ghost use Rattle.nf_words.specs.Listing.{all_permissions};
 ghost use Rattle.nf_decide.specs.Deciding.{asking_of};
 ghost use Rattle.nf_decide.specs.Listed.{AreByName, is_listed};
 
 use crate::deciding::Call;
-use crate::nodes::{content_of, is_folder};
-use crate::view::View;
 use nf_base::{MountRow, Name, NodeId, NodeRow, Perms, UserId};
 use nf_defs::Seeker;
 use nf_reach::Asker;
-use nf_tree::Tree;
+use nf_view::{View, content_of, is_folder};
 use nf_words::{Allowed, Listing, ListingLine};
 use std::alloc::{AllocError, Global};
 use std::cmp::Ordering;
@@ -277,14 +275,4 @@ pub(crate) fn all_permissions() -> Perms
     ensures { result ≡ all_permissions }
 {
     Perms::read(31).unwrap()
-}
-
-/// The bytes of a node's own content.
-pub(crate) fn bytes_of(tree: &Tree, node: NodeId) -> u64
-    ensures { result ≡ bytes_of tree.now.rows node }
-{
-    match tree.node(node) {
-        Some(row) => row.content.size(),
-        None => 0,
-    }
 }

@@ -9,16 +9,11 @@ ghost use Rattle.nf_words.specs.Sound.{AreSound};
 ghost use Rattle.nf_words.specs.declared.answer.Denial.TheVariants.{Locked};
 ghost use Rattle.nf_decide.specs.Deciding.{slot_back, slot_of};
 
-use crate::asked::node_at;
-use crate::homes::{home_of, name_back};
-use crate::items::item_row;
-use crate::nodes::is_folder;
-use crate::transferring::transfer_of;
-use crate::view::View;
 use nf_base::{ItemRow, NodeId};
 use nf_defs::Found;
 use nf_locks::{Touch, key_in_way};
 use nf_tree::Tree;
+use nf_view::{View, home_of, is_folder, item_row, name_back, node_at, transfer_of};
 use nf_words::{Asked, Denial, LockKey, Making, Mode, Places, Spot, Transfer};
 use std::alloc::{AllocError, Global};
 

@@ -2,14 +2,14 @@
 
 ghost use Rattle.std.specs.Prelude.{◌≡◌, ◌≢◌, [], Some, None, option_and_then, option_map, IfOk, if◌then◌else◌};
 ghost use Rattle.nf_access.specs.Mounts.{mount_row};
-ghost use Rattle.nf_words.specs.Prelude.{last_name, left_row, mount_left, mount_renamed, named_row, own_mount, with_mount_row};
+ghost use Rattle.nf_words.specs.Prelude.{last_name, left_row, mount_left, mount_renamed, named_row, with_mount_row};
 ghost use Rattle.nf_decide.specs.Deciding.{asking_of};
 
-use crate::acting::last_name;
 use crate::deciding::Call;
-use crate::view::View;
 use nf_base::{Change, Changes, MountRow, Name, NodeId, Row, UserId};
+use nf_deeds::last_name;
 use nf_reach::{Asker, Way};
+use nf_view::View;
 use nf_words::{Allowed, Report, Spot};
 use std::alloc::{AllocError, Global};
 

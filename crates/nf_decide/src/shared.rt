@@ -1,13 +1,12 @@
 //! What is done and told of what is asked about shares.
 
-ghost use Rattle.std.specs.Prelude.{◌≡◌, ◌==◌, not, ◌++◌, ◌∷◌, [], None, IfOk, IsSome, OnOk, filter, filter_map, option_copied, if◌then◌else◌};
+ghost use Rattle.std.specs.Prelude.{◌≡◌, ◌==◌, ◌++◌, ◌∷◌, [], None, IfOk, IsSome, OnOk, filter, filter_map, option_copied, if◌then◌else◌};
 ghost use Rattle.std.specs.Option.{option_map_or};
-ghost use Rattle.std.specs.List.Sorted.{IsStrictlyIncreasing};
 ghost use Rattle.nf_base.specs.declared.changes.Change.TheVariants.{Put};
 ghost use Rattle.nf_base.specs.declared.rows.Row.TheVariants as kinds;
-ghost use Rattle.nf_defs.specs.Prelude.{members_of, node_row};
+ghost use Rattle.nf_defs.specs.Prelude.{node_row};
 ghost use Rattle.nf_words.specs.Prelude.{access_of, AreSound, nothing_done, share_ended, share_made, share_set, share_told, shared};
-ghost use Rattle.nf_words.specs.Sharing.{is_listed_for, is_on, mounts_for, perms_after, recipient_of, share_line, share_lines, until_after, users_for};
+ghost use Rattle.nf_words.specs.Sharing.{is_listed_for, is_on, mounts_for, perms_after, recipient_of, share_line, share_lines, until_after};
 ghost use Rattle.nf_words.specs.Changes.{same_end, set_row};
 ghost use Rattle.nf_words.specs.People.{put_mounts};
 ghost use Rattle.nf_words.specs.declared.answer.Allowed.TheVariants as allowed;
@@ -15,22 +14,14 @@ ghost use Rattle.nf_words.specs.declared.answer.Report.TheVariants as report;
 ghost use Rattle.nf_reach.specs.Asking.{user_in};
 ghost use Rattle.nf_decide.specs.Deciding.{IsThere, asking_of, offer_by};
 
-use crate::asked::node_at;
 use crate::deciding::Call;
-use crate::nodes::owner_of;
-use crate::people::push_mounts;
 use crate::sharing::{is_steered_by, perms_after};
-use crate::telling::ended;
 use crate::tokens::kind_to;
-use crate::view::View;
-use nf_base::{
-    Change, Changes, GroupId, Moment, MountRow, NodeId, Perms, Row, ShareKind, ShareRow, UserId,
-};
-use nf_people::People;
+use nf_base::{Change, Changes, Moment, MountRow, NodeId, Perms, Row, ShareKind, ShareRow};
+use nf_deeds::{mounts_for, nothing_done, push_mounts};
 use nf_reach::Asker;
-use nf_words::{
-    Allowed, Offer, Places, Receiver, Recipient, Report, ShareAsk, ShareLine, ShareLines, Until,
-};
+use nf_view::{View, ended, node_at};
+use nf_words::{Allowed, Offer, Places, Recipient, Report, ShareAsk, ShareLine, ShareLines, Until};
 use std::alloc::{AllocError, Global};
 
 impl<'a> Call<'a> {
@@ -128,69 +119,6 @@ fn put(
     })
 }
 
-/// The rows of the mounts of what is shared, where those whom it is for have none yet.
-pub(crate) fn mounts_for(
-    alloc: Global,
-    view: &View<'_>,
-    offer: &Offer,
-) -> Result<Vec<MountRow>, AllocError>
-    requires sound { AreSound view.now.tables }
-    requires there { IsSome (node_row view.now.tables.nodes offer.now.node) }
-    ensures { IfOk result (λ rows. rows.items ≡ mounts_for view.now.tables offer.now) }
-{
-    let (people, tree) = (view.people(), view.tree());
-    let users = users_for(alloc, people, owner_of(tree, offer.node), &offer.to)?;
-    view.mounts()
-        .ensured_for(alloc, people, tree, offer.node, &users)
-}
-
-/// The users who are to have a mount by a share: the one that it names, or the members of the group but for the owner; by a link nobody.
-fn users_for(
-    alloc: Global,
-    people: &People,
-    owner: UserId,
-    to: &Receiver,
-) -> Result<Vec<UserId>, AllocError>
-    ensures users { IfOk result (λ users. users.items ≡ users_for people.now.members owner to.now) }
-    ensures rising { IfOk result (λ users. IsStrictlyIncreasing users.items) }
-{
-    match to {
-        Receiver::User(user) => one(alloc, *user),
-        Receiver::Group(group) => members_but(alloc, people, owner, *group),
-        Receiver::Link => Ok(Vec::new(alloc)),
-    }
-}
-
-/// The members of a group but for a user.
-fn members_but(
-    alloc: Global,
-    people: &People,
-    but: UserId,
-    group: GroupId,
-) -> Result<Vec<UserId>, AllocError>
-    ensures users { IfOk result (λ users. users.items ≡ filter (λ user. not (user == but)) (members_of people.now.members group)) }
-    ensures rising { IfOk result (λ users. IsStrictlyIncreasing users.items) }
-{
-    let mut users = people.members(alloc, group)?;
-    leave_out(&mut users, but);
-    Ok(users)
-}
-
-/// Leaves a user out.
-fn leave_out(users: &mut Vec<UserId>, but: UserId)
-    ensures { users.new.items ≡ filter (λ user. not (user == but)) users.old.items }
-{
-    users.retain(|user| *user != but)
-}
-
-fn one(alloc: Global, user: UserId) -> Result<Vec<UserId>, AllocError>
-    ensures { IfOk result (λ users. users.items ≡ user ∷ []) }
-{
-    let mut users = Vec::new(alloc);
-    users.push(user)?;
-    Ok(users)
-}
-
 /// The changes that put a share and some mounts.
 fn made(alloc: Global, row: ShareRow, mounts: Vec<MountRow>) -> Result<Changes, AllocError>
     ensures { IfOk result (λ changes. changes ≡ Put (kinds.Share row) ∷ put_mounts mounts.items) }
@@ -207,17 +135,6 @@ fn only(alloc: Global, row: ShareRow) -> Result<Changes, AllocError>
     let mut changes = Changes::new(alloc);
     changes.push(Change::Put(Row::Share(row)))?;
     Ok(changes)
-}
-
-/// Nothing is done.
-pub(crate) fn nothing_done(alloc: Global) -> Allowed
-    ensures { result ≡ nothing_done }
-{
-    Allowed::Change {
-        changes: Changes::new(alloc),
-        blob: None,
-        report: Report::Plain,
-    }
 }
 
 /// A share is told, if there is one.

@@ -14,21 +14,17 @@ ghost use Rattle.nf_words.specs.declared.request.Receiver.TheVariants as receive
 ghost use Rattle.nf_decide.specs.Deciding.{Follows, asking_of, offer_by, offer_in};
 ghost use Rattle.nf_decide.specs.Linked.{passing_fault};
 
-use crate::asked::node_found;
 use crate::deciding::Call;
 use crate::listing::all_permissions;
-use crate::nodes::{is_root, kind_of, owner_of};
-use crate::people::{are_named, is_taken};
 use crate::tokens::link_token;
-use crate::view::View;
 use nf_access::{is_part, perms_of_link, perms_of_share};
 use nf_base::{MAX_CHAIN, Moment, NodeId, Perms, ShareId, ShareKind, ShareRow, UserId};
+use nf_deeds::{are_named, is_taken};
 use nf_reach::{Asker, Way, Ways};
 use nf_shares::{Shares, is_before, is_self_share};
 use nf_tree::Tree;
+use nf_view::{View, is_root, kind_of, node_found, owner_of};
 use nf_words::{Breach, Denial, Offer, PeopleAsk, Receiver, ShareAsk, Sharee, Until, Wanted};
-
-// ---- the rules
 
 impl<'a> Call<'a> {
     /// `not-found`: the user, the group, the share, the item of the trash or the file that is named.

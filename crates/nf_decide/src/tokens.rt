@@ -1,6 +1,6 @@
 //! The tokens of links.
 
-ghost use Rattle.std.specs.Prelude.{◌≡◌, ◌<◌, ◌++◌, ℕ, IfOk};
+ghost use Rattle.std.specs.Prelude.{◌≡◌, ◌<◌, IfOk};
 ghost use Rattle.nf_words.specs.Prelude.{kind_to, link_token};
 ghost use Rattle.nf_words.specs.Tokens.{letter_of, letters_of};
 

@@ -10,13 +10,12 @@ ghost use Rattle.nf_decide.specs.Deciding.{asking_of};
 ghost use Rattle.nf_decide.specs.Listed.{line_at};
 
 use crate::deciding::Call;
-use crate::discarding::{emptied, item_dropped, item_restored, trash_of};
-use crate::items::{item_row, own_item};
-use crate::shared::nothing_done;
-use crate::view::View;
+use crate::items::own_item;
 use nf_base::{Changes, ItemRow, Moment, NodeId, UserId};
+use nf_deeds::{emptied, item_dropped, item_restored, nothing_done, trash_of};
 use nf_reach::Asker;
 use nf_retention::{Trashed, newest_first};
+use nf_view::{View, item_row};
 use nf_words::{Allowed, ItemLine, Items, Report, TrashAsk};
 use std::alloc::{AllocError, Global};
 

@@ -9,18 +9,14 @@ ghost use Rattle.nf_words.specs.declared.answer.Deed.TheVariants as deeds;
 ghost use Rattle.nf_words.specs.declared.request.Wanted.TheVariants as wanted;
 ghost use Rattle.nf_decide.specs.Deciding.{Follows};
 
-use crate::acting::last_name;
-use crate::asked::node_found;
-use crate::chunks::chunk_limit;
 use crate::deciding::{Call, excess_there};
-use crate::discarding::done;
-use crate::ending::new_file;
-use crate::limits::{limit_with, passes};
-use crate::refilling::refilled;
-use crate::shared::nothing_done;
 use nf_base::{Change, Changes, Content, Name, Path, Row, UploadRow, UserId};
+use nf_deeds::{
+    abandon, chunk_limit, done, last_name, limit_with, new_file, nothing_done, passes, refilled,
+};
 use nf_defs::Found;
 use nf_uploads::chunk_number;
+use nf_view::node_found;
 use nf_words::{
     Allowed, Deed, Denial, Excess, Limit, Places, Report, Route, Spot, UploadAsk, UploadFault,
     Wanted,
@@ -352,16 +348,6 @@ fn sent(
         }),
         None => Ok(nothing_done(alloc)),
     }
-}
-
-/// That an upload goes.
-pub(crate) fn abandon(user: UserId, dir: &Name) -> Result<Deed, AllocError>
-    ensures { IfOk result (λ deed. deed ≡ deeds.Abandon user dir.now) }
-{
-    Ok(Deed::Abandon {
-        user,
-        dir: dir.copy()?,
-    })
 }
 
 fn joined_report(place: &Found) -> Report

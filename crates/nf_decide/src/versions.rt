@@ -1,6 +1,6 @@
 //! The versions of files: which there are, and what is sent and told of them.
 
-ghost use Rattle.std.specs.Prelude.{◌≡◌, ◌≤◌, ◌&&◌, ◌||◌, [], IfOk, None, Some, if◌then◌else◌, is_some, map, option_copied};
+ghost use Rattle.std.specs.Prelude.{◌≡◌, ◌≤◌, ◌&&◌, ◌||◌, [], IfOk, None, Some, if◌then◌else◌, is_some, map};
 ghost use Rattle.std.specs.Option.{option_map_or};
 ghost use Rattle.nf_base.specs.declared.rows.VersionRow.{VersionRow as TheRow};
 ghost use Rattle.nf_reach.specs.Asking.{refusal_for, user_in};
@@ -13,33 +13,12 @@ ghost use Rattle.nf_words.specs.declared.answer.Report.TheVariants as report;
 ghost use Rattle.nf_decide.specs.Deciding.{Follows, asking_of};
 
 use crate::deciding::Call;
-use crate::nodes::is_folder;
-use crate::refilling::version_back;
-use crate::shared::nothing_done;
-use crate::view::View;
 use nf_base::{Act, Changes, Moment, NodeId, VersionRow};
+use nf_deeds::{nothing_done, version_back};
 use nf_reach::Asker;
-use nf_table::VersionKey;
+use nf_view::{View, is_folder, version_row, versions_of};
 use nf_words::{Allowed, Denial, Report, VersionAsk, VersionLine, Versions, Wanted};
 use std::alloc::{AllocError, Global};
-
-/// The versions of a node, the oldest first.
-pub(crate) fn versions_of<'a>(view: &'a View<'_>, node: NodeId) -> &'a [VersionRow]
-    ensures { result.now ≡ versions_of view.now.tables.versions node }
-{
-    view.versions().front(&node)
-}
-
-/// The one of that moment.
-pub(crate) fn version_row<'a>(
-    view: &'a View<'_>,
-    node: NodeId,
-    at: Moment,
-) -> Option<&'a VersionRow>
-    ensures { option_copied result ≡ version_row view.now.tables.versions node at }
-{
-    view.versions().find(&VersionKey { node, at })
-}
 
 /// The node that is asked about.
 fn node_asked(ask: &VersionAsk) -> NodeId

@@ -16,8 +16,8 @@ use Rattle.nf_charge.specs.Sums.{bytes_under}
 use Rattle.nf_charge.specs.Totals.{bytes_owned}
 use Rattle.nf_defs.specs.Prelude.{IsRising, rows_of, Tables, user_key, user_row}
 use Rattle.nf_defs.proofs.Puts.{below_one}
-use Rattle.nf_decide.proofs.Sizes.{root_charge, sum_is_size}
-use Rattle.nf_decide.proofs.TrashSums.{trashed_is}
+use Rattle.nf_view.proofs.Sizes.{root_charge, sum_is_size}
+use Rattle.nf_view.proofs.TrashSums.{trashed_is}
 use Rattle.nf_rules.specs.Ruled.{AreRuled}
 use Rattle.nf_words.specs.Charges.{charge_of}
 use Rattle.nf_words.specs.Sound.{AreSound}

@@ -30,8 +30,8 @@ use Rattle.nf_laws.proofs.Stays.{sound_after}
 use Rattle.nf_words.proofs.Histories.{legal_more, replay_more}
 use Rattle.nf_words.proofs.Ends.{known_change}
 use Rattle.nf_words.proofs.Steps.{GrantsNothing, decided_tickets, end_nothing, end_tickets}
-use Rattle.nf_decide.proofs.Bears.{known_bears, known_few, sound_given}
-use Rattle.nf_decide.specs.Current.{AreGiven, BearsAct, FitsAct, FitsTicket}
+use Rattle.nf_state.proofs.Bears.{known_bears, known_few, sound_given}
+use Rattle.nf_state.specs.Current.{AreGiven, BearsAct, FitsAct, FitsTicket}
 use Rattle.nf_site.specs.Held.{FitsDecision, Held, HasEntryRoom, added_in}
 use Rattle.nf_site.specs.Kept.{Kept, IsHistory, answered, entered, entry, opened_over}
 use Rattle.nf_site.specs.PlanView.{decision_in, planned_in}

@@ -1,6 +1,6 @@
 -- What is answered beside an act that hands out a long list itself.
 use Rattle.std.specs.Prelude.{◌≡◌, ℕ}
-use Rattle.nf_decide.specs.Current.{BearsAct, FitsAct, Room}
+use Rattle.nf_state.specs.Current.{BearsAct, FitsAct, Room}
 use Rattle.nf_defs.specs.Tables.{Tables}
 use Rattle.nf_words.specs.Changes.{applied, hold_of, reply_to, reported}
 use Rattle.nf_words.specs.State.{State}

@@ -6,9 +6,9 @@ use Rattle.nf_words.specs.declared.answer.Allowed.{Allowed}
 use Rattle.nf_words.specs.declared.answer.Denial.{Denial}
 use Rattle.nf_words.specs.declared.history.Event.{Event}
 use Rattle.nf_words.specs.declared.history.Event.TheVariants.{Begin, End, Sweep}
-use Rattle.nf_decide.specs.Counts.{FitsRows, only_nodes}
-use Rattle.nf_decide.specs.Current.{FitsTicket, Room, added_by}
-use Rattle.nf_decide.specs.declared.counts.RowCounts.{RowCounts}
+use Rattle.nf_state.specs.Counts.{FitsRows, only_nodes}
+use Rattle.nf_state.specs.Current.{FitsTicket, Room, added_by}
+use Rattle.nf_state.specs.declared.counts.RowCounts.{RowCounts}
 use Rattle.nf_site.specs.Kept.{Kept}
 
 -- what is kept, how many entries fit without more memory, and the room of the state

@@ -8,7 +8,8 @@ ghost use Rattle.nf_words.specs.declared.answer.Allowed.TheVariants.{Close};
 
 use crate::copies::copy_share;
 use nf_base::{BlobId, Changes, Moment, NodeId};
-use nf_decide::{RowCounts, View, added_by, blob_of, hold_of};
+use nf_state::{RowCounts, added_by, blob_of, hold_of};
+use nf_view::View;
 use nf_words::{Allowed, Denial, Event, Goal, Hold, Reply, Report};
 use std::alloc::{AllocError, Global};
 use std::marker::Model;

@@ -1,6 +1,6 @@
 use Rattle.std.proofs.Common.{ap, sym, ◌∙◌}
 use Rattle.std.specs.Prelude.{option_copied}
-use Rattle.nf_decide.proofs.Walks.{found_itself}
+use Rattle.nf_deeds.proofs.Walks.{found_itself}
 use Rattle.nf_decide.proofs.items.own_item.Goals as goal
 
 pub returns-then-eq-clause-there : goal.returns-then-eq-clause-there

@@ -1,6 +1,6 @@
 use Rattle.std.proofs.Common.{sym, subst, ◌∙◌}
 use Rattle.nf_words.specs.State.{State}
-use Rattle.nf_decide.specs.Current.{BearsAct}
+use Rattle.nf_state.specs.Current.{BearsAct}
 use Rattle.nf_site.proofs.Steps.{bears_held}
 use Rattle.nf_site.proofs.site.Site.decided.Goals as goal
 

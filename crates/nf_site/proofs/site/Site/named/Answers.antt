@@ -3,7 +3,7 @@ use Rattle.std.specs.List.{flat_map}
 use Rattle.nf_base.specs.declared.rows.ChunkRow.{ChunkRow}
 use Rattle.nf_base.specs.declared.rows.NodeRow.{NodeRow}
 use Rattle.nf_base.specs.declared.rows.VersionRow.{VersionRow}
-use Rattle.nf_decide.specs.Rows.{tables_in}
+use Rattle.nf_view.specs.Rows.{tables_in}
 use Rattle.nf_laws.specs.Named.{blobs_named, blobs_of, goal_blobs}
 use Rattle.nf_words.specs.State.{State}
 use Rattle.nf_words.specs.declared.history.Ticket.{Ticket}

@@ -1,5 +1,5 @@
 use Rattle.std.proofs.Common.{◌∙◌, ap, arith, length}
-use Rattle.nf_decide.specs.declared.counts.RowCounts.{RowCounts}
+use Rattle.nf_state.specs.declared.counts.RowCounts.{RowCounts}
 use Rattle.nf_site.proofs.Steps.{plan_few}
 use Rattle.nf_words.specs.State.{State}
 use Rattle.nf_site.specs.Held.{Held, added_in}

@@ -1,0 +1,5 @@
+pub mod Copies
+pub mod Joining
+pub mod Owners
+pub mod Refills
+pub mod Walks

@@ -1,0 +1,14 @@
+pub mod Bears
+pub mod Closing
+pub mod Deeds
+pub mod Leading
+pub mod Numbers
+pub mod Openings
+pub mod Putting
+pub mod Requoting
+pub mod Runs
+pub mod Stamps
+pub mod Tells
+pub mod ToldFirst
+pub mod ToldGone
+pub mod ToldUploads

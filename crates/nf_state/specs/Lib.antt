@@ -1,0 +1,4 @@
+pub mod Counts
+pub mod Current
+pub mod Gone
+pub mod Rows

@@ -1,0 +1,3 @@
+pub mod Sizes
+pub mod Taken
+pub mod TrashSums
