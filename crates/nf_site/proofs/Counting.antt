@@ -101,12 +101,12 @@ rows_counted t =
     no_end [] = refl
     no_end (x ∷ l) = ap (λ m. x ∷ m) (no_end l)
 
-grants_counted : (ground : Ground) (nodes : List NodeRow) (users : List UserRow)
-    → sum_by (grants_by ground nodes) (map rows.User users) ≡ sum_by (λ user. grants_in ground nodes user.id) users
-grants_counted ground nodes [] = refl
-grants_counted ground nodes (user ∷ users) =
-    sum_by-append (grants_by ground nodes) (rows.User user ∷ []) (map rows.User users)
-    ∙ omega (arith, grants_counted ground nodes users, sum_by-append (λ (u : UserRow). grants_in ground nodes u.id) (user ∷ []) users)
+grants_counted : (base : Ground) (nodes : List NodeRow) (users : List UserRow)
+    → sum_by (grants_by base nodes) (map rows.User users) ≡ sum_by (λ user. grants_in base nodes user.id) users
+grants_counted base nodes [] = refl
+grants_counted base nodes (user ∷ users) =
+    sum_by-append (grants_by base nodes) (rows.User user ∷ []) (map rows.User users)
+    ∙ omega (arith, grants_counted base nodes users, sum_by-append (λ (u : UserRow). grants_in base nodes u.id) (user ∷ []) users)
 
 pub rows_granted : (t : Tables) → sum_by (grants_by (ground_of t) t.nodes) (rows_of t) ≡ all_grants t
 rows_granted t =
@@ -166,15 +166,15 @@ users_told nodes versions list t same_nodes same_versions same_rows sound ruled 
     ∙ (ap (λ n. filter_map (counted_row n versions) (rows_of t)) same_nodes
     ∙ (ap (λ v. filter_map (counted_row t.nodes v) (rows_of t)) same_versions ∙ counted_are t sound ruled))
 
-pub grants_told : (ground : Ground) (nodes : List NodeRow) (list : List Row) (t : Tables) → ground ≡ ground_of t → nodes ≡ t.nodes
-    → list ≡ rows_of t → sum_by (grants_by ground nodes) list ≡ all_grants t
-grants_told ground nodes list t same_ground same_nodes same_rows =
-    ap (sum_by (grants_by ground nodes)) same_rows
-    ∙ (ap (λ n. sum_by (grants_by ground n) (rows_of t)) same_nodes
+pub grants_told : (base : Ground) (nodes : List NodeRow) (list : List Row) (t : Tables) → base ≡ ground_of t → nodes ≡ t.nodes
+    → list ≡ rows_of t → sum_by (grants_by base nodes) list ≡ all_grants t
+grants_told base nodes list t same_ground same_nodes same_rows =
+    ap (sum_by (grants_by base nodes)) same_rows
+    ∙ (ap (λ n. sum_by (grants_by base n) (rows_of t)) same_nodes
     ∙ (ap (λ g. sum_by (grants_by g t.nodes) (rows_of t)) same_ground ∙ rows_granted t))
 
-pub few_told : (ground : Ground) (t : Tables) → ground ≡ ground_of t → AreSound t → length ground.shares ≤ MAX_SHARES
-few_told ground t same sound = subst (λ (g : Ground). length g.shares ≤ MAX_SHARES) (sym same) sound.others.few_shares
+pub few_told : (base : Ground) (t : Tables) → base ≡ ground_of t → AreSound t → length base.shares ≤ MAX_SHARES
+few_told base t same sound = subst (λ (g : Ground). length g.shares ≤ MAX_SHARES) (sym same) sound.others.few_shares
 
 -- ---- one row more
 
@@ -189,19 +189,19 @@ bound_more : (bound at grants more : ℕ) → more ≤ bound → grants ≤ boun
 bound_more bound at grants more few so = grind arith
 
 -- with what one row says
-pub more_row : (nodes : List NodeRow) (versions : List VersionRow) (ground : Ground) (list : List Row) (at : ℕ) (row : Row)
+pub more_row : (nodes : List NodeRow) (versions : List VersionRow) (base : Ground) (list : List Row) (at : ℕ) (row : Row)
     (users later : List UserTotals) (grants after bound : ℕ) → at < length list → row ≡ get_or list at row
-    → later ≡ users ++ option_to_list (counted_row nodes versions row) → after ≡ grants + grants_by ground nodes row
-    → grants_by ground nodes row ≤ bound
-    → (users ≡ filter_map (counted_row nodes versions) (take at list)) × (grants ≡ sum_by (grants_by ground nodes) (take at list)) × (grants ≤ bound * at)
+    → later ≡ users ++ option_to_list (counted_row nodes versions row) → after ≡ grants + grants_by base nodes row
+    → grants_by base nodes row ≤ bound
+    → (users ≡ filter_map (counted_row nodes versions) (take at list)) × (grants ≡ sum_by (grants_by base nodes) (take at list)) × (grants ≤ bound * at)
     → (later ≡ filter_map (counted_row nodes versions) (take (at + 1) list))
-    × (after ≡ sum_by (grants_by ground nodes) (take (at + 1) list)) × (after ≤ bound * (at + 1))
-more_row nodes versions ground list at row users later grants after bound less is later_is after_is few so =
+    × (after ≡ sum_by (grants_by base nodes) (take (at + 1) list)) × (after ≤ bound * (at + 1))
+more_row nodes versions base list at row users later grants after bound less is later_is after_is few so =
     let f = counted_row nodes versions in
-    let h = grants_by ground nodes in
+    let h = grants_by base nodes in
     let next : take (at + 1) list ≡ take at list ++ row ∷ [] = take_more list at row less ∙ ap (λ (r : Row). take at list ++ r ∷ []) (sym is) in (
       later_is ∙ (ap (λ l. l ++ option_to_list (f row)) so.0 ∙ (ap (λ l. filter_map f (take at list) ++ l) (one_kept (f row))
           ∙ (sym (filter_map-append f (take at list) (row ∷ [])) ∙ ap (filter_map f) (sym next)))),
       omega (arith, so.1, after_is, ap (sum_by h) next, sum_by-append h (take at list) (row ∷ []), sum_one h row),
-      omega (arith, after_is, bound_more bound at grants (grants_by ground nodes row) few so.2),
+      omega (arith, after_is, bound_more bound at grants (grants_by base nodes row) few so.2),
     )

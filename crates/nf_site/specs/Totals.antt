@@ -30,7 +30,7 @@ versions_in nodes versions user = sum_by (held_bytes nodes user) versions
 
 -- how many grants a user has on all nodes
 abbrev pub grants_in : Ground → List NodeRow → ℕ → ℕ
-grants_in ground nodes user = sum_by (λ node. length (by_chains ground (User user) node.id)) nodes
+grants_in base nodes user = sum_by (λ node. length (by_chains base (User user) node.id)) nodes
 
 -- what a user's take up
 abbrev pub totals_of : Tables → UserRow → UserTotals
@@ -64,5 +64,5 @@ counted_row nodes versions (rows.User user) = Some (counted nodes versions user)
 counted_row nodes versions other = None
 
 abbrev pub grants_by : Ground → List NodeRow → Row → ℕ
-grants_by ground nodes (rows.User user) = grants_in ground nodes user.id
-grants_by ground nodes other = 0
+grants_by base nodes (rows.User user) = grants_in base nodes user.id
+grants_by base nodes other = 0

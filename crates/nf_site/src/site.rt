@@ -304,8 +304,8 @@ impl Site {
         let rows = list.rows();
         let view = self.current.view();
         let versions = view.versions.rows();
-        let ground = Ground::new(view.people, view.tree, view.shares);
-        totals_in(alloc, view.tree, versions, &ground, rows)
+        let base = Ground::new(view.people, view.tree, view.shares);
+        totals_in(alloc, view.tree, versions, &base, rows)
     }
 
     /// The numbers of the blobs that a row or a granted GET names. One that is named twice comes twice.

@@ -34,19 +34,19 @@ pub(crate) fn totals_in(
     alloc: Global,
     tree: &Tree,
     versions: &[VersionRow],
-    ground: &Ground<'_>,
+    base: &Ground<'_>,
     rows: &[Row],
 ) -> Result<Totals, AllocError>
-    requires { length ground.now.shares ≤ MAX_SHARES }
+    requires { length base.now.shares ≤ MAX_SHARES }
     ensures users { IfOk result (λ totals. totals.users.items ≡ filter_map (counted_row tree.now.rows versions.now) rows.now) }
-    ensures grants { IfOk result (λ totals. totals.grants ≡ sum_by (grants_by ground.now tree.now.rows) rows.now) }
+    ensures grants { IfOk result (λ totals. totals.grants ≡ sum_by (grants_by base.now tree.now.rows) rows.now) }
 {
     let mut totals = Totals {
         users: Vec::new(alloc),
         grants: 0,
     };
     for row in rows {
-        add(alloc, tree, versions, ground, row, &mut totals)?;
+        add(alloc, tree, versions, base, row, &mut totals)?;
     }
     Ok(totals)
 }
@@ -56,20 +56,20 @@ fn add(
     alloc: Global,
     tree: &Tree,
     versions: &[VersionRow],
-    ground: &Ground<'_>,
+    base: &Ground<'_>,
     row: &Row,
     totals: &mut Totals,
 ) -> Result<(), AllocError>
-    requires few { length ground.now.shares ≤ MAX_SHARES }
+    requires few { length base.now.shares ≤ MAX_SHARES }
     requires room { totals.old.grants + MAX_SHARES * MAX_NODES < 2 ^ 128 }
     ensures users { OnOk result (totals.new.users.items ≡ totals.old.users.items ++ option_to_list (counted_row tree.now.rows versions.now row.now)) }
-    ensures grants { OnOk result (totals.new.grants ≡ totals.old.grants + grants_by ground.now tree.now.rows row.now) }
-    ensures few { OnOk result (grants_by ground.now tree.now.rows row.now ≤ MAX_SHARES * MAX_NODES) }
+    ensures grants { OnOk result (totals.new.grants ≡ totals.old.grants + grants_by base.now tree.now.rows row.now) }
+    ensures few { OnOk result (grants_by base.now tree.now.rows row.now ≤ MAX_SHARES * MAX_NODES) }
 {
     match row {
         Row::User(user) => {
             totals.users.push(user_totals(tree, versions, user)?)?;
-            totals.grants += grants_of(alloc, tree, ground, user.id)?;
+            totals.grants += grants_of(alloc, tree, base, user.id)?;
             Ok(())
         }
         _ => Ok(()),
@@ -130,17 +130,17 @@ fn is_held_by(tree: &Tree, user: UserId, row: &VersionRow) -> bool
 fn grants_of(
     alloc: Global,
     tree: &Tree,
-    ground: &Ground<'_>,
+    base: &Ground<'_>,
     user: UserId,
 ) -> Result<u128, AllocError>
-    requires { length ground.now.shares ≤ MAX_SHARES }
-    ensures count { IfOk result (λ count. count ≡ grants_in ground.now tree.now.rows user) }
+    requires { length base.now.shares ≤ MAX_SHARES }
+    ensures count { IfOk result (λ count. count ≡ grants_in base.now tree.now.rows user) }
     ensures few { IfOk result (λ count. count ≤ MAX_SHARES * MAX_NODES) }
 {
     let nodes = tree.nodes();
     let mut count = 0;
     for node in nodes {
-        count += ground.grants(alloc, Seeker::User(user), node.id)?.len() as u128;
+        count += base.grants(alloc, Seeker::User(user), node.id)?.len() as u128;
     }
     Ok(count)
 }

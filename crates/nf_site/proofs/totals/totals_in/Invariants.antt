@@ -7,5 +7,5 @@ use Rattle.nf_site.proofs.totals.totals_in.Given as goal
 abbrev pub invariant-loop-row : goal.invariant-loop-row
 invariant-loop-row l =
     (l.totals.users.items ≡ filter_map (counted_row l.tree.rows l.versions) (take l.row-index l.rows))
-    × (l.totals.grants ≡ sum_by (grants_by l.ground l.tree.rows) (take l.row-index l.rows))
+    × (l.totals.grants ≡ sum_by (grants_by l.base l.tree.rows) (take l.row-index l.rows))
     × (l.totals.grants ≤ MAX_SHARES * MAX_NODES * l.row-index)

@@ -10,7 +10,7 @@ use Rattle.nf_site.proofs.site.Site.totals.Goals as goal
 pub totals_in-requires : goal.totals_in-requires
 totals_in-requires c =
     let is = c.view.view_is ∙ c.view-view.ensures in
-    few_told c.new-ground.result c.self.inside.current.state.tables (c.new-ground.ensures ∙ ap (λ (s : State). ground_of s.tables) is)
+    few_told c.new-base.result c.self.inside.current.state.tables (c.new-base.ensures ∙ ap (λ (s : State). ground_of s.tables) is)
     c.self.invariant.sound.rows
 
 pub returns-clause-users : goal.returns-clause-users
@@ -30,7 +30,7 @@ returns-clause-grants c =
     let is = c.view.view_is ∙ c.view-view.ensures in
     IfOk-weaker c.totals_in.result _ _
     (λ totals e. e ∙ (grants_told _ _ _ c.self.inside.current.state.tables
-    (c.new-ground.ensures ∙ ap (λ (s : State). ground_of s.tables) is)
+    (c.new-base.ensures ∙ ap (λ (s : State). ground_of s.tables) is)
     (ap (λ (s : State). s.tables.nodes) is)
     (c.rows-rows.ensures.rows ∙ c.in_ok-list.ensures)
     ∙ ap (λ (x : Held). all_grants x.kept.state.tables) c.self.view_is))
