@@ -84,6 +84,8 @@ pub enum StepKind {
     End,
     /// The end of what was granted without its body, or unread. Its `answer` is `GONE`.
     Gone,
+    /// A sweep. It has no message; its `answer` says what went.
+    Sweep,
 }
 
 /// What a step is to come to by which something is granted.

@@ -27,7 +27,7 @@ pub(crate) fn events(
 }
 
 fn step_of(event: &Value) -> Result<Step, Unread> {
-    has_only(event, &["seat", "begin", "end", "gone", "answer"])?;
+    has_only(event, &["seat", "begin", "end", "gone", "sweep", "answer"])?;
     let seat = small_number(member(event, "seat")?)?;
     let kind = kind_of(event)?;
     if seat == 0 || seat > MOST_SEATS {
@@ -38,16 +38,22 @@ fn step_of(event: &Value) -> Result<Step, Unread> {
 
 fn kind_of(event: &Value) -> Result<StepKind, Unread> {
     let answered = event.get("answer").is_some();
-    match (event.get("begin"), event.get("end"), event.get("gone")) {
-        (Some(_), None, None) if answered => Ok(StepKind::Ask),
-        (Some(_), None, None) => Ok(StepKind::Begin),
-        (None, Some(_), None) if answered => Ok(StepKind::End),
-        (None, None, Some(gone)) if !answered && gone.as_bool() == Some(true) => Ok(StepKind::Gone),
+    let (begin, end) = (event.get("begin"), event.get("end"));
+    match (begin, end, event.get("gone"), event.get("sweep")) {
+        (Some(_), None, None, None) if answered => Ok(StepKind::Ask),
+        (Some(_), None, None, None) => Ok(StepKind::Begin),
+        (None, Some(_), None, None) if answered => Ok(StepKind::End),
+        (None, None, Some(gone), None) if !answered && is_true(gone) => Ok(StepKind::Gone),
+        (None, None, None, Some(sweep)) if answered && is_true(sweep) => Ok(StepKind::Sweep),
         _ => Err(Unread::Malformed),
     }
 }
 
-// A seat ends what was granted to it before it asks for anything else.
+fn is_true(said: &Value) -> bool {
+    said.as_bool() == Some(true)
+}
+
+// A seat ends what was granted to it before it does anything else.
 fn may_follow(steps: &[Step], step: Step) -> bool {
     let last = steps.iter().rev().find(|one| one.seat == step.seat);
     let granted = match last {
@@ -61,10 +67,10 @@ fn exchange_of(alloc: Global, event: &Value, kind: StepKind) -> Result<Exchange,
     let send = match kind {
         StepKind::Ask | StepKind::Begin => bytes(alloc, member(event, "begin")?)?,
         StepKind::End => bytes(alloc, member(event, "end")?)?,
-        StepKind::Gone => Vec::new(alloc),
+        StepKind::Gone | StepKind::Sweep => Vec::new(alloc),
     };
     let answer = match kind {
-        StepKind::Ask | StepKind::End => bytes(alloc, member(event, "answer")?)?,
+        StepKind::Ask | StepKind::End | StepKind::Sweep => bytes(alloc, member(event, "answer")?)?,
         StepKind::Begin => GRANTED.as_bytes().to_vec(alloc)?,
         StepKind::Gone => GONE.as_bytes().to_vec(alloc)?,
     };

@@ -1,11 +1,12 @@
 //! A case of several seats: each serves its messages in a thread of its own, by the workers of the server, and makes its steps when they
-//! come.
+//! come. One more seat makes the sweeps.
 
 ghost use Rattle.std.specs.Prelude.{◌≡◌, None};
 ghost use Rattle.nf_hub.specs.Seats.{IsSeat, book};
 ghost use Rattle.nf_session.specs.Book.{held};
 
 use crate::connection::{Answered, Message, SeatClock, SeatDice, Sent};
+use crate::jobs::{Cast, act, sweeps_of};
 use crate::keeping::{TestKeeper, left_in};
 use crate::stage::Stage;
 use crate::transcript::output_of;
@@ -16,7 +17,7 @@ use nf_desk::{Opening, Unopened};
 use nf_hub::Hub;
 use nf_keeper::Keeper;
 use nf_outside::{MemSink, MemSource};
-use nf_server::{Link, MemDoor, Worker, serve};
+use nf_server::{Link, MemDoor, Worker};
 use std::alloc::{AllocError, Global};
 use std::sync::Wait;
 use std::thread::Threads;
@@ -48,11 +49,14 @@ pub fn serve_events<R: Threads + Wait + Sync, K: TestKeeper>(
     pieces: &[usize],
 ) -> Result<(Outcome, K), AllocError> {
     let stage = Stage::new(alloc, case)?;
-    let mut workers = workers_of(alloc, case, &stage, pieces)?;
-    let (status, mut keeper) = serve_seats(rt, alloc, keeper, &mut workers)?;
+    let cast = Cast {
+        workers: workers_of(alloc, case, &stage, pieces)?,
+        sweeps: sweeps_of(alloc, &case.steps)?,
+    };
+    let (status, mut keeper, cast) = serve_cast(rt, alloc, keeper, &stage, cast)?;
     let outcome = Outcome {
         written: Written {
-            output: output_of(alloc, case, &stage, &workers)?,
+            output: output_of(alloc, case, &stage, &cast)?,
             left: left_in(alloc, case, &mut keeper)?,
         },
         status,
@@ -61,27 +65,28 @@ pub fn serve_events<R: Threads + Wait + Sync, K: TestKeeper>(
     Ok((outcome, keeper))
 }
 
-// Serves the seats' messages over one hub: the status, and the keeper that is left.
-fn serve_seats<R: Threads + Wait + Sync, K: Keeper + Drop + Send>(
+// Serves the seats' messages over one hub, and sweeps it beside: the status, and the keeper that is left.
+fn serve_cast<'s, R: Threads + Wait + Sync, K: Keeper + Drop + Send>(
     rt: &R,
     alloc: Global,
     keeper: K,
-    workers: &mut [SeatWorker<'_>],
-) -> Result<(u8, K), AllocError> {
+    stage: &'s Stage,
+    cast: Cast<'s>,
+) -> Result<(u8, K, Cast<'s>), AllocError> {
     let first = demonstration(alloc)?;
-    let (hub, seat) = match Hub::start(alloc, keeper, Opening::Either(first), MAX_SEATS) {
+    let (hub, mut seat) = match Hub::start(alloc, keeper, Opening::Either(first), MAX_SEATS) {
         Ok(made) => made,
-        Err(Unopened { fault: _, keeper }) => return Ok((NOT_OPENED, keeper)),
+        Err(Unopened { fault: _, keeper }) => return Ok((NOT_OPENED, keeper, cast)),
     };
-    if workers.len() > seat.left() {
+    let Some(other) = hub.split(&mut seat) else {
         return Err(AllocError);
-    }
-    let (_, seat) = serve(rt, alloc, &hub, seat, workers, u64::MAX);
+    };
+    let (seat, cast) = act(rt, alloc, &hub, (seat, other), stage, cast);
     if !seat.whole() {
         return Err(AllocError);
     }
     let (_, keeper) = hub.close(seat);
-    Ok((DONE, keeper))
+    Ok((DONE, keeper, cast))
 }
 
 // A worker for each number of a seat, up to the greatest one.

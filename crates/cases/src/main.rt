@@ -7,6 +7,7 @@ mod database;
 mod events;
 mod faults;
 mod folder;
+mod jobs;
 mod keeping;
 mod running;
 mod seats;

@@ -2,6 +2,7 @@
 
 use crate::connection::Message;
 use crate::events::SeatWorker;
+use crate::jobs::{Cast, Sweep};
 use crate::stage::Stage;
 use case_files::{GONE, GRANTED, Run, Step};
 use std::alloc::{AllocError, Global};
@@ -14,15 +15,34 @@ pub fn output_of(
     alloc: Global,
     case: &Run,
     stage: &Stage,
-    workers: &[SeatWorker<'_>],
+    cast: &Cast<'_>,
 ) -> Result<Vec<u8>, AllocError> {
     let mut output = Vec::new(alloc);
     for (index, step) in case.steps.iter().enumerate() {
-        if let Some(message) = message_of(stage, workers, index, *step) {
+        if let Some(message) = message_of(stage, &cast.workers, index, *step) {
             append(stage, message, index, &mut output)?;
         }
+        append_sweep(alloc, &cast.sweeps, index, &mut output)?;
     }
     Ok(output)
+}
+
+// What went by the sweep that this step is, if it is one.
+fn append_sweep(
+    alloc: Global,
+    sweeps: &[Sweep],
+    step: usize,
+    output: &mut Vec<u8>,
+) -> Result<(), AllocError> {
+    for sweep in sweeps {
+        if sweep.step == step
+            && let Some(gone) = sweep.swept
+        {
+            let line = format!(in alloc; "items {} uploads {}\n", gone.items, gone.uploads)?;
+            output.extend_from_slice(line.as_bytes())?;
+        }
+    }
+    Ok(())
 }
 
 // The message that begins or ends by this step.
