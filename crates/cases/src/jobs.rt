@@ -2,7 +2,9 @@
 
 ghost use Rattle.std.specs.Prelude.{◌≡◌, None};
 ghost use Rattle.nf_hub.specs.Seats.{IsSeat, book};
+ghost use Rattle.nf_server.specs.Posts.{IsFilled};
 ghost use Rattle.nf_session.specs.Book.{held};
+ghost use denote.Param.Send.{IsSend, IsSync};
 
 use crate::events::SeatWorker;
 use crate::stage::Stage;
@@ -37,30 +39,33 @@ pub fn act<'s, R: Threads + Wait + Sync, K: Keeper + Drop + Send>(
     ensures seat { IsSeat K.Keeper hub.now result.0 }
     ensures idle { held (book K.Keeper hub.now result.0) ≡ None }
 {
-    let Cast { workers, sweeps } = cast;
-    let mut serving = Serving {
-        alloc,
-        seat: Some(seats.0),
-        workers,
-    };
+    let Cast {
+        mut workers,
+        sweeps,
+    } = cast;
+    let mut seat = Some(seats.0);
     let mut sweeping = Sweeping {
         stage,
         seat: Some(seats.1),
         sweeps,
     };
-    do_both(rt, hub, &mut sweeping, &mut serving);
-    let (Some(mut seat), Some(other)) = (serving.seat, sweeping.seat) else {
+    let mut serving = ||
+        requires { IsSync R.row × IsSend K.row × IsFilled K.Keeper hub.now seat }
+        ensures { IsFilled K.Keeper hub.entry.now seat.exit }
+    { serve_all(rt, alloc, hub, &mut seat, &mut workers) };
+    do_beside(rt, hub, &mut sweeping, &mut serving);
+    let (Some(mut seat), Some(other)) = (seat, sweeping.seat) else {
         unreachable!()
     };
     hub.join(&mut seat, other);
     let cast = Cast {
-        workers: serving.workers,
+        workers,
         sweeps: sweeping.sweeps,
     };
     (seat, cast)
 }
 
-/// What one of two threads does over a hub. A thread is given references to type parameters, and none to what has parameters of its own.
+/// What a thread does over a hub. It is given references to type parameters, and none to what has parameters of its own.
 pub trait Job<R, H> {
     /// It has a seat of that hub, which holds nothing.
     ghost ready: { H → Self → Type 0 };
@@ -70,54 +75,45 @@ pub trait Job<R, H> {
         ensures { ready hub.now self.new };
 }
 
-/// Does a job in a thread of its own, and another one here.
-pub fn do_both<R: Threads + Sync, H: Sync, J: Job<R, H> + Send, L: Job<R, H>>(
+/// Does a job in a thread of its own, and something else here.
+pub fn do_beside<R: Threads + Sync, H: Sync, J: Job<R, H> + Send, F: FnMut()>(
     rt: &R,
     hub: &H,
     there: &mut J,
-    here: &mut L,
+    here: &mut F,
 )
     requires there { J.ready hub.now there.old }
-    requires here { L.ready hub.now here.old }
+    requires here { F.pre here.old }
     ensures there { J.ready hub.now there.new }
-    ensures here { L.ready hub.now here.new }
+    ensures here { F.step here.old tt here.new }
 {
     let mut first = ||
         requires { J.ready hub.now there.now }
         ensures { J.ready hub.entry.now there.exit.now }
     { there.work(rt, hub) };
-    let mut second = ||
-        requires { L.ready hub.now here.now }
-        ensures { L.ready hub.entry.now here.exit.now }
-    { here.work(rt, hub) };
-    join_mut(rt, &mut first, &mut second);
+    join_mut(rt, &mut first, here);
 }
 
-/// The seats' messages are served.
-#[derive(Drop)]
-pub struct Serving<'s, K: Keeper + Drop> {
-    pub alloc: Global,
-    pub seat: Option<Seat<K>>,
-    pub workers: Vec<SeatWorker<'s>>,
-}
-
-impl<'s, R: Threads + Wait + Sync, K: Keeper + Drop + Send> Job<R, Hub<K>> for Serving<'s, K> {
-    ghost use Rattle.nf_server.specs.Posts.{IsFilled};
-
-    ghost ready = { λ hub serving. IsFilled K.Keeper hub serving.seat };
-
-    // A hub has more seats than a case; with fewer nothing is served.
-    fn work(&mut self, rt: &R, hub: &Hub<K>) {
-        let Some(seat) = self.seat.take() else {
-            unreachable!()
-        };
-        if self.workers.len() > seat.left() {
-            self.seat = Some(seat);
-            return;
-        }
-        let (_, seat) = serve(rt, self.alloc, hub, seat, &mut self.workers, u64::MAX);
-        self.seat = Some(seat);
+// The seats' messages are served. A hub has more seats than a case; with fewer nothing is served.
+fn serve_all<R: Threads + Wait + Sync, K: Keeper + Drop + Send>(
+    rt: &R,
+    alloc: Global,
+    hub: &Hub<K>,
+    place: &mut Option<Seat<K>>,
+    workers: &mut [SeatWorker<'_>],
+)
+    requires { IsFilled K.Keeper hub.now place.old }
+    ensures { IsFilled K.Keeper hub.now place.new }
+{
+    let Some(seat) = place.take() else {
+        unreachable!()
+    };
+    if workers.len() > seat.left() {
+        *place = Some(seat);
+        return;
     }
+    let (_, seat) = serve(rt, alloc, hub, seat, workers, u64::MAX);
+    *place = Some(seat);
 }
 
 /// A sweep, and what went by it, once it was made.
@@ -150,8 +146,6 @@ pub struct Sweeping<'s, K: Keeper + Drop> {
 }
 
 impl<'s, R: Wait, K: Keeper + Drop> Job<R, Hub<K>> for Sweeping<'s, K> {
-    ghost use Rattle.nf_server.specs.Posts.{IsFilled};
-
     ghost ready = { λ hub sweeping. IsFilled K.Keeper hub sweeping.seat };
 
     fn work(&mut self, rt: &R, hub: &Hub<K>) {
