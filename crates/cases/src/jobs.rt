@@ -39,15 +39,12 @@ pub fn act<'s, R: Threads + Wait + Sync, K: Keeper + Drop + Send>(
     ensures seat { IsSeat K.Keeper hub.now result.0 }
     ensures idle { held (book K.Keeper hub.now result.0) ≡ None }
 {
-    let Cast {
-        mut workers,
-        sweeps,
-    } = cast;
     let mut seat = Some(seats.0);
+    let mut workers = cast.workers;
     let mut sweeping = Sweeping {
         stage,
         seat: Some(seats.1),
-        sweeps,
+        sweeps: cast.sweeps,
     };
     let mut serving = ||
         requires { IsSync R.row × IsSend K.row × IsFilled K.Keeper hub.now seat }
